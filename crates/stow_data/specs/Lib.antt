@@ -1,0 +1,5 @@
+pub mod Ship
+pub mod Profile
+pub mod Tables
+pub mod Shipment
+pub mod Cargoes

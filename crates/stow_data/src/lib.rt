@@ -1,12 +1,26 @@
 //! What every crate speaks of: lists, names, the ship's geometry, plans and the cargo.
 #![tactic(auto)]
 
+mod geometry;
+mod limits;
 mod list;
 mod names;
 mod numbers;
+mod shipments;
+mod stowage;
+mod tables;
+mod vessel;
 mod words;
 
+pub use geometry::{
+    Cover, CoverList, Half, Length, Lengths, Place, Separation, SeparationList, Span, Stack,
+    StackList, Stacks,
+};
+pub use limits::Limit;
 pub use list::{Bytes, FlagList, NoMemory, NumberList, Seq};
 pub use names::{Name, NameList};
 pub use numbers::{CallNo, ContainerNo, CoverNo, HalfNo, KindNo, PlaceNo, StackNo, VarNo};
+pub use shipments::{Cargo, Container, ContainerList, Origin};
+pub use stowage::{Plan, PlanList};
+pub use vessel::Ship;
 pub use words::{Word, WordList};

@@ -1,5 +1,5 @@
 //! Small lists, and what stands for want of memory.
-ghost use Rattle.std.specs.Prelude.{◌≡◌, ◌<◌, [], ◌∷◌, ◌++◌, length, is_ok, IfOk, if◌then◌else◌, slice_index_or, slice_get, slice_set, Some, IsTrue, ◌↔◌};
+ghost use Rattle.std.specs.Prelude.{◌≡◌, ◌<◌, [], ◌∷◌, ◌++◌, length, replicate, is_ok, IfOk, if◌then◌else◌, slice_index_or, slice_get, slice_set, Some, IsTrue, ◌↔◌};
 
 use std::alloc::{AllocError, AllocFailed, Global};
 use std::marker::Model;
@@ -93,6 +93,17 @@ impl<T: Drop> Seq<T> {
 }
 
 impl<T: Copy> Seq<T> {
+    /// So many of one item.
+    pub fn filled(alloc: Global, item: T, count: usize) -> Result<Self, NoMemory>
+        ensures { IfOk result (λ s. s ≡ replicate count item) }
+    {
+        let mut items = Vec::new(alloc);
+        for _number in 0..count {
+            items.push(item)?;
+        }
+        Ok(Seq { items })
+    }
+
     /// A copy of the list.
     pub fn copy(&self, alloc: Global) -> Result<Self, NoMemory>
         ensures { IfOk result (λ s. s ≡ self.now) }

@@ -1,0 +1,8 @@
+use Rattle.std.proofs.Common.{◌≡◌, take}
+use Rattle.std.specs.Prelude.{flat_map}
+use Rattle.std.specs.List.{enumerate_from}
+use Rattle.stow_data.specs.Ship.{stack_halves}
+use Rattle.stow_data.proofs.tables.half_table.Given as goal
+
+abbrev pub invariant-loop-stack : goal.invariant-loop-stack
+invariant-loop-stack l = record { made : l.table ≡ flat_map stack_halves (enumerate_from 0 (take l.stack-index l.stacks)); counted : l.number ≡ l.stack-index }

@@ -1,0 +1,27 @@
+-- What contracts see of a cargo, and the rules that it obeys.
+use Rattle.std.specs.Prelude.{◌≡◌, ◌≢◌, ◌^◌, ◌<◌, ◌≤◌, ℕ, List, Option, length, All, AllPairs}
+use Rattle.stow_data.specs.declared.shipments.Container.{Container}
+
+-- the ports of the calls from 1, the containers, and for each place what stands there at arrival
+pub record Cargo : Type 0 where
+  pub rotation : List (List ℕ)
+  pub containers : List Container
+  pub arrival : List (Option ℕ)
+
+-- it loads at a call, or is aboard at arrival, and leaves at a later call
+pub record IsShipped (calls : ℕ) (c : Container) : Type 0 where
+  pub later : c.load < c.dest
+  pub in_rotation : c.dest ≤ calls
+  pub kg_to : c.kg ≤ 99999
+
+pub record IsCargo (cargo : Cargo) : Type 0 where
+  pub calls_from : 2 ≤ length cargo.rotation
+  pub calls_to : length cargo.rotation ≤ 12
+  pub few_containers : length cargo.containers < 2 ^ 32
+  pub ids_differ : AllPairs (λ c d. c.id ≢ d.id) cargo.containers
+  pub each_shipped : All (IsShipped (length cargo.rotation)) cargo.containers
+
+-- aboard after a call
+pub record IsAboard (call : ℕ) (c : Container) : Type 0 where
+  pub loaded : c.load ≤ call
+  pub stays : call < c.dest

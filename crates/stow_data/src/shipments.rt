@@ -1,0 +1,117 @@
+//! The cargo of a voyage: the rotation, the containers and the arrival.
+ghost use Rattle.std.specs.Prelude.{◌≡◌, ◌<◌, ◌≤◌, ◌-◌, ◌*◌, Some, length, slice_get};
+ghost use Rattle.stow_data.specs.Shipment.{IsCargo};
+
+use crate::geometry::Length;
+use crate::list::Seq;
+use crate::names::{Name, NameList};
+use crate::numbers::{CallNo, ContainerNo};
+use crate::stowage::Plan;
+use std::marker::Model;
+
+/// Where a container comes from: its group among all groups of the arrival's bay plan, or its booking in the list of bookings, both from 0.
+#[derive(Clone, Copy, Debug, PartialEq, Eq, PartialOrd, Ord)]
+pub enum Origin {
+    Arrived(u32),
+    Booked(u32),
+}
+
+/// A container.
+#[derive(Clone, Debug, Drop, PartialEq, Eq)]
+pub struct Container {
+    pub id: Name,
+    /// The call at which it loads; 0 where it is aboard at arrival.
+    pub load: CallNo,
+    /// The call at which it leaves the ship.
+    pub dest: CallNo,
+    pub long: Length,
+    /// Its weight in kilograms, at most 99,999.
+    pub kg: u32,
+    pub reefer: bool,
+    /// Its class of dangerous goods.
+    pub class: Option<Name>,
+    pub origin: Origin,
+}
+
+/// A list of containers.
+pub type ContainerList = Seq<Container>;
+
+/// A cargo: the ports of the calls from 1, the containers, and the plan of the ship at arrival.
+#[derive(Drop)]
+pub struct Cargo {
+    rotation: NameList,
+    containers: ContainerList,
+    arrival: Plan,
+}
+
+impl Model for Cargo {
+    ghost use Rattle.stow_data.specs.Shipment.{Cargo};
+
+    ghost Value = { Cargo };
+
+    ghost use Rattle.stow_data.specs.Cargoes.{cargo_of, HasRules};
+
+    ghost view = { cargo_of };
+
+    ghost invariant = { HasRules };
+}
+
+impl Cargo {
+    /// A cargo of these parts: 2 to 12 calls, fewer than 2^32 containers with ids that differ, each bound for a later call than it loads at.
+    pub fn new(rotation: NameList, containers: ContainerList, arrival: Plan) -> Cargo
+        requires { IsCargo (record { rotation = rotation; containers = containers; arrival = arrival }) }
+        ensures { result ≡ record { rotation = rotation; containers = containers; arrival = arrival } }
+    {
+        Cargo {
+            rotation,
+            containers,
+            arrival,
+        }
+    }
+
+    /// The number of calls, and that the cargo obeys its rules.
+    pub fn calls(&self) -> u32
+        ensures number { result ≡ length self.now.rotation }
+        ensures rules { IsCargo self.now }
+    {
+        self.rotation.len() as u32
+    }
+
+    /// The port of a call, counted from 1.
+    pub fn port(&self, c: CallNo) -> Name
+        requires from { 1 ≤ c }
+        requires to { c ≤ length self.now.rotation }
+        ensures { slice_get self.now.rotation (c - 1) ≡ Some result }
+    {
+        self.rotation.at(c.0 as usize - 1).copy()
+    }
+
+    /// A container.
+    pub fn container(&self, c: ContainerNo) -> &Container
+        requires { c < length self.now.containers }
+        ensures { slice_get self.now.containers c ≡ Some result.now }
+    {
+        self.containers.at(c.0 as usize)
+    }
+
+    /// The number of containers.
+    pub fn len(&self) -> u32
+        ensures { result ≡ length self.now.containers }
+    {
+        self.containers.len() as u32
+    }
+
+    /// The plan of the ship at arrival.
+    pub fn arrival(&self) -> &Plan
+        ensures { result.now ≡ self.now.arrival }
+    {
+        &self.arrival
+    }
+
+    /// The greatest number of rehandles that a voyage needs: each container once at each call but the last.
+    pub fn limit(&self) -> u64
+        ensures { result ≡ length self.now.containers * (length self.now.rotation - 1) }
+    {
+        self.containers.len() as u64 * (self.rotation.len() as u64 - 1)
+    }
+}
