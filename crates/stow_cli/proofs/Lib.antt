@@ -1,0 +1,4 @@
+pub mod Columns
+pub mod Ranges
+pub mod Choosing
+pub mod Loading

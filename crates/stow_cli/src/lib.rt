@@ -1,0 +1,6 @@
+//! The top call of the program.
+#![tactic(auto)]
+
+mod loader;
+
+pub use loader::load;
