@@ -1,0 +1,4 @@
+pub mod Pieces
+pub mod Elements
+pub mod Canonical
+pub mod Written
