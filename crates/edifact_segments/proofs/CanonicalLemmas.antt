@@ -80,3 +80,25 @@ empty_by [] y t e = sym e
 empty_by (b ∷ bs) y t e =
     let none : suc (length bs) ≡ 0 = eqb-true (suc (length bs)) 0 (sym t) in
     absurd (omega arith)
+
+trimmed-in_front : {A : Type 0} (x : List A) (ys : List (List A)) → trimmed ys ≡ ys → trimmed (in_front x ys) ≡ in_front x ys
+trimmed-in_front [] [] h = refl
+trimmed-in_front [] (y ∷ ys) h = ap (in_front []) h
+trimmed-in_front (b ∷ bs) ys h = ap (λ zs. (b ∷ bs) ∷ zs) h
+
+pub trimmed-trimmed : {A : Type 0} (xs : List (List A)) → trimmed (trimmed xs) ≡ trimmed xs
+trimmed-trimmed [] = refl
+trimmed-trimmed (x ∷ xs) = trimmed-in_front x (trimmed xs) (trimmed-trimmed xs)
+
+map-in_front : (x : List (List ℕ)) (ys : List (List (List ℕ))) → trimmed x ≡ x → map trimmed ys ≡ ys → map trimmed (in_front x ys) ≡ in_front x ys
+map-in_front [] [] e h = refl
+map-in_front [] (y ∷ ys) e h = ap (λ zs. [] ∷ zs) h
+map-in_front (b ∷ bs) ys e h = ap (λ z. z ∷ map trimmed ys) e ∙ ap (λ zs. (b ∷ bs) ∷ zs) h
+
+-- the elements of a canonical list are trimmed
+pub map-trimmed-canonical : (es : List (List (List ℕ))) → map trimmed (canonical es) ≡ canonical es
+map-trimmed-canonical [] = refl
+map-trimmed-canonical (e ∷ es) = map-in_front (trimmed e) (canonical es) (trimmed-trimmed e) (map-trimmed-canonical es)
+
+pub canonical-canonical : (es : List (List (List ℕ))) → canonical (canonical es) ≡ canonical es
+canonical-canonical es = ap trimmed (map-trimmed-canonical es) ∙ trimmed-trimmed (map trimmed es)

@@ -2,3 +2,4 @@ pub mod Pieces
 pub mod Elements
 pub mod Canonical
 pub mod Written
+pub mod Characters

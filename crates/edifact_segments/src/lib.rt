@@ -3,6 +3,7 @@
 
 mod elements;
 mod segments;
+mod service;
 mod writing;
 
 pub use elements::ElementList;

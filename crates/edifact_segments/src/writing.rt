@@ -1,6 +1,7 @@
 //! Segments as they are written.
 ghost use Rattle.std.specs.Prelude.{◌≡◌, ◌<◌, ◌+◌, [], ◌++◌, length, is_ok, IfOk, OnOk, if◌then◌else◌, slice_index_or};
 ghost use Rattle.edifact_segments.specs.Canonical.{canonical, trimmed};
+ghost use Rattle.edifact_segments.specs.declared.segments.Segment.{Segment};
 ghost use Rattle.edifact_segments.specs.Written.{released, written, written_element};
 
 use crate::elements::ElementList;
@@ -80,4 +81,11 @@ fn kept_elements(elements: &ElementList) -> usize
         }
     }
     kept
+}
+
+/// The written form of a segment determines its canonical form: the tag, and the elements with their
+/// components, without the empty ones at the ends.
+pub fn written_determines()
+    ensures { (s t : Segment) → length s.tag ≡ 3 → length t.tag ≡ 3 → written s ≡ written t → (s.tag ≡ t.tag) × (canonical s.elements ≡ canonical t.elements) }
+{
 }
