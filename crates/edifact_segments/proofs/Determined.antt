@@ -1,10 +1,10 @@
 -- The written form of a segment determines its canonical form.
-use Rattle.std.proofs.Common.{◌≡◌, ◌≢◌, ℕ, suc, Bool, true, false, ◌==◌, ◌||◌, cond, List, [], ◌∷◌, ◌++◌, map, length, take, drop, refl, sym, ap, ◌∙◌, append_assoc}
+use Rattle.std.proofs.Common.{◌≡◌, ◌≢◌, ℕ, Bool, true, false, ◌==◌, ◌||◌, cond, List, [], ◌∷◌, ◌++◌, map, length, take, drop, refl, sym, ap, ◌∙◌, append_assoc}
 use Rattle.std.specs.List.{flat_map}
 use Rattle.std.proofs.lemmas.List.{append_cancel_right, take_at, drop_at, append-nil}
 use Rattle.std.proofs.lemmas.Bool.{true≢false, eqb-false}
 use Rattle.edifact_segments.proofs.CanonicalLemmas.{map-trimmed-canonical}
-use Rattle.edifact_segments.specs.Canonical.{in_front, trimmed, canonical}
+use Rattle.edifact_segments.specs.Canonical.{trimmed, canonical}
 use Rattle.edifact_segments.specs.Written.{is_service, released_byte, released, written_element, written_elements}
 use Rattle.edifact_segments.specs.Characters.{Character, Plain, Released, spelled, spelling, with_byte, with_component, in_front_of, elements_of, default_service}
 

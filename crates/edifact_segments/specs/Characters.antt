@@ -1,10 +1,8 @@
 -- The characters of a segment (ISO 9735): bytes that stand as they are, some of which separate, and
 -- released ones, which stand for themselves.
-use Rattle.std.specs.Prelude.{◌≡◌, ℕ, Bool, false, ◌&&◌, ◌||◌, ◌==◌, not, nat_lt, List, [], ◌∷◌, ◌++◌, if◌then◌else◌}
+use Rattle.std.specs.Prelude.{◌≡◌, ℕ, Bool, false, ◌&&◌, ◌||◌, ◌==◌, not, nat_lt, List, [], ◌∷◌, if◌then◌else◌}
 use Rattle.std.specs.List.{flat_map}
-use Rattle.edifact_segments.specs.Canonical.{canonical}
 use Rattle.edifact_segments.specs.declared.service.Service.{Service}
-use Rattle.edifact_segments.specs.declared.segments.Segment.{Segment}
 
 pub data Character : Type 0 where
   Plain : ℕ → Character

@@ -87,5 +87,4 @@ fn kept_elements(elements: &ElementList) -> usize
 /// components, without the empty ones at the ends.
 pub fn written_determines()
     ensures { (s t : Segment) → length s.tag ≡ 3 → length t.tag ≡ 3 → written s ≡ written t → (s.tag ≡ t.tag) × (canonical s.elements ≡ canonical t.elements) }
-{
-}
+{}
