@@ -1,2 +1,3 @@
 pub mod Loader
 pub mod Plain
+pub mod DepartureFile

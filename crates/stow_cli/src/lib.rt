@@ -2,5 +2,7 @@
 #![tactic(auto)]
 
 mod loader;
+mod plain_bookings;
 
 pub use loader::load;
+pub use plain_bookings::{Booking, BookingList, Bookings};
