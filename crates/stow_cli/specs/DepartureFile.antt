@@ -1,5 +1,5 @@
 -- The departure file of a call: its segments and its text (ISO 9735, SMDG BAPLIE 2.2).
-use Rattle.std.specs.Prelude.{ℕ, ◌+◌, ◌-◌, ◌*◌, ◌/◌, ◌%◌, codes, List, [], ◌∷◌, ◌++◌, length, map, flat_map, take, drop, Option, Some, None, slice_index_or}
+use Rattle.std.specs.Prelude.{◌≡◌, ◌<◌, slice_get, ℕ, ◌+◌, ◌-◌, ◌*◌, ◌/◌, ◌%◌, codes, List, [], ◌∷◌, ◌++◌, length, map, flat_map, take, drop, Option, Some, None, slice_index_or}
 use Rattle.std.specs.Fmt.{decimal}
 use Rattle.edifact_segments.specs.declared.segments.Segment.{Segment}
 use Rattle.edifact_segments.specs.Written.{written}
@@ -72,31 +72,31 @@ abbrev pub port_element : List ℕ → List (List ℕ)
 port_element port = port ∷ codes "139" ∷ codes "6" ∷ []
 
 -- UNB+UNOA:2+STOW+STOW+YYMMDD:HHMM+call
-abbrev pub unb : List ℕ → ℕ → Segment
+unfoldable pub unb : List ℕ → ℕ → Segment
 unb date call = segment (codes "UNB") ((codes "UNOA" ∷ codes "2" ∷ []) ∷ one (codes "STOW") ∷ one (codes "STOW") ∷ (take 6 date ∷ drop 6 date ∷ []) ∷ one (decimal call) ∷ [])
 
 -- UNH+1+BAPLIE:D:95B:UN:SMDG22
-abbrev pub unh : Segment
+unfoldable pub unh : Segment
 unh = segment (codes "UNH") (one (codes "1") ∷ (codes "BAPLIE" ∷ codes "D" ∷ codes "95B" ∷ codes "UN" ∷ codes "SMDG22" ∷ []) ∷ [])
 
 -- BGM++call+9
-abbrev pub bgm : ℕ → Segment
+unfoldable pub bgm : ℕ → Segment
 bgm call = segment (codes "BGM") ([] ∷ one (decimal call) ∷ one (codes "9") ∷ [])
 
 -- DTM+137:date:201, with the qualifier 137 or 133
-abbrev pub dtm : List ℕ → List ℕ → Segment
+unfoldable pub dtm : List ℕ → List ℕ → Segment
 dtm qualifier date = segment (codes "DTM") ((qualifier ∷ date ∷ codes "201" ∷ []) ∷ [])
 
 -- TDT+20+voyage++++++:::vessel
-abbrev pub tdt : List ℕ → List ℕ → Segment
+unfoldable pub tdt : List ℕ → List ℕ → Segment
 tdt voyage vessel = segment (codes "TDT") (one (codes "20") ∷ one voyage ∷ [] ∷ [] ∷ [] ∷ [] ∷ [] ∷ ([] ∷ [] ∷ [] ∷ vessel ∷ []) ∷ [])
 
 -- LOC+5+port:139:6, with the qualifier 5, 61, 9 or 11
-abbrev pub loc : List ℕ → List ℕ → Segment
+unfoldable pub loc : List ℕ → List ℕ → Segment
 loc qualifier port = segment (codes "LOC") (one qualifier ∷ port_element port ∷ [])
 
 -- the segments before the groups, behind UNB
-abbrev pub head : Cargo → Bookings → ℕ → List Segment
+unfoldable pub head : Cargo → Bookings → ℕ → List Segment
 head cargo bookings call =
     unh ∷ bgm call ∷ dtm (codes "137") bookings.date ∷ tdt bookings.voyage bookings.vessel
     ∷ loc (codes "5") (port_of cargo call) ∷ loc (codes "61") (port_of cargo (call + 1)) ∷ dtm (codes "133") bookings.date ∷ []
@@ -104,37 +104,37 @@ head cargo bookings call =
 abbrev pub digit : ℕ → ℕ
 digit n = 48 + n % 10
 
--- a cell in seven digits: three of the bay, two of the row, two of the tier
-abbrev pub cell_text : CellGroup → List ℕ
-cell_text cell = digit (cell.bay / 100) ∷ digit (cell.bay / 10) ∷ digit cell.bay ∷ digit (cell.row / 10) ∷ digit cell.row ∷ digit (cell.tier / 10) ∷ digit cell.tier ∷ []
+-- a bay, row and tier number in seven digits: three of the bay, two of the row, two of the tier
+abbrev pub cell_text : ℕ × ℕ × ℕ → List ℕ
+cell_text cell = digit (cell.0 / 100) ∷ digit (cell.0 / 10) ∷ digit cell.0 ∷ digit (cell.1 / 10) ∷ digit cell.1 ∷ digit (cell.2 / 10) ∷ digit cell.2 ∷ []
 
 -- LOC+147+cell::5
-abbrev pub cell_segment : CellGroup → Segment
+unfoldable pub cell_segment : ℕ × ℕ × ℕ → Segment
 cell_segment cell = segment (codes "LOC") (one (codes "147") ∷ (cell_text cell ∷ [] ∷ codes "5" ∷ []) ∷ [])
 
 -- MEA+WT++KGM:kg
-abbrev pub mea : ℕ → Segment
+unfoldable pub mea : ℕ → Segment
 mea kg = segment (codes "MEA") (one (codes "WT") ∷ [] ∷ (codes "KGM" ∷ decimal kg ∷ []) ∷ [])
 
 -- RFF+BM:1
-abbrev pub rff : Segment
+unfoldable pub rff : Segment
 rff = segment (codes "RFF") ((codes "BM" ∷ codes "1" ∷ []) ∷ [])
 
 -- EQD+CN+id+type+++5
-abbrev pub eqd : List ℕ → List ℕ → Segment
+unfoldable pub eqd : List ℕ → List ℕ → Segment
 eqd id iso = segment (codes "EQD") (one (codes "CN") ∷ one id ∷ one iso ∷ [] ∷ [] ∷ one (codes "5") ∷ [])
 
 -- the segments of a container in its cell
-abbrev pub group_segments : Group → List Segment
+unfoldable pub group_segments : Group → List Segment
 group_segments g =
-    cell_segment g.cell ∷ mea g.kg ∷ loc (codes "9") g.load_port ∷ loc (codes "11") g.cell.port ∷ rff ∷ eqd g.cell.id g.iso ∷ []
+    cell_segment (g.cell.bay, g.cell.row, g.cell.tier) ∷ mea g.kg ∷ loc (codes "9") g.load_port ∷ loc (codes "11") g.cell.port ∷ rff ∷ eqd g.cell.id g.iso ∷ []
 
 -- UNT+count+1: the segments from UNH to UNT; each group has six
-abbrev pub unt : ℕ → Segment
+unfoldable pub unt : ℕ → Segment
 unt count = segment (codes "UNT") (one (decimal count) ∷ one (codes "1") ∷ [])
 
 -- UNZ+1+call
-abbrev pub unz : ℕ → Segment
+unfoldable pub unz : ℕ → Segment
 unz call = segment (codes "UNZ") (one (codes "1") ∷ one (decimal call) ∷ [])
 
 -- the segments from UNH to the one before UNT
@@ -146,6 +146,17 @@ abbrev pub file_segments : Cargo → Bookings → ℕ → List Group → List Se
 file_segments cargo bookings call gs =
     unb bookings.date call ∷ message cargo bookings call gs ++ unt (length (message cargo bookings call gs) + 1) ∷ unz call ∷ []
 
+-- the written forms of segments, one after the other
+unfoldable pub text_of : Segment → List ℕ
+text_of s = written s
+
+abbrev pub texts : List Segment → List ℕ
+texts segments = flat_map text_of segments
+
 -- the text of the file
 unfoldable pub file_text : Cargo → Bookings → ℕ → List Group → List ℕ
-file_text cargo bookings call gs = flat_map written (file_segments cargo bookings call gs)
+file_text cargo bookings call gs = texts (file_segments cargo bookings call gs)
+
+-- every container of the plan is one of the cargo
+abbrev pub IsKnown : Cargo → Stowage → Type 0
+IsKnown cargo plan = (p c : ℕ) → slice_get plan p ≡ Some (Some c) → c < length cargo.containers

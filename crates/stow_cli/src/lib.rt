@@ -1,6 +1,7 @@
 //! The top call of the program.
 #![tactic(auto)]
 
+mod departure_file;
 mod loader;
 mod plain_bookings;
 
