@@ -2,3 +2,4 @@ pub mod Columns
 pub mod Ranges
 pub mod Choosing
 pub mod Loading
+pub mod Quays
