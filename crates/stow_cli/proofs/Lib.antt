@@ -3,3 +3,4 @@ pub mod Ranges
 pub mod Choosing
 pub mod Loading
 pub mod Quays
+pub mod Sound
