@@ -4,3 +4,5 @@ pub mod Choosing
 pub mod Loading
 pub mod Quays
 pub mod Sound
+pub mod Weights
+pub mod Leaving
