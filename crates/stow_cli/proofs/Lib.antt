@@ -6,3 +6,5 @@ pub mod Quays
 pub mod Sound
 pub mod Weights
 pub mod Leaving
+pub mod Stowed
+pub mod Sailing
