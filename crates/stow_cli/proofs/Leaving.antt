@@ -1,6 +1,6 @@
 -- A discharge that rehandles nothing keeps a plan sound.
-use Rattle.std.proofs.Common.{◌≡◌, ℕ, zero, suc, ◌+◌, ◌-◌, ◌<◌, ◌≤◌, Bool, true, false, not, ◌&&◌, ◌||◌, List, [], ◌∷◌, length, map, Option, Some, None, refl, sym, ◌∙◌, ap, subst, arith, ◌⊎◌, inl, inr, ⊎_elim}
-use Rattle.std.specs.Prelude.{◌==◌, nat_lt, is_some, option_map, slice_get, slice_index_or}
+use Rattle.std.proofs.Common.{◌≡◌, ℕ, zero, suc, ◌-◌, ◌<◌, true, false, [], ◌∷◌, length, Option, Some, None, sym, ◌∙◌, ap, arith, ⊎_elim}
+use Rattle.std.specs.Prelude.{◌==◌, is_some, option_map}
 use Rattle.std.proofs.lemmas.Bool.{and_from, or_right, cases_Bool, both_ways, cond-true, cond-false, false_from_ne_true, not_from_false, eq-eqb, lt-ltb}
 use Rattle.std.proofs.lemmas.List.{length-map}
 use Rattle.std.proofs.lemmas.Option.{none-some, same_Some, slice_get_within, slice_get-map}
@@ -9,7 +9,7 @@ use Rattle.stow_data.specs.Shipment.{Cargo}
 use Rattle.voyage_specs.specs.Plan.{Holds}
 use Rattle.stow_cli.specs.Plain.{IsForty}
 use Rattle.stow_cli.specs.Loader.{Stowage, held, is_below, is_lifted, is_rehandled, has_rehandle, leaves_at, staying, discharged}
-use Rattle.stow_cli.proofs.Columns.{tier_of, lower_place}
+use Rattle.stow_cli.proofs.Columns.{lower_place}
 use Rattle.stow_cli.proofs.Ranges.{some_from}
 use Rattle.stow_cli.proofs.Choosing.{held_is}
 use Rattle.stow_cli.proofs.Sound.{IsSound}

@@ -1,11 +1,10 @@
 -- What is on the quay at a call: what loads there, each container once.
-use Rattle.std.proofs.Common.{◌≡◌, ℕ, zero, suc, ◌+◌, ◌<◌, ◌≤◌, Bool, true, false, cond, ◌&&◌, List, [], ◌∷◌, ◌++◌, length, refl, sym, ◌∙◌, ap, subst, arith, ◌⊎◌, inl, inr, ⊎_elim}
+use Rattle.std.proofs.Common.{◌≡◌, ℕ, zero, suc, ◌+◌, ◌<◌, ◌≤◌, Bool, true, false, ◌&&◌, List, [], ◌∷◌, ◌++◌, length, refl, sym, ◌∙◌, ap, subst, arith, inl, inr, ⊎_elim}
 use Rattle.std.specs.Prelude.{◌==◌, filter, flat_map}
 use Rattle.std.specs.List.{range_with_len}
 use Rattle.std.proofs.lemmas.Bool.{cases_Bool, cond-true, cond-false, and_parts, and_from, eqb-true, eq-eqb, cases_eq}
-use Rattle.stow_data.specs.declared.shipments.Container.{Container}
 use Rattle.stow_data.specs.Shipment.{Cargo}
-use Rattle.stow_data.proofs.Members.{Member, member_left, member_right, member_split, flat_at, flat_from, range_at, range_from}
+use Rattle.stow_data.proofs.Members.{Member, member_split, flat_at, flat_from, range_at, range_from}
 use Rattle.stow_cli.specs.Loader.{container_at, container_numbers, bound_for, last_first, quay}
 
 -- no item stands twice
@@ -46,9 +45,9 @@ distinct_range a (suc n) = (λ m. let r = range_at (a + 1) n a m in absurd (omeg
 distinct_append : (xs ys : List ℕ) → Distinct xs → Distinct ys → ((x : ℕ) → Member x xs → Member x ys → ⊥) → Distinct (xs ++ ys)
 distinct_append [] ys a b apart = b
 distinct_append (x ∷ xs) ys a b apart = (
-      λ m. ⊎_elim (λ (l : Member x xs). a.0 l) (λ (r : Member x ys). apart x (inl refl) r) (member_split x xs ys m),
-      distinct_append xs ys a.1 b (λ z l r. apart z (inr l) r),
-    )
+  λ m. ⊎_elim (λ (l : Member x xs). a.0 l) (λ (r : Member x ys). apart x (inl refl) r) (member_split x xs ys m),
+  distinct_append xs ys a.1 b (λ z l r. apart z (inr l) r),
+)
 
 last_at : (n k : ℕ) → Member k (last_first n) → k ≤ n
 last_at zero k h = absurd h

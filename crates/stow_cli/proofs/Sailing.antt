@@ -1,13 +1,12 @@
 -- The loader's plans are legal departures, and none of its calls rehandles anything.
-use Rattle.std.proofs.Common.{◌≡◌, ℕ, zero, suc, ◌+◌, ◌-◌, ◌<◌, ◌≤◌, Bool, true, false, List, [], ◌∷◌, length, Option, Some, None, refl, sym, ◌∙◌, ap, subst, arith, ◌⊎◌, inl, inr, ⊎_elim}
-use Rattle.std.specs.Prelude.{◌==◌, slice_get, slice_index_or, option_and_then}
+use Rattle.std.proofs.Common.{◌≡◌, ℕ, zero, suc, ◌+◌, ◌-◌, ◌<◌, true, false, List, [], ◌∷◌, length, Some, None, refl, sym, ◌∙◌, ap, subst, arith, ⊎_elim}
+use Rattle.std.specs.Prelude.{slice_get}
 use Rattle.std.proofs.lemmas.Bool.{cases_Bool, cases_eq, both_ways, cond-true, cond-false, and_from, eq-eqb, lt-ltb, eqb-false, ne_eqb}
 use Rattle.std.proofs.lemmas.Option.{none-some, same_Some, slice_get_within}
 use Rattle.stow_data.specs.declared.geometry.Cover.{Cover}
 use Rattle.stow_data.specs.declared.geometry.Place.{Place}
-use Rattle.stow_data.specs.declared.shipments.Container.{Container}
 use Rattle.stow_data.specs.Ship.{Ship, places}
-use Rattle.stow_data.specs.Shipment.{Cargo, IsAboard, IsShipped}
+use Rattle.stow_data.specs.Shipment.{Cargo, IsShipped}
 use Rattle.stow_data.proofs.Members.{Member}
 use Rattle.voyage_specs.specs.Plan.{Holds}
 use Rattle.voyage_specs.specs.Departure.{AreDepartures}

@@ -1,6 +1,6 @@
 -- On a plain ship a sound plan of what is aboard is a legal departure.
-use Rattle.std.proofs.Common.{◌≡◌, ℕ, zero, suc, ◌+◌, ◌-◌, ◌<◌, ◌≤◌, Bool, true, false, List, [], ◌∷◌, length, Option, Some, None, refl, sym, ◌∙◌, ap, subst, arith, ◌⊎◌, inl, inr, ⊎_elim}
-use Rattle.std.specs.Prelude.{slice_get, slice_index_or, All, replicate}
+use Rattle.std.proofs.Common.{◌≡◌, ℕ, zero, suc, ◌+◌, ◌-◌, ◌<◌, Bool, false, List, length, Some, None, sym, ◌∙◌, ap, subst, arith, ⊎_elim}
+use Rattle.std.specs.Prelude.{slice_get, All, replicate}
 use Rattle.std.proofs.lemmas.Bool.{both_ways}
 use Rattle.std.proofs.lemmas.List.{length-replicate}
 use Rattle.std.proofs.lemmas.Option.{none-some, same_Some, slice_get_within, get_or_from_slice_get, slice_get-get_or}
@@ -18,13 +18,13 @@ use Rattle.stow_data.specs.Ship.{Ship, places, spans, TakesSide, HasLength}
 use Rattle.stow_data.specs.Shipment.{Cargo, IsAboard, IsShipped}
 use Rattle.stow_data.proofs.Listed.{place_from}
 use Rattle.stow_data.proofs.Members.{Member}
-use Rattle.voyage_specs.specs.Plan.{Holds, Fills, Stands, IsWellFormed}
-use Rattle.voyage_specs.specs.Departure.{half_of, IsSupported, IsTwentyOnTwenty, IsPlugged, IsStowed, IsSeparated, IsDeparture, HasArrival}
+use Rattle.voyage_specs.specs.Plan.{Holds, IsWellFormed}
+use Rattle.voyage_specs.specs.Departure.{IsSupported, IsStowed, IsDeparture, HasArrival}
 use Rattle.stow_cli.specs.Plain.{IsForty, IsPlainShip, IsPlainContainer, IsPlainCargo}
 use Rattle.stow_cli.specs.Loader.{Stowage, place_at, container_at, no_container}
 use Rattle.stow_cli.proofs.Columns.{is_place, place_is, tier_of, stack_of, same_place, lower_place}
 use Rattle.stow_cli.proofs.Sound.{IsSound}
-use Rattle.stow_cli.proofs.Weights.{IsLight, within_limits}
+use Rattle.stow_cli.proofs.Weights.{within_limits}
 
 -- what holds of all items holds of each
 pub each_is : {X : Type 0} (P : X → Type 0) (xs : List X) (k : ℕ) (x : X) → All P xs → slice_get xs k ≡ Some x → P x
@@ -69,14 +69,16 @@ supported ship cargo plan f s stack tier aft c fills =
     let up : 0 < tier_of ship fills.number = omega arith in
     let under = s.propped fills.number c fills.holds up in
     let low = lower_place ship fills.number 1 f inside (omega arith) in
-    let there = is_place ship (fills.number - 1) low.within in
-    (under.0, record {
-      number = fills.number - 1;
-      place = place_at ship (fills.number - 1);
-      is_place = there;
-      has_half = record { same_stack = b ∙ sym wide ∙ sym low.same_stack; same_tier = omega (arith, low.lower); side = both_sides ship (fills.number - 1) (place_at ship (fills.number - 1)) aft f there };
-      holds = under.1;
-    })
+    let there = is_place ship (fills.number - 1) low.within in (
+      under.0,
+      record {
+        number = fills.number - 1;
+        place = place_at ship (fills.number - 1);
+        is_place = there;
+        has_half = record { same_stack = b ∙ sym wide ∙ sym low.same_stack; same_tier = omega (arith, low.lower); side = both_sides ship (fills.number - 1) (place_at ship (fills.number - 1)) aft f there };
+        holds = under.1;
+      },
+    )
 
 -- exactly what is aboard after a call
 pub record IsCarried (cargo : Cargo) (call : ℕ) (plan : Stowage) : Type 0 where

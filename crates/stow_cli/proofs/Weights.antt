@@ -1,5 +1,5 @@
 -- On a plain ship no stack passes its limit.
-use Rattle.std.proofs.Common.{◌≡◌, ℕ, zero, suc, ◌+◌, ◌-◌, ◌*◌, ◌/◌, ◌<◌, ◌≤◌, Bool, true, false, cond, List, [], ◌∷◌, ◌++◌, length, Option, Some, None, refl, sym, ◌∙◌, ap, subst, arith, ◌⊎◌, inl, inr, ⊎_elim}
+use Rattle.std.proofs.Common.{◌≡◌, ℕ, zero, suc, ◌+◌, ◌*◌, ◌<◌, ◌≤◌, Bool, true, false, cond, List, [], ◌∷◌, Option, Some, None, refl, sym, ◌∙◌, ap, subst, arith}
 use Rattle.std.specs.Prelude.{◌==◌, slice_get, slice_index_or, flat_map, map, zip, sum_by, All}
 use Rattle.std.specs.List.{range_with_len, enumerate_from}
 use Rattle.std.proofs.lemmas.Bool.{ne_eqb, cond-false}
@@ -15,7 +15,7 @@ use Rattle.stow_data.specs.Ship.{Ship, places, spans, stack_places, tier_places}
 use Rattle.stow_data.specs.Shipment.{Cargo}
 use Rattle.voyage_specs.specs.Plan.{Holds}
 use Rattle.voyage_specs.specs.Departure.{rounded, weight_in, IsWithinLimits}
-use Rattle.stow_cli.specs.Plain.{IsForty, IsPlainShip}
+use Rattle.stow_cli.specs.Plain.{IsPlainShip}
 use Rattle.stow_cli.specs.Loader.{Stowage}
 
 -- what each place of a stack may weigh
