@@ -3,3 +3,9 @@ pub mod Ranges
 pub mod Choosing
 pub mod Loading
 pub mod Composing
+pub mod Quays
+pub mod Sound
+pub mod Weights
+pub mod Leaving
+pub mod Stowed
+pub mod Sailing

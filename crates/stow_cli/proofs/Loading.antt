@@ -90,7 +90,7 @@ unfolding loaded
 load_all ship cargo plan cs i l = rw (drop_all i cs l)
 
 -- a place that was chosen is one of the ship's
-or_parts : (a b : Option ℕ) (p : ℕ) (P : ℕ → Type 0) → (a ≡ Some p → P p) → (b ≡ Some p → P p) → Rattle.std.specs.Option.option_or a b ≡ Some p → P p
+pub or_parts : (a b : Option ℕ) (p : ℕ) (P : ℕ → Type 0) → (a ≡ Some p → P p) → (b ≡ Some p → P p) → Rattle.std.specs.Option.option_or a b ≡ Some p → P p
 or_parts None b p P f g h = g h
 or_parts (Some a) b p P f g h = f h
 
@@ -103,7 +103,7 @@ chosen_in ship cargo plan dest p h =
     (λ (e : find open_ (place_numbers ship) ≡ Some p). let r = found_at open_ 0 (length (places ship)) p e in omega (arith, r.to)) h
 
 -- loading and discharging keep the places
-and_then_parts : {X Y : Type 0} (o : Option X) (f : X → Option Y) (y : Y) → option_and_then f o ≡ Some y → (x : X) × (o ≡ Some x) × (f x ≡ Some y)
+pub and_then_parts : {X Y : Type 0} (o : Option X) (f : X → Option Y) (y : Y) → option_and_then f o ≡ Some y → (x : X) × (o ≡ Some x) × (f x ≡ Some y)
 and_then_parts None f y h = absurd cc
 and_then_parts (Some x) f y h = (x, refl, h)
 
