@@ -60,6 +60,10 @@ group_at ship cargo bookings p (Some c) = group_of ship cargo bookings p (contai
 unfoldable pub groups : Ship → Cargo → Bookings → Stowage → List Group
 groups ship cargo bookings plan = flat_map (λ p. group_at ship cargo bookings p (held plan p)) (place_numbers ship)
 
+-- the facts of its cell groups
+abbrev pub cells : Ship → Cargo → Bookings → Stowage → List CellGroup
+cells ship cargo bookings plan = map (λ g. g.cell) (groups ship cargo bookings plan)
+
 abbrev pub segment : List ℕ → List (List (List ℕ)) → Segment
 segment tag elements = record { tag = tag; elements = elements }
 
