@@ -1,6 +1,6 @@
 -- A bay, row and tier number is that of one place alone (ISO 9711).
-use Rattle.std.proofs.Common.{◌≡◌, ℕ, zero, suc, ◌+◌, ◌-◌, ◌*◌, ◌%◌, ◌<◌, ◌≤◌, Bool, true, false, List, [], ◌∷◌, length, get_or, map, Some, refl, sym, ◌∙◌, ap, subst, arith, ◌⊎◌, inl, inr, ⊎_elim}
-use Rattle.std.specs.Prelude.{slice_get, slice_index_or, flat_map, Contains, All}
+use Rattle.std.proofs.Common.{◌≡◌, ℕ, ◌+◌, ◌-◌, ◌*◌, ◌%◌, ◌<◌, ◌≤◌, Bool, true, false, [], ◌∷◌, Some, refl, sym, ◌∙◌, ap, subst, arith, ◌⊎◌, inl, inr, ⊎_elim}
+use Rattle.std.specs.Prelude.{slice_get, slice_index_or, Contains}
 use Rattle.std.specs.List.{range_with_len, enumerate_from}
 use Rattle.std.proofs.lemmas.Bool.{cases_eq, cases_lt}
 use Rattle.std.proofs.lemmas.Option.{same_Some, get_or_from_slice_get, slice_get_within}
@@ -35,9 +35,9 @@ spans_differ ForeOnly = (λ y m. absurd m, tt)
 spans_differ AftOnly = (λ y m. absurd m, tt)
 spans_differ Twenty = (not_the Fore Aft (λ (e : Fore ≡ Aft). cc), (λ y m. absurd m, tt))
 spans_differ Mixed = (
-    λ y m same. ⊎_elim (λ (e : y ≡ Aft). absurd cc) (λ (k : (y ≡ Both) ⊎ ⊥). not_the Fore Both (λ (e : Fore ≡ Both). cc) y k same) m,
-    (not_the Aft Both (λ (e : Aft ≡ Both). cc), (λ y m. absurd m, tt)),
-  )
+  λ y m same. ⊎_elim (λ (e : y ≡ Aft). absurd cc) (λ (k : (y ≡ Both) ⊎ ⊥). not_the Fore Both (λ (e : Fore ≡ Both). cc) y k same) m,
+  (not_the Aft Both (λ (e : Aft ≡ Both). cc), (λ y m. absurd m, tt)),
+)
 
 tier_differs : (n : ℕ) (s : Stack) (t : ℕ) → InPairs Differs (tier_places n s t)
 tier_differs n s t = pairs_map Differs (λ (span : Span). record { stack = n; tier = t; span = span; plug = slice_index_or s.plugs t false }) (spans s.lengths)
@@ -189,7 +189,7 @@ number_once ship p q number rules h k =
     let lowest : x.stack.lowest ≡ y.stack.lowest = ap (λ (z : Stack). z.lowest) same in
     let tier : x.place.tier ≡ y.place.tier = omega (arith, x.tier, y.tier) in
     place_once ship p q x.place y.place x.is_place y.is_place e tier
-      (same_span x.stack.bay x.place.span y.place.span x.rules.bay_from (x.bay ∙ sym y.bay ∙ ap (λ (z : ℕ). bay_of z y.place.span) (sym bay))))
+    (same_span x.stack.bay x.place.span y.place.span x.rules.bay_from (x.bay ∙ sym y.bay ∙ ap (λ (z : ℕ). bay_of z y.place.span) (sym bay))))
     (λ (ne : x.place.stack ≡ y.place.stack → ⊥). ⊎_elim
     (λ (l : x.place.stack < y.place.stack). absurd (all_pairs_at Apart ship.stacks x.place.stack y.place.stack x.stack y.stack rules.apart x.is_stack y.is_stack l (shares ship p q number x y)))
     (λ (l : y.place.stack ≤ x.place.stack). absurd (all_pairs_at Apart ship.stacks y.place.stack x.place.stack y.stack x.stack rules.apart y.is_stack x.is_stack (omega arith) (shares ship q p number y x)))
