@@ -9,3 +9,6 @@ pub mod Weights
 pub mod Leaving
 pub mod Stowed
 pub mod Sailing
+pub mod Pairs
+pub mod Numbers
+pub mod Showing

@@ -1,11 +1,10 @@
 -- The departure file of a call: its segments and its text (ISO 9735, SMDG BAPLIE 2.2).
-use Rattle.std.specs.Prelude.{◌≡◌, ◌<◌, slice_get, ℕ, ◌+◌, ◌-◌, ◌*◌, ◌/◌, ◌%◌, codes, List, [], ◌∷◌, ◌++◌, length, map, flat_map, take, drop, Option, Some, None, slice_index_or}
+use Rattle.std.specs.Prelude.{◌≡◌, ◌<◌, slice_get, ℕ, ◌+◌, ◌-◌, ◌/◌, ◌%◌, codes, List, [], ◌∷◌, ◌++◌, length, map, flat_map, take, drop, Option, Some, None, slice_index_or}
 use Rattle.std.specs.Fmt.{decimal}
 use Rattle.edifact_segments.specs.declared.segments.Segment.{Segment}
 use Rattle.edifact_segments.specs.Written.{written}
 use Rattle.stow_data.specs.declared.geometry.Stack.{Stack}
 use Rattle.stow_data.specs.declared.geometry.Lengths.TheVariants as offers
-use Rattle.stow_data.specs.declared.geometry.Place.{Place}
 use Rattle.stow_data.specs.declared.shipments.Container.{Container}
 use Rattle.stow_data.specs.declared.shipments.Origin.{Origin}
 use Rattle.stow_data.specs.declared.shipments.Origin.TheVariants.{Arrived, Booked}
@@ -45,11 +44,11 @@ pub record Group : Type 0 where
 
 abbrev pub group_of : Ship → Cargo → Bookings → ℕ → Container → Group
 group_of ship cargo bookings p c = record {
-    cell = record { bay = (number_at ship p).0; row = (number_at ship p).1; tier = (number_at ship p).2; id = c.id; port = port_of cargo c.dest };
-    load_port = port_of cargo c.load;
-    iso = (booking_of bookings c.origin).iso;
-    kg = c.kg;
-  }
+  cell = record { bay = (number_at ship p).0; row = (number_at ship p).1; tier = (number_at ship p).2; id = c.id; port = port_of cargo c.dest };
+  load_port = port_of cargo c.load;
+  iso = (booking_of bookings c.origin).iso;
+  kg = c.kg;
+}
 
 -- the group of what stands at a place
 abbrev pub group_at : Ship → Cargo → Bookings → ℕ → Option ℕ → List Group
@@ -59,6 +58,10 @@ group_at ship cargo bookings p (Some c) = group_of ship cargo bookings p (contai
 -- the groups of a plan, in the order of their places
 unfoldable pub groups : Ship → Cargo → Bookings → Stowage → List Group
 groups ship cargo bookings plan = flat_map (λ p. group_at ship cargo bookings p (held plan p)) (place_numbers ship)
+
+-- the facts of its cell groups
+abbrev pub cells : Ship → Cargo → Bookings → Stowage → List CellGroup
+cells ship cargo bookings plan = map (λ g. g.cell) (groups ship cargo bookings plan)
 
 abbrev pub segment : List ℕ → List (List (List ℕ)) → Segment
 segment tag elements = record { tag = tag; elements = elements }

@@ -1,5 +1,5 @@
 -- The loader's rule on a ship of plain 40-foot stacks: where each container goes at each call.
-use Rattle.std.specs.Prelude.{◌≡◌, ℕ, zero, suc, ◌+◌, ◌-◌, Bool, true, false, not, ◌&&◌, ◌||◌, ◌==◌, nat_lt, if◌then◌else◌, List, [], ◌∷◌, length, map, filter, flat_map, Option, Some, None, is_some, is_none, option_and_then, slice_index_or, slice_set}
+use Rattle.std.specs.Prelude.{ℕ, zero, suc, ◌+◌, ◌-◌, Bool, false, not, ◌&&◌, ◌||◌, ◌==◌, nat_lt, if◌then◌else◌, List, [], ◌∷◌, length, map, filter, flat_map, Option, Some, None, is_some, is_none, option_and_then, slice_index_or, slice_set}
 use Rattle.std.specs.List.{list_any, list_all, find, range_with_len}
 use Rattle.std.specs.Option.{option_or}
 use Rattle.stow_data.specs.declared.geometry.Place.{Place}

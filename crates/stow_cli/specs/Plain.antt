@@ -1,5 +1,5 @@
 -- Plain ships and plain cargoes.
-use Rattle.std.specs.Prelude.{◌≡◌, ℕ, ◌*◌, ◌≤◌, false, [], None, All, length, replicate}
+use Rattle.std.specs.Prelude.{◌≡◌, ◌*◌, ◌≤◌, false, [], None, All, length, replicate}
 use Rattle.stow_data.specs.declared.geometry.Lengths.TheVariants.{Forty}
 use Rattle.stow_data.specs.declared.geometry.Length.TheVariants as length_of
 use Rattle.stow_data.specs.declared.shipments.Container.{Container}
