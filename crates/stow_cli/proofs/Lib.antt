@@ -1,0 +1,4 @@
+pub mod Bound
+pub mod Items
+pub mod Stacks
+pub mod Ships
