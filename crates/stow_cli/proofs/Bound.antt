@@ -1,14 +1,15 @@
 -- What a test or a chain of steps that came out well tells of its parts.
 use Rattle.std.proofs.Common.{◌≡◌, ℕ, suc, ◌≤◌, Bool, true, false, ◌||◌, ◌&&◌, List, [], ◌∷◌, get_or, Option, Some, None, ◌⊎◌, inl, inr, subst, refl, sym, ◌∙◌, arith}
-use Rattle.std.specs.Prelude.{All, if◌then◌else◌, nat_le, ℤ, pos, negsuc}
+use Rattle.std.specs.Prelude.{All, AllPairs, not, if◌then◌else◌, nat_le, ℤ, pos, negsuc}
 use Rattle.std.specs.List.{list_all}
 use Rattle.std.proofs.lemmas.List.Elements.{All-cons, All-nil}
+use Rattle.std.proofs.lemmas.List.Kept.{AllPairs-cons}
 use Rattle.std.proofs.lemmas.Option.{none-some, same_Some}
 use Rattle.std.proofs.lemmas.Bool.{false≢true, leb-true}
 use Rattle.toml.specs.Data.{Data, string, integer, Items, no_items, item, Members}
 use Rattle.toml.specs.Parse.{parse_document}
 use Rattle.std.specs.Str.{is_utf8}
-use Rattle.stow_cli.specs.Keys.{◌>>=◌, guard, each_of, text_of, in_range, number_of, document_of}
+use Rattle.stow_cli.specs.Keys.{◌>>=◌, guard, each_of, text_of, in_range, number_of, document_of, no_two}
 
 -- the value that went on
 pub record IsBound {A B : Type 0} (o : Option A) (f : A → Option B) (y : B) : Type 0 where
@@ -73,6 +74,24 @@ all_read {X} read P f (item d ds) xs h =
 pub tested : {X : Type 0} (b : Bool) (x y : X) → (if b then Some x else None) ≡ Some y → (b ≡ true) × (x ≡ y)
 tested true x y h = (refl, same_Some x y h)
 tested false x y h = absurd (none-some y h)
+
+pub not_so : (b : Bool) → not b ≡ true → b ≡ true → ⊥
+not_so true h k = false≢true h
+not_so false h k = false≢true k
+
+-- each two items of a list in which no two are so
+pub pairs_passed : {X : Type 0} (so : X → X → Bool) (R : X → X → Type 0) → ((x y : X) → not (so x y) ≡ true → R x y) → (xs : List X) → no_two so xs ≡ true → AllPairs R xs
+unfolding no_two
+pairs_passed so R f [] h = λ i j d lt within. absurd (omega arith)
+pairs_passed so R f (x ∷ xs) h =
+    let b = both (list_all (λ y. not (so x y)) xs) (no_two so xs) h in
+    AllPairs-cons R x xs (all_map (λ y. not (so x y) ≡ true) (R x) xs (f x) (all_passed (λ y. not (so x y)) xs b.0)) (pairs_passed so R f xs b.1)
+
+pub pairs_first : {X : Type 0} (R : X → X → Type 0) (x : X) (xs : List X) → AllPairs R (x ∷ xs) → All (R x) xs
+pairs_first R x xs h = λ k d lt. h 0 (suc k) d (omega arith) (omega arith)
+
+pub pairs_rest : {X : Type 0} (R : X → X → Type 0) (x : X) (xs : List X) → AllPairs R (x ∷ xs) → AllPairs R xs
+pairs_rest R x xs h = λ i j d lt within. h (suc i) (suc j) d (omega arith) (omega arith)
 
 -- a text that was read passes the test
 pub text_passes : (p : List ℕ → Bool) (o : Option Data) (s : List ℕ) → text_of p o ≡ Some s → p s ≡ true

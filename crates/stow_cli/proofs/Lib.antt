@@ -2,3 +2,4 @@ pub mod Bound
 pub mod Items
 pub mod Stacks
 pub mod Ships
+pub mod Booked

@@ -1,10 +1,9 @@
 -- What is true of a ship that was read from a plain profile.
 use Rattle.std.proofs.Common.{◌≡◌, ℕ, suc, ◌+◌, ◌-◌, ◌*◌, ◌%◌, ◌≤◌, Bool, true, false, ◌||◌, ◌&&◌, List, [], ◌∷◌, length, Some, ◌⊎◌, inl, inr, ⊎_elim, refl, sym, ◌∙◌, subst, length-append, arith}
-use Rattle.std.specs.Prelude.{All, AllPairs, flat_map, map, nat_le, nat_lt, nat_eq, not, slice_index, slice_index_or, codes}
+use Rattle.std.specs.Prelude.{All, AllPairs, flat_map, map, nat_le, nat_lt, nat_eq, slice_index, slice_index_or, codes}
 use Rattle.std.specs.List.{list_all, range_with_len, enumerate_from}
 use Rattle.std.proofs.lemmas.Bool.{false≢true, eqb-true, leb-true, le-leb, eq-eqb}
 use Rattle.std.proofs.lemmas.List.Elements.{All-nil}
-use Rattle.std.proofs.lemmas.List.Kept.{AllPairs-cons}
 use Rattle.std.proofs.lemmas.List.FromFn.{length-range_with_len}
 use Rattle.std.proofs.lemmas.List.{length-replicate}
 use Rattle.std.proofs.lemmas.Option.{none-some, same_Some}
@@ -15,9 +14,9 @@ use Rattle.stow_data.specs.declared.geometry.Lengths.{Lengths}
 use Rattle.stow_data.specs.declared.geometry.Lengths.TheVariants.{Forty}
 use Rattle.stow_data.specs.Ship.{Ship, places, stack_places, tier_places, spans}
 use Rattle.stow_data.specs.Profile.{IsStack, IsInHold, IsOnDeck, SharesCell, HasOddBay, is_name}
-use Rattle.stow_cli.specs.Keys.{each_of, number_at, text_at, array_at, is_absent}
-use Rattle.stow_cli.specs.PlainProfile.{rises_from, is_column, is_even, is_forty, has_no_other_key, lengths_of, tier_of, is_hold_tier, is_deck_tier, tiers_of, stack_of, stack_at, shares, are_apart, tiers_in, is_fleet, has_room, ship_of, plain_ship, IsPlainShip}
-use Rattle.stow_cli.proofs.Bound.{bound, guarded, both, either, or_left, or_right, and_true, all_first, all_rest, all_passed, all_map, all_read, text_passes, number_within, document_is}
+use Rattle.stow_cli.specs.Keys.{each_of, number_at, text_at, array_at, is_absent, no_two}
+use Rattle.stow_cli.specs.PlainProfile.{rises_from, is_column, is_even, is_forty, has_no_other_key, lengths_of, tier_of, is_hold_tier, is_deck_tier, tiers_of, stack_of, stack_at, shares, tiers_in, is_fleet, has_room, ship_of, plain_ship, IsPlainShip}
+use Rattle.stow_cli.proofs.Bound.{not_so, pairs_passed, bound, guarded, both, either, or_left, or_right, and_true, all_first, all_rest, all_map, all_read, text_passes, number_within, document_is}
 
 -- tiers that rise by 2 and none of which is above a bound
 rises_within : (p : ℕ → Bool) (high : ℕ) → ((t : ℕ) → p t ≡ true → t ≤ high) → (t : ℕ) (ts : List ℕ) → rises_from t (t ∷ ts) ≡ true → list_all p (t ∷ ts) ≡ true → t + 2 * length ts ≤ high
@@ -136,19 +135,8 @@ same_part_found s t (inr h) = or_right (nat_lt s.lowest 80 && nat_lt t.lowest 80
 pub sharing_found : (s t : Stack) → SharesCell s t → shares s t ≡ true
 sharing_found s t h = and_true (nat_eq s.row t.row) _ (eq-eqb s.row t.row h.same_row) (and_true _ _ (same_part_found s t h.same_part) (near_bays s.bay t.bay (odd_between s t h.odd h.in_first h.in_second)))
 
-not_shared : (s t : Stack) → not (shares s t) ≡ true → SharesCell s t → ⊥
-not_shared s t h k = not_both (shares s t) h (sharing_found s t k)
-  where
-    not_both : (b : Bool) → not b ≡ true → b ≡ true → ⊥
-    not_both true h k = false≢true h
-    not_both false h k = false≢true k
-
-pub apart_from : (ss : List Stack) → are_apart ss ≡ true → AllPairs (λ s t. SharesCell s t → ⊥) ss
-unfolding are_apart
-apart_from [] h = λ i j d lt within. absurd (omega arith)
-apart_from (s ∷ ss) h =
-    let b = both (list_all (λ t. not (shares s t)) ss) (are_apart ss) h in
-    AllPairs-cons (λ s t. SharesCell s t → ⊥) s ss (all_map (λ t. not (shares s t) ≡ true) (λ t. SharesCell s t → ⊥) ss (not_shared s) (all_passed (λ t. not (shares s t)) ss b.0)) (apart_from ss b.1)
+pub apart_from : (ss : List Stack) → no_two shares ss ≡ true → AllPairs (λ s t. SharesCell s t → ⊥) ss
+apart_from ss h = pairs_passed shares (λ s t. SharesCell s t → ⊥) (λ s t apart k. not_so (shares s t) apart (sharing_found s t k)) ss h
 
 -- the places of 40-foot stacks
 ones : (f : ℕ → List Place) → ((t : ℕ) → length (f t) ≡ 1) → (ts : List ℕ) → length (flat_map f ts) ≡ length ts
@@ -182,7 +170,7 @@ pub made_plain : (name : List ℕ) (stacks : List Stack) (entries : Items) → i
 unfolding places
 made_plain name stacks entries named read fleet =
     let each = all_read stack_at IsPlainStack stack_at_is entries stacks read in
-    let parts = both (nat_le 1 (length stacks) && nat_le (tiers_in stacks) 3000) (are_apart stacks) fleet in
+    let parts = both (nat_le 1 (length stacks) && nat_le (tiers_in stacks) 3000) (no_two shares stacks) fleet in
     let counts = both (nat_le 1 (length stacks)) (nat_le (tiers_in stacks) 3000) parts.0 in
     let few = leb-true (tiers_in stacks) 3000 counts.1 in
     let count = place_count 0 stacks each in

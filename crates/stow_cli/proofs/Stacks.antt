@@ -6,7 +6,8 @@ use Rattle.std.proofs.lemmas.List.{drop_all}
 use Rattle.std.proofs.lemmas.Bool.{ne_eqb, eq-eqb}
 use Rattle.std.proofs.Math.Seq.{drop-cons}
 use Rattle.stow_data.specs.declared.geometry.Stack.{Stack}
-use Rattle.stow_cli.specs.PlainProfile.{rises_from, tiers_in, are_apart, shares}
+use Rattle.stow_cli.specs.Keys.{no_two}
+use Rattle.stow_cli.specs.PlainProfile.{rises_from, tiers_in}
 
 front : {X : Type 0} (xs : List X) (i : ℕ) (d : X) → i < length xs → drop i xs ≡ get_or xs i d ∷ drop (i + 1) xs
 front xs i d lt = drop-cons xs i d lt ∙ ap (λ k. get_or xs i d ∷ drop k xs) (let e : suc i ≡ i + 1 = omega arith in e)
@@ -34,14 +35,14 @@ pub is_counted : (ss : List Stack) (i : ℕ) → length ss ≤ i → tiers_in (d
 unfolding tiers_in
 is_counted ss i le = rw (drop_all i ss le) refl
 
-pub apart_on : (ss : List Stack) (i : ℕ) (s : Stack) → i < length ss → s ≡ get_or ss i s → list_all (λ t. not (shares s t)) (drop (i + 1) ss) ≡ true → are_apart (drop i ss) ≡ are_apart (drop (i + 1) ss)
-unfolding are_apart
-apart_on ss i s lt is h = rw (front_is ss i s lt is, h) refl
+pub none_on : {X : Type 0} (so : X → X → Bool) (xs : List X) (i : ℕ) (x : X) → i < length xs → x ≡ get_or xs i x → list_all (λ y. not (so x y)) (drop (i + 1) xs) ≡ true → no_two so (drop i xs) ≡ no_two so (drop (i + 1) xs)
+unfolding no_two
+none_on so xs i x lt is h = rw (front_is xs i x lt is, h) refl
 
-pub are_not_apart : (ss : List Stack) (i : ℕ) (s : Stack) → i < length ss → s ≡ get_or ss i s → list_all (λ t. not (shares s t)) (drop (i + 1) ss) ≡ false → are_apart (drop i ss) ≡ false
-unfolding are_apart
-are_not_apart ss i s lt is h = rw (front_is ss i s lt is, h) refl
+pub some_two : {X : Type 0} (so : X → X → Bool) (xs : List X) (i : ℕ) (x : X) → i < length xs → x ≡ get_or xs i x → list_all (λ y. not (so x y)) (drop (i + 1) xs) ≡ false → no_two so (drop i xs) ≡ false
+unfolding no_two
+some_two so xs i x lt is h = rw (front_is xs i x lt is, h) refl
 
-pub are_all_apart : (ss : List Stack) (i : ℕ) → length ss ≤ i → are_apart (drop i ss) ≡ true
-unfolding are_apart
-are_all_apart ss i le = rw (drop_all i ss le) refl
+pub none_left : {X : Type 0} (so : X → X → Bool) (xs : List X) (i : ℕ) → length xs ≤ i → no_two so (drop i xs) ≡ true
+unfolding no_two
+none_left so xs i le = rw (drop_all i xs le) refl

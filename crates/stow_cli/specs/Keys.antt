@@ -1,5 +1,6 @@
 -- What stands under a key of a TOML table.
-use Rattle.std.specs.Prelude.{◌≡◌, ℕ, ℤ, pos, negsuc, Bool, ◌&&◌, not, is_some, nat_le, if◌then◌else◌, List, [], ◌∷◌, length, Option, Some, None, option_and_then, Result, Ok, Err}
+use Rattle.std.specs.Prelude.{Bool, Err, List, None, Ok, Option, Result, Some, [], if◌then◌else◌, is_some, length, nat_le, negsuc, not, option_and_then, pos, true, ℕ, ℤ, ◌&&◌, ◌∷◌, ◌≡◌}
+use Rattle.std.specs.List.{list_all}
 use Rattle.std.specs.Str.{is_utf8}
 use Rattle.toml.specs.Data.{Data, string, integer, Items, no_items, item, array, Members, get_member}
 use Rattle.toml.specs.Parse.{parse_document}
@@ -61,3 +62,8 @@ document_of read bytes = if is_utf8 bytes then (parse_document bytes >>= read) e
 -- so many bytes, from low to high
 abbrev pub is_between : ℕ → ℕ → List ℕ → Bool
 is_between low high s = nat_le low (length s) && nat_le (length s) high
+
+-- no two items of a list are so
+unfoldable pub no_two : {X : Type 0} → (X → X → Bool) → List X → Bool
+no_two so [] = true
+no_two so (x ∷ xs) = list_all (λ y. not (so x y)) xs && no_two so xs

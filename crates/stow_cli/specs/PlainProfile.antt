@@ -1,5 +1,5 @@
 -- Plain profiles: 40-foot stacks alone, no reefer plugs, hatch covers or separations, and limits that no weight reaches.
-use Rattle.std.specs.Prelude.{◌≡◌, ℕ, ◌+◌, ◌*◌, ◌%◌, ◌≤◌, ◌==◌, Bool, true, false, ◌&&◌, ◌||◌, not, nat_le, nat_lt, codes, slice_index, List, [], ◌∷◌, length, replicate, Option, Some, None, All}
+use Rattle.std.specs.Prelude.{◌≡◌, ℕ, ◌+◌, ◌*◌, ◌%◌, ◌≤◌, ◌==◌, Bool, true, false, ◌&&◌, ◌||◌, nat_le, nat_lt, codes, slice_index, List, [], ◌∷◌, length, replicate, Option, Some, None, All}
 use Rattle.std.specs.List.{list_all}
 use Rattle.toml.specs.Data.{Data, table, Members}
 use Rattle.stow_data.specs.declared.geometry.Stack.{Stack}
@@ -7,7 +7,7 @@ use Rattle.stow_data.specs.declared.geometry.Lengths.{Lengths}
 use Rattle.stow_data.specs.declared.geometry.Lengths.TheVariants.{Forty}
 use Rattle.stow_data.specs.Ship.{Ship}
 use Rattle.stow_data.specs.Profile.{is_name, IsShip}
-use Rattle.stow_cli.specs.Keys.{◌>>=◌, guard, text_at, number_of, number_at, array_at, is_absent, each_of, document_of}
+use Rattle.stow_cli.specs.Keys.{◌>>=◌, guard, text_at, number_of, number_at, array_at, is_absent, each_of, no_two, document_of}
 
 -- tier numbers that rise by 2 each, from this one
 unfoldable pub rises_from : ℕ → List ℕ → Bool
@@ -71,11 +71,6 @@ stack_at _ = None
 abbrev pub shares : Stack → Stack → Bool
 shares s t = (s.row == t.row) && (((nat_lt s.lowest 80 && nat_lt t.lowest 80) || (nat_le 80 s.lowest && nat_le 80 t.lowest)) && ((s.bay == t.bay) || ((s.bay + 2 == t.bay) || (t.bay + 2 == s.bay))))
 
--- no two of them share a cell
-unfoldable pub are_apart : List Stack → Bool
-are_apart [] = true
-are_apart (s ∷ ss) = list_all (λ t. not (shares s t)) ss && are_apart ss
-
 -- the places of 40-foot stacks, one a tier
 unfoldable pub tiers_in : List Stack → ℕ
 tiers_in [] = 0
@@ -83,7 +78,7 @@ tiers_in (s ∷ ss) = s.tiers + tiers_in ss
 
 -- at least one stack, at most 3,000 places
 abbrev pub is_fleet : List Stack → Bool
-is_fleet stacks = (nat_le 1 (length stacks) && nat_le (tiers_in stacks) 3000) && are_apart stacks
+is_fleet stacks = (nat_le 1 (length stacks) && nat_le (tiers_in stacks) 3000) && no_two shares stacks
 
 abbrev pub has_no_other_key : Members → Bool
 has_no_other_key top = (is_absent (codes "weight_step") top && is_absent (codes "cover") top) && is_absent (codes "separate") top

@@ -29,7 +29,7 @@ impl From<NoMemory> for Unread {
 }
 
 /// The value under a key.
-fn member<'a>(table: &'a Table, name: &str) -> Option<&'a Value>
+pub fn member<'a>(table: &'a Table, name: &str) -> Option<&'a Value>
     ensures { option_map (λ v. view v.now) result ≡ get_member name.now (table_view table.now) }
 {
     table.get(name)

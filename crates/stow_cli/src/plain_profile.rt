@@ -2,8 +2,8 @@
 ghost use Rattle.std.specs.Prelude.{◌≡◌, ◌*◌, ◌<◌, ◌≤◌, ◌&&◌, ◌||◌, ◌==◌, All, IfOk, IfSome, Some, length, nat_le, not};
 ghost use Rattle.std.specs.List.{list_all};
 ghost use Rattle.toml.specs.View.{array_view, table_view, view};
-ghost use Rattle.stow_cli.specs.Keys.{Gives, each_of};
-ghost use Rattle.stow_cli.specs.PlainProfile.{IsPlainShip, are_apart, has_no_other_key, is_column, is_deck_tier, is_even, is_fleet, is_forty, is_hold_tier, lengths_of, plain_ship, rises_from, shares, ship_of, stack_at, stack_of, tier_of, tiers_in, tiers_of};
+ghost use Rattle.stow_cli.specs.Keys.{Gives, each_of, no_two};
+ghost use Rattle.stow_cli.specs.PlainProfile.{IsPlainShip, has_no_other_key, is_column, is_deck_tier, is_even, is_fleet, is_forty, is_hold_tier, lengths_of, plain_ship, rises_from, shares, ship_of, stack_at, stack_of, tier_of, tiers_in, tiers_of};
 
 use crate::keys::{Unread, array_at, is_absent, name_at, number_at, number_of, text_at};
 use std::alloc::Global;
@@ -166,7 +166,7 @@ fn shares_with_none(s: &Stack, others: &[Stack]) -> bool
 
 /// Whether no two stacks share a cell.
 fn are_apart(stacks: &[Stack]) -> bool
-    ensures { result ≡ are_apart stacks.now }
+    ensures { result ≡ no_two shares stacks.now }
 {
     for (i, stack) in stacks.iter().enumerate() {
         if !shares_with_none(stack, &stacks[i + 1..]) {
