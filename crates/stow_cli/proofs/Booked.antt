@@ -15,10 +15,11 @@ use Rattle.stow_data.specs.Ship.{Ship, places}
 use Rattle.stow_data.specs.Profile.{is_name}
 use Rattle.stow_data.specs.Shipment.{IsShipped}
 use Rattle.stow_data.proofs.Members.{enumerate-more}
-use Rattle.stow_cli.specs.declared.bookings.Booking.{Booking}
-use Rattle.stow_cli.specs.declared.bookings.Bookings.{Bookings}
+use Rattle.stow_cli.specs.declared.plain_bookings.Booking.{Booking}
+use Rattle.stow_cli.specs.declared.plain_bookings.Bookings.{Bookings}
 use Rattle.stow_cli.specs.Keys.{number_at, text_at, array_at, each_of, no_two}
-use Rattle.stow_cli.specs.PlainBookings.{is_port, is_id, is_long_type, is_date, port_of, rotation_of, booking_of, booking_at, has_no_other_key, same_id, is_list, bookings_in, names_no_party, bookings_of, plain_bookings, IsBooking, IsBookings, container_of, plain_cargo, IsPlainContainer, IsPlainCargo}
+use Rattle.stow_cli.specs.PlainBookings.{is_port, is_id, is_long_type, is_date, port_of, rotation_of, booking_of, booking_at, has_no_other_key, same_id, is_list, bookings_in, names_no_party, bookings_of, plain_bookings, IsBooking, IsBookings, container_of, plain_cargo}
+use Rattle.stow_cli.specs.Plain.{IsPlainContainer, IsPlainCargo}
 use Rattle.stow_cli.proofs.Bound.{bound, guarded, both, not_so, all_first, all_rest, all_read, pairs_passed, pairs_first, pairs_rest, text_passes, number_within, document_is}
 
 -- what is true of a rotation
@@ -155,7 +156,7 @@ cargo_is_plain ship b h =
         ids_differ = ids_kept 0 b.containers h.ids_differ;
         each_shipped = all_containers (IsBooking (length b.rotation)) (IsShipped (length b.rotation)) (λ i c k. record { later = k.later; in_rotation = k.in_rotation; kg_to = k.kg_to }) 0 b.containers h.each_booking;
       };
-      each_plain = all_containers (IsBooking (length b.rotation)) IsPlainContainer (λ i c k. record { long = refl; dry = refl; harmless = refl; loads = k.from_first }) 0 b.containers h.each_booking;
+      each_plain = all_containers (IsBooking (length b.rotation)) IsPlainContainer (λ i c k. record { long = refl; dry = refl; unclassed = refl; booked = k.from_first }) 0 b.containers h.each_booking;
       empty = refl;
     }
 

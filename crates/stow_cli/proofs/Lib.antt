@@ -1,3 +1,7 @@
+pub mod Columns
+pub mod Ranges
+pub mod Choosing
+pub mod Loading
 pub mod Bound
 pub mod Items
 pub mod Stacks

@@ -15,7 +15,8 @@ use Rattle.stow_data.specs.declared.geometry.Lengths.TheVariants.{Forty}
 use Rattle.stow_data.specs.Ship.{Ship, places, stack_places, tier_places, spans}
 use Rattle.stow_data.specs.Profile.{IsStack, IsInHold, IsOnDeck, SharesCell, HasOddBay, is_name}
 use Rattle.stow_cli.specs.Keys.{each_of, number_at, text_at, array_at, is_absent, no_two}
-use Rattle.stow_cli.specs.PlainProfile.{rises_from, is_column, is_even, is_forty, has_no_other_key, lengths_of, tier_of, is_hold_tier, is_deck_tier, tiers_of, stack_of, stack_at, shares, tiers_in, is_fleet, has_room, ship_of, plain_ship, IsPlainShip}
+use Rattle.stow_cli.specs.PlainProfile.{rises_from, is_column, is_even, is_forty, has_no_other_key, lengths_of, tier_of, is_hold_tier, is_deck_tier, tiers_of, stack_of, stack_at, shares, tiers_in, is_fleet, has_room, ship_of, plain_ship}
+use Rattle.stow_cli.specs.Plain.{IsPlainShip}
 use Rattle.stow_cli.proofs.Bound.{not_so, pairs_passed, bound, guarded, both, either, or_left, or_right, and_true, all_first, all_rest, all_map, all_read, text_passes, number_within, document_is}
 
 -- tiers that rise by 2 and none of which is above a bound

@@ -8,9 +8,9 @@ use Rattle.stow_data.specs.declared.shipments.Container.{Container}
 use Rattle.stow_data.specs.declared.shipments.Origin.TheVariants.{Booked}
 use Rattle.stow_data.specs.Ship.{Ship, places}
 use Rattle.stow_data.specs.Profile.{is_name}
-use Rattle.stow_data.specs.Shipment.{Cargo, IsCargo}
-use Rattle.stow_cli.specs.declared.bookings.Booking.{Booking}
-use Rattle.stow_cli.specs.declared.bookings.Bookings.{Bookings}
+use Rattle.stow_data.specs.Shipment.{Cargo}
+use Rattle.stow_cli.specs.declared.plain_bookings.Booking.{Booking}
+use Rattle.stow_cli.specs.declared.plain_bookings.Bookings.{Bookings}
 use Rattle.stow_cli.specs.Keys.{◌>>=◌, guard, text_of, text_at, number_at, array_at, is_absent, each_of, no_two, document_of, is_between}
 
 -- A to Z and 0 to 9
@@ -127,16 +127,3 @@ container_of b = record { id = b.1.id; load = b.1.load; dest = b.1.dest; long = 
 -- the cargo of plain bookings: their containers in order, and a ship on which nothing stands at arrival
 abbrev pub plain_cargo : Ship → Bookings → Cargo
 plain_cargo ship b = record { rotation = b.rotation; containers = map container_of (enumerate_from 0 b.containers); arrival = replicate (length (places ship)) None }
-
--- a 40-foot container without a reefer plug or a class, which loads at a call
-pub record IsPlainContainer (c : Container) : Type 0 where
-  pub long : c.long ≡ length_of.Forty
-  pub dry : c.reefer ≡ false
-  pub harmless : c.class ≡ None
-  pub loads : 1 ≤ c.load
-
--- what the cargo of plain bookings obeys
-pub record IsPlainCargo (ship : Ship) (cargo : Cargo) : Type 0 where
-  pub rules : IsCargo cargo
-  pub each_plain : All IsPlainContainer cargo.containers
-  pub empty : cargo.arrival ≡ replicate (length (places ship)) None

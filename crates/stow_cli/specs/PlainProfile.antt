@@ -6,7 +6,7 @@ use Rattle.stow_data.specs.declared.geometry.Stack.{Stack}
 use Rattle.stow_data.specs.declared.geometry.Lengths.{Lengths}
 use Rattle.stow_data.specs.declared.geometry.Lengths.TheVariants.{Forty}
 use Rattle.stow_data.specs.Ship.{Ship}
-use Rattle.stow_data.specs.Profile.{is_name, IsShip}
+use Rattle.stow_data.specs.Profile.{is_name}
 use Rattle.stow_cli.specs.Keys.{◌>>=◌, guard, text_at, number_of, number_at, array_at, is_absent, each_of, no_two, document_of}
 
 -- tier numbers that rise by 2 each, from this one
@@ -96,12 +96,3 @@ ship_of top = do
 -- the ship of a plain profile
 abbrev pub plain_ship : List ℕ → Option Ship
 plain_ship bytes = document_of ship_of bytes
-
--- what a plain ship obeys
-pub record IsPlainShip (ship : Ship) : Type 0 where
-  pub rules : IsShip ship
-  pub each_long : All (λ s. s.lengths ≡ Forty) ship.stacks
-  pub each_roomy : All (λ s. 100000 * s.tiers ≤ s.limit_kg) ship.stacks
-  pub step : ship.weight_step ≡ 1000
-  pub no_cover : ship.covers ≡ []
-  pub no_separation : ship.separations ≡ []

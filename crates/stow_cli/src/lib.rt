@@ -1,10 +1,13 @@
-//! The command `stow`: the readers of plain profiles and plain bookings.
+//! The top call of the program.
 #![tactic(auto)]
 
-mod bookings;
 mod keys;
+mod loader;
+mod plain_bookings;
 mod plain_profile;
+#[cfg(test)]
+mod tests;
 
-pub use bookings::{Booking, BookingList, Bookings, cargo_of, plain_bookings};
-pub use keys::Unread;
+pub use loader::load;
+pub use plain_bookings::{Booking, BookingList, Bookings, cargo_of};
 pub use plain_profile::plain_ship;

@@ -3,7 +3,8 @@ ghost use Rattle.std.specs.Prelude.{◌≡◌, ◌*◌, ◌<◌, ◌≤◌, ◌&
 ghost use Rattle.std.specs.List.{list_all};
 ghost use Rattle.toml.specs.View.{array_view, table_view, view};
 ghost use Rattle.stow_cli.specs.Keys.{Gives, each_of, no_two};
-ghost use Rattle.stow_cli.specs.PlainProfile.{IsPlainShip, has_no_other_key, is_column, is_deck_tier, is_even, is_fleet, is_forty, is_hold_tier, lengths_of, plain_ship, rises_from, shares, ship_of, stack_at, stack_of, tier_of, tiers_in, tiers_of};
+ghost use Rattle.stow_cli.specs.Plain.{IsPlainShip};
+ghost use Rattle.stow_cli.specs.PlainProfile.{has_no_other_key, is_column, is_deck_tier, is_even, is_fleet, is_forty, is_hold_tier, lengths_of, plain_ship, rises_from, shares, ship_of, stack_at, stack_of, tier_of, tiers_in, tiers_of};
 
 use crate::keys::{Unread, array_at, is_absent, name_at, number_at, number_of, text_at};
 use std::alloc::Global;
