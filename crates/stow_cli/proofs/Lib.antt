@@ -12,3 +12,8 @@ pub mod Sailing
 pub mod Pairs
 pub mod Numbers
 pub mod Showing
+pub mod Bound
+pub mod Items
+pub mod Stacks
+pub mod Ships
+pub mod Booked
