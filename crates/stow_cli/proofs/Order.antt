@@ -1,5 +1,5 @@
 -- Files written one after the other.
-use Rattle.std.proofs.Common.{◌≡◌, ℕ, ◌+◌, ◌<◌, ◌≤◌, List, [], ◌∷◌, ◌++◌, length, get_or, take, Option, refl, ap, ◌∙◌}
+use Rattle.std.proofs.Common.{◌≡◌, ℕ, ◌+◌, ◌<◌, ◌≤◌, List, [], ◌∷◌, ◌++◌, length, get_or, take, Option, refl}
 use Rattle.std.proofs.lemmas.List.{take_more, take_all}
 use Rattle.stow_io.specs.Files.{Files, put}
 use Rattle.stow_cli.specs.declared.writing.NamedFile.{NamedFile}

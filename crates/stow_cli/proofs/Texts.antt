@@ -1,11 +1,11 @@
 -- Texts printed one after the other.
-use Rattle.std.proofs.Common.{◌≡◌, ℕ, ◌+◌, ◌<◌, ◌≤◌, Bool, true, false, List, [], ◌∷◌, ◌++◌, length, get_or, take, drop, Option, Some, None, refl, sym, ap, ◌∙◌, append_assoc, arith, inl, inr}
+use Rattle.std.proofs.Common.{◌≡◌, ℕ, ◌+◌, Bool, true, false, List, ◌++◌, length, take, Option, Some, None, refl, sym, ap, ◌∙◌, append_assoc, arith, inl, inr}
 use Rattle.std.proofs.Math.Seq.{take-append_seam, take-append-add}
 use Rattle.stow_io.specs.Files.{append, Appends}
 use Rattle.std.specs.Prelude.{Result, Ok, Err, OnErr, is_ok}
 use Rattle.stow_cli.specs.Ends.{Says}
 use Rattle.std.proofs.lemmas.Bool.{cases_lt}
-use Rattle.std.proofs.lemmas.List.{append-nil, take-append-le, take_all, drop_all, drop_more}
+use Rattle.std.proofs.lemmas.List.{take-append-le, take_all}
 
 append-append : (front rest : List ℕ) (text : Option (List ℕ)) → append rest (append front text) ≡ append (front ++ rest) text
 unfolding append

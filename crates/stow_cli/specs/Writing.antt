@@ -1,5 +1,5 @@
 -- Files written one after the other.
-use Rattle.std.specs.Prelude.{◌≡◌, ℕ, ◌<◌, Option, List, [], ◌∷◌, length, take, slice_index_or, Result, Ok, Err}
+use Rattle.std.specs.Prelude.{◌≡◌, ℕ, ◌<◌, Option, List, [], ◌∷◌, length, take, slice_get, Some, Result, Ok, Err}
 use Rattle.stow_io.specs.Files.{Files, PutsPart, put}
 use Rattle.stow_io.specs.declared.outside.FolderNo.{FolderNo}
 use Rattle.stow_io.specs.declared.outside.FolderNo.TheVariants.{Failed, NoMemory}
@@ -13,7 +13,7 @@ with_files (f ∷ fs) files = with_files fs (put f.name f.bytes files)
 
 -- The first n are written whole. Under the next name what was there, or after a failed write a prefix of its bytes. All other names are as before
 abbrev pub WrittenUpTo : List NamedFile → ℕ → FolderNo → Option Files → Option Files → Type 0
-WrittenUpTo list n Failed before now = (next : NamedFile) × (next ≡ slice_index_or list n next) × PutsPart next.name next.bytes (with_files (take n list) before) now
+WrittenUpTo list n Failed before now = (next : NamedFile) × (slice_get list n ≡ Some next) × PutsPart next.name next.bytes (with_files (take n list) before) now
 WrittenUpTo list n NoMemory before now = now ≡ with_files (take n list) before
 
 abbrev pub Written : List NamedFile → Result (Unit {0}) WriteStop → Option Files → Option Files → Type 0

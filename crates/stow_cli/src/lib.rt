@@ -16,3 +16,6 @@ pub use status::Status;
 pub use top::stow;
 pub use work::Work;
 pub use writing::{FileList, NamedFile, WriteStop, write_files};
+
+#[cfg(test)]
+mod tests;

@@ -1,4 +1,4 @@
-use Rattle.std.proofs.Common.{◌≡◌, ◌++◌, ◌∷◌, [], false, arith}
+use Rattle.std.proofs.Common.{◌≡◌, false, arith}
 use Rattle.std.specs.Prelude.{is_ok}
 use Rattle.stow_io.specs.Causes.{Rose}
 use Rattle.stow_cli.proofs.Texts.{says_front, says_rest, on_err, on_ok}

@@ -1,4 +1,4 @@
-use Rattle.std.proofs.Common.{◌≡◌, None, sym, ◌∙◌}
+use Rattle.std.proofs.Common.{◌≡◌, None}
 use Rattle.stow_cli.specs.PlainProfile.{plain_ship}
 use Rattle.stow_cli.proofs.Inputs.{some_content, no_ship}
 use Rattle.stow_cli.proofs.reading.planned.Goals as goal
@@ -12,5 +12,5 @@ returns-in_default-ship-clause-gives g c =
       bookings = other.0;
       profile_is = c.in_ok-profile.ensures.gives;
       bookings_is = other.1;
-      work_is = no_ship _ _ _ none
+      work_is = no_ship _ _ _ none;
     }
