@@ -17,3 +17,6 @@ pub mod Items
 pub mod Stacks
 pub mod Ships
 pub mod Booked
+pub mod Inputs
+pub mod Order
+pub mod Texts

@@ -4,3 +4,8 @@ pub mod DepartureFile
 pub mod Keys
 pub mod PlainProfile
 pub mod PlainBookings
+pub mod Work
+pub mod Planned
+pub mod Named
+pub mod Writing
+pub mod Ends
