@@ -20,3 +20,4 @@ pub mod Booked
 pub mod Inputs
 pub mod Order
 pub mod Texts
+pub mod Works

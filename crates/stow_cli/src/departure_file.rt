@@ -250,6 +250,7 @@ fn head(
     requires { call < length cargo.now.rotation }
     ensures { IfOk result (λ list. list ≡ head cargo.now bookings.now call) }
 {
+    let _calls = cargo.calls();
     let mut list = SegmentList::new(alloc);
     list.push(unh(alloc)?)?;
     list.push(bgm(alloc, call)?)?;
@@ -307,6 +308,7 @@ fn write_groups(
     requires known { IsKnown cargo.now plan.now }
     ensures text { IfOk result (λ _. out.new ≡ out.old ++ flat_map text_of (flat_map group_segments (groups ship.now cargo.now bookings.now plan.now))) }
     ensures number { IfOk result (λ n. n ≡ length (groups ship.now cargo.now bookings.now plan.now)) }
+    ensures few { IfOk result (λ n. n ≤ 3000) }
 {
     let mut count = 0;
     for number in 0..ship.places() {

@@ -67,6 +67,7 @@ fn files_of(
     requires known { All (IsKnown cargo.now) plans.now }
     ensures { IfOk result (λ files. files ≡ files_of base.now ship.now cargo.now bookings.now 1 plans.now) }
 {
+    let _calls = cargo.calls();
     let mut files = FileList::new(alloc);
     let mut call: u32 = 1;
     for plan in plans {
