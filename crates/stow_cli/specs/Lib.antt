@@ -5,6 +5,7 @@ pub mod Keys
 pub mod PlainProfile
 pub mod PlainBookings
 pub mod Work
+pub mod Voyages
 pub mod Planned
 pub mod Named
 pub mod Writing

@@ -6,6 +6,7 @@ use Rattle.stow_io.specs.Files.{Files, bytes_at}
 use Rattle.stow_cli.specs.PlainProfile.{plain_ship}
 use Rattle.stow_cli.specs.PlainBookings.{plain_bookings}
 use Rattle.stow_cli.specs.Work.{work_for}
+use Rattle.stow_cli.specs.Voyages.{IsSailed}
 use Rattle.stow_cli.specs.declared.work.Work.{Work}
 
 -- the profile, the bookings and the front of the names of the files to be written
@@ -36,13 +37,14 @@ IsContent files name bytes = IfSome files (λ m. bytes ≡ bytes_at m name)
 abbrev pub work_of_inputs : List ℕ → List ℕ → List ℕ → Option Work
 work_of_inputs base profile bookings = option_and_then (λ ship. option_and_then (λ plain. work_for base ship plain) (plain_bookings bookings)) (plain_ship profile)
 
--- the work, or none, of the inputs that are named
+-- the work, or none, of the inputs that are named; its files are those of a voyage of the ship and the cargo
 pub record IsPlanned (plan : PlanWords) (files : Option Files) (work : Option Work) : Type 0 where
   pub profile : List ℕ
   pub bookings : List ℕ
   pub profile_is : IsContent files plan.profile profile
   pub bookings_is : IsContent files plan.bookings bookings
   pub work_is : work_of_inputs plan.base profile bookings ≡ work
+  pub sailed : IfSome work (IsSailed plan.base profile bookings)
 
 -- a file that is read: the profile, and where that is plain the bookings
 abbrev pub IsReadBy : PlanWords → Option Files → List ℕ → Type 0

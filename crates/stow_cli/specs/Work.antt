@@ -15,7 +15,7 @@ abbrev pub two_digits : ℕ → List ℕ
 two_digits call = decimal (call / 10) ++ decimal (call % 10)
 
 abbrev pub file_name : List ℕ → ℕ → List ℕ
-file_name base call = base ++ (codes "-" ++ (two_digits call ++ codes ".edi"))
+file_name base call = (base ++ (codes "-" ++ two_digits call)) ++ codes ".edi"
 
 -- the departure file of a call, under its name
 abbrev pub file_of : List ℕ → Ship → Cargo → Bookings → ℕ → Stowage → NamedFile

@@ -1,9 +1,10 @@
 //! What is written and printed for a ship and its bookings.
-ghost use Rattle.std.specs.Prelude.{◌≡◌, ◌<◌, ◌≤◌, ◌+◌, ◌++◌, IfOk, length, All};
+ghost use Rattle.std.specs.Prelude.{◌≡◌, ◌<◌, ◌≤◌, ◌+◌, ◌++◌, IfOk, IfSome, length, All};
 ghost use Rattle.stow_data.specs.Ship.{places};
 ghost use Rattle.stow_cli.specs.DepartureFile.{IsKnown};
 ghost use Rattle.stow_cli.specs.Plain.{IsPlainShip};
 ghost use Rattle.stow_cli.specs.PlainBookings.{IsBookings};
+ghost use Rattle.stow_cli.specs.Voyages.{Sails};
 ghost use Rattle.stow_cli.specs.Work.{file_name, file_of, files_of, work_for};
 
 use crate::departure_file::departure_file;
@@ -27,7 +28,7 @@ fn file_name(alloc: Global, base: &str, call: u32) -> Result<Word, NoMemory>
     let tens = call / 10;
     let ones = call % 10;
     let name = format!(in alloc; "{base}-{tens}{ones}.edi")?;
-    Word::of(alloc, name.as_str())
+    Ok(Word::of(alloc, name.as_str())?)
 }
 
 /// The departure file of a call, under its name.
@@ -86,13 +87,16 @@ pub fn work_of(
 ) -> Result<Option<Work>, NoMemory>
     requires plain_ship { IsPlainShip ship.now }
     requires plain_bookings { IsBookings bookings.now }
-    ensures { IfOk result (λ work. work ≡ work_for base.now ship.now bookings.now) }
+    ensures work { IfOk result (λ work. work ≡ work_for base.now ship.now bookings.now) }
+    ensures sails { IfOk result (λ work. IfSome work (Sails base.now ship.now bookings.now)) }
 {
     let cargo = cargo_of(alloc, ship, bookings)?;
-    let Some(plans) = load(alloc, ship, &cargo)? else {
-        return Ok(None);
-    };
-    let files = files_of(alloc, base, ship, &cargo, bookings, plans.as_slice())?;
-    let report = Bytes::of(alloc, b"outcome optimal\nrehandles 0\nbound 0\nnodes 1\n")?;
-    Ok(Some(Work { files, report }))
+    match load(alloc, ship, &cargo)? {
+        None => Ok(None),
+        Some(plans) => {
+            let files = files_of(alloc, base, ship, &cargo, bookings, plans.as_slice())?;
+            let report = Bytes::of(alloc, b"outcome optimal\nrehandles 0\nbound 0\nnodes 1\n")?;
+            Ok(Some(Work { files, report }))
+        }
+    }
 }
