@@ -85,14 +85,14 @@ pub record IsCarried (cargo : Cargo) (call : ℕ) (plan : Stowage) : Type 0 wher
   pub there : (p c : ℕ) → Holds plan p c → IsAboard call (container_at cargo c)
   pub whole : (c : ℕ) → c < length cargo.containers → IsAboard call (container_at cargo c) → (p : ℕ) × Holds plan p c
 
-plain_long : (ship : Ship) (cargo : Cargo) (c : ℕ) (container : Container) → IsPlainCargo ship cargo → slice_get cargo.containers c ≡ Some container → IsPlainContainer container
-plain_long ship cargo c container plain h = each_is IsPlainContainer cargo.containers c container plain.each_plain h
+plain_container : (ship : Ship) (cargo : Cargo) (c : ℕ) (container : Container) → IsPlainCargo ship cargo → slice_get cargo.containers c ≡ Some container → IsPlainContainer container
+plain_container ship cargo c container plain h = each_is IsPlainContainer cargo.containers c container plain.each_plain h
 
 well_formed : (ship : Ship) (cargo : Cargo) (plan : Stowage) → IsForty ship → IsPlainCargo ship cargo → IsSound ship cargo plan → IsWellFormed ship cargo plan
 well_formed ship cargo plan f plain s = record {
   each_place = s.each_place;
   known = λ p c h. (container_at cargo c, is_container cargo c (s.known p c h));
-  fits = λ p c place container x. forty_fits ship p place container.long f x.is_place (plain_long ship cargo c container plain x.is_container).long;
+  fits = λ p c place container x. forty_fits ship p place container.long f x.is_place (plain_container ship cargo c container plain x.is_container).long;
   apart = λ h c d x y. one_place ship x.number y.number x.place y.place f x.is_place y.is_place (sym x.has_half.same_stack ∙ y.has_half.same_stack) (sym x.has_half.same_tier ∙ y.has_half.same_tier);
   once = s.once;
 }
@@ -105,12 +105,12 @@ sound_stowed ship cargo call plan f plain s carried = record {
       (λ h. subst (λ (z : Container). IsAboard call z) e (carried.there h.0 c h.1), λ a. carried.whole c (slice_get_within cargo.containers c container known) (subst (λ (z : Container). IsAboard call z) (sym e) a));
   supported = supported ship cargo plan f s;
   twenty = λ stack tier aft c d x y t.
-      let long : (t.0).long ≡ length_of.Forty = (plain_long ship cargo c t.0 plain t.1).long in
+      let long : (t.0).long ≡ length_of.Forty = (plain_container ship cargo c t.0 plain t.1).long in
       let short : (t.0).long ≡ length_of.Twenty = t.2 in
       let bad : length_of.Forty ≡ length_of.Twenty = sym long ∙ short in
       absurd cc;
   plugged = λ p c place container x reefer.
-      let dry : container.reefer ≡ false = (plain_long ship cargo c container plain x.is_container).dry in
+      let dry : container.reefer ≡ false = (plain_container ship cargo c container plain x.is_container).dry in
       absurd (both_ways container.reefer dry reefer);
 }
 
