@@ -22,7 +22,7 @@ trimmed-push_full (x ∷ xs) b bs = ap (in_front x) (trimmed-push_full xs b bs) 
 pub kept-empty : {A : Type 0} (xs : List (List A)) (i : ℕ) → i < length xs → get_or xs i [] ≡ [] → trimmed (take (i + 1) xs) ≡ trimmed (take i xs)
 kept-empty xs i h e = ap trimmed (take_more xs i [] h ∙ ap (λ x. take i xs ++ x ∷ []) e) ∙ trimmed-push_empty (take i xs)
 
-push_full : {A : Type 0} (xs : List (List A)) (x : List A) → 0 < length x → trimmed (xs ++ x ∷ []) ≡ xs ++ x ∷ []
+pub push_full : {A : Type 0} (xs : List (List A)) (x : List A) → 0 < length x → trimmed (xs ++ x ∷ []) ≡ xs ++ x ∷ []
 push_full xs [] h = absurd (omega arith)
 push_full xs (b ∷ bs) h = trimmed-push_full xs b bs
 

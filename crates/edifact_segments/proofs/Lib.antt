@@ -2,3 +2,6 @@ pub mod PieceLemmas
 pub mod CanonicalLemmas
 pub mod WrittenLemmas
 pub mod Determined
+pub mod DraftLemmas
+pub mod ScanLemmas
+pub mod GrammarLemmas

@@ -3,3 +3,6 @@ pub mod Elements
 pub mod Canonical
 pub mod Written
 pub mod Characters
+pub mod Grammar
+pub mod Scanning
+pub mod Drafts
