@@ -10,6 +10,7 @@ use Rattle.stow_data.specs.declared.geometry.Stack.{Stack}
 use Rattle.stow_data.specs.declared.geometry.Place.{Place}
 use Rattle.stow_data.specs.Ship.{Ship, places}
 use Rattle.stow_data.specs.Profile.{IsShip, IsStack, IsInHold, IsOnDeck}
+use Rattle.stow_data.specs.CellTable.{IsBounded}
 use Rattle.stow_data.proofs.Members.{range-more, enumerate-more}
 use Rattle.stow_data.proofs.Listed.{place_from}
 
@@ -24,12 +25,6 @@ stack_more {X} f xs table new i n x lt is same e made =
     let more : enumerate_from 0 (take (i + 1) xs) ≡ enumerate_from 0 (take i xs) ++ (n, x) ∷ [] =
     ap (enumerate_from 0) (take_more xs i x lt ∙ ap (λ (z : X). take i xs ++ z ∷ []) (sym is)) ∙ enumerate-more (take i xs) 0 x ∙ ap (λ (k : ℕ). enumerate_from 0 (take i xs) ++ (k, x) ∷ []) long in
     made ∙ ap (λ z. z ++ f (n, x)) e ∙ flat_map_more f [] (enumerate_from 0 (take i xs)) (n, x) ∙ ap (flat_map f) (sym more)
-
--- what bounds the number of a place
-pub record IsBounded (stack : Stack) (place : Place) : Type 0 where
-  pub bay_from : 2 ≤ stack.bay
-  pub bay_to : stack.bay ≤ 998
-  pub tier_to : stack.lowest + 2 * place.tier ≤ 98
 
 highest_to : (s : Stack) → IsInHold s ⊎ IsOnDeck s → s.lowest + 2 * (s.tiers - 1) ≤ 98
 highest_to s (inl h) = omega (arith, h.1)

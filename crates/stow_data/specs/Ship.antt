@@ -84,6 +84,14 @@ pub record IsDirectlyAbove (upper lower : Half) : Type 0 where
   pub same_side : upper.aft ≡ lower.aft
   pub next_tier : upper.tier ≡ lower.tier + 1
 
+-- half-cell u is directly above half-cell h
+pub record IsAbove (ship : Ship) (u h : ℕ) : Type 0 where
+  pub upper : Half
+  pub is_upper : slice_get (halves ship) u ≡ Some upper
+  pub lower : Half
+  pub is_lower : slice_get (halves ship) h ≡ Some lower
+  pub directly : IsDirectlyAbove upper lower
+
 -- a container of this length, a reefer or not, fits the place
 abbrev pub HasLength : Span → Length → Type 0
 HasLength Both long = long ≡ length_of.Forty

@@ -1,7 +1,9 @@
 //! What every crate speaks of: lists, names, the ship's geometry, plans and the cargo.
 #![tactic(auto)]
 
+mod cells;
 mod geometry;
+mod hatches;
 mod limits;
 mod list;
 mod names;
