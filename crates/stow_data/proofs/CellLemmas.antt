@@ -1,5 +1,5 @@
 -- The number of a place leads back to it.
-use Rattle.std.proofs.Common.{◌≡◌, ◌≢◌, ℕ, zero, suc, ◌<◌, ◌≤◌, ◌+◌, ◌-◌, ◌*◌, ◌%◌, Bool, true, false, List, [], ◌∷◌, ◌++◌, arith, refl, sym, ◌∙◌, ap, ◌⊎◌, inl, inr, ⊎_elim, subst, length, Some, None, take}
+use Rattle.std.proofs.Common.{◌≡◌, ◌≢◌, ℕ, zero, suc, ◌<◌, ◌≤◌, ◌+◌, ◌-◌, ◌*◌, Bool, true, false, List, [], ◌∷◌, ◌++◌, arith, refl, sym, ◌∙◌, ap, ◌⊎◌, inl, inr, ⊎_elim, subst, length, Some, None}
 use Rattle.std.specs.Prelude.{slice_get, slice_index_or, MatchOption, Option, Contains, AllPairs}
 use Rattle.std.specs.BTreeMap.{BTreeMap, get, is_at}
 use Rattle.std.specs.declared.cmp.Ordering.{Ordering}
@@ -7,7 +7,7 @@ use Rattle.std.specs.declared.cmp.Ordering.TheVariants.{Less, Equal, Greater}
 use Rattle.std.specs.Ordering.{nat_cmp, ordering_then, is_eq}
 use Rattle.std.proofs.lemmas.Map.Lookups.{exact_unsigned, exact_pairs}
 use Rattle.std.proofs.lemmas.Bool.{cases_order, cases_eq, false_from_ne_true}
-use Rattle.std.proofs.lemmas.Option.{none-some, same_Some, slice_get_within, slice_get-get_or, get_or_from_slice_get}
+use Rattle.std.proofs.lemmas.Option.{none-some, same_Some, slice_get_within, get_or_from_slice_get}
 use Rattle.stow_data.specs.declared.geometry.Stack.{Stack}
 use Rattle.stow_data.specs.declared.geometry.Span.{Span}
 use Rattle.stow_data.specs.declared.geometry.Span.TheVariants.{Fore, Aft, Both}
@@ -17,7 +17,7 @@ use Rattle.stow_data.specs.declared.geometry.Place.{Place}
 use Rattle.stow_data.specs.declared.cells.CellNumber.{CellNumber}
 use Rattle.stow_data.specs.Ship.{Ship, places, spans, sides, TakesSide, bay_of, HasNumber}
 use Rattle.stow_data.specs.Profile.{IsShip, IsStack, IsInHold, IsOnDeck, HasOddBay, SharesCell}
-use Rattle.stow_data.specs.CellTable.{cell_order, cell_number, IsBounded, HasCell, EachBounded, IsCellTable}
+use Rattle.stow_data.specs.CellTable.{cell_order, cell_number, HasCell, EachBounded, IsCellTable}
 use Rattle.stow_data.proofs.Members.{Member, index_of}
 use Rattle.stow_data.proofs.Listed.{place_from}
 use Rattle.stow_data.proofs.Made.{place_bounded}
@@ -136,7 +136,7 @@ one_cell ship p q n rules a b =
     let level : a.place.tier ≡ b.place.tier = omega (arith, low, tiers) in
     let span : a.place.span ≡ b.place.span = one_span b.stack.bay a.place.span b.place.span t_rules.bay_from (ap (λ (z : Stack). bay_of z.bay a.place.span) (sym one) ∙ bays) in
     let plug : a.place.plug ≡ b.place.plug =
-        u.plug ∙ (ap (λ (z : Stack). slice_index_or z.plugs a.place.tier false) (s_is ∙ (one ∙ sym t_is)) ∙ (ap (λ (z : ℕ). slice_index_or v.stack_at.plugs z false) level ∙ sym v.plug)) in
+    u.plug ∙ (ap (λ (z : Stack). slice_index_or z.plugs a.place.tier false) (s_is ∙ (one ∙ sym t_is)) ∙ (ap (λ (z : ℕ). slice_index_or v.stack_at.plugs z false) level ∙ sym v.plug)) in
     let places_same : a.place ≡ b.place = same_place a.place b.place stacks level span plug in
     place_once ship p q b.place (a.is_place ∙ ap (λ (z : Place). Some z) places_same) b.is_place
 
@@ -182,11 +182,13 @@ cell_cases a b = ⊎_elim
 
 pub cells_more : (stacks : List Stack) (ps : List Place) (place : Place) (stack : Stack) (number : ℕ) (table new : BTreeMap CellNumber ℕ) → number ≡ length ps → slice_get stacks place.stack ≡ Some stack → IsCellTable stacks ps table
     → get cell_order new (cell_number stack place) ≡ Some number → ((n : CellNumber) → n ≢ cell_number stack place → get cell_order new n ≡ get cell_order table n) → IsCellTable stacks (ps ++ place ∷ []) new
-cells_more stacks ps place stack number table new is is_stack old this others = record { leads = λ n. ⊎_elim
-    (λ (e : n ≡ cell_number stack place). subst (λ (o : Option ℕ). MatchOption o ((p : ℕ) → HasCell stacks (ps ++ place ∷ []) p n → ⊥) (λ p. HasCell stacks (ps ++ place ∷ []) p n)) (sym (ap (get cell_order new) e ∙ this))
-    (record { place = place; is_place = subst (λ (z : ℕ). slice_get (ps ++ place ∷ []) z ≡ Some place) (sym is) (get_right ps (place ∷ []) 0 (length ps) (omega arith)); stack = stack; is_stack = is_stack; is_number = sym e }))
-    (λ (ne : n ≡ cell_number stack place → ⊥). subst (λ (o : Option ℕ). MatchOption o ((p : ℕ) → HasCell stacks (ps ++ place ∷ []) p n → ⊥) (λ p. HasCell stacks (ps ++ place ∷ []) p n)) (sym (others n ne)) (carried n ne (get cell_order table n) (old.leads n)))
-    (cell_cases n (cell_number stack place)) }
+cells_more stacks ps place stack number table new is is_stack old this others = record {
+  leads = λ n. ⊎_elim
+      (λ (e : n ≡ cell_number stack place). subst (λ (o : Option ℕ). MatchOption o ((p : ℕ) → HasCell stacks (ps ++ place ∷ []) p n → ⊥) (λ p. HasCell stacks (ps ++ place ∷ []) p n)) (sym (ap (get cell_order new) e ∙ this))
+      (record { place = place; is_place = subst (λ (z : ℕ). slice_get (ps ++ place ∷ []) z ≡ Some place) (sym is) (get_right ps (place ∷ []) 0 (length ps) (omega arith)); stack = stack; is_stack = is_stack; is_number = sym e }))
+      (λ (ne : n ≡ cell_number stack place → ⊥). subst (λ (o : Option ℕ). MatchOption o ((p : ℕ) → HasCell stacks (ps ++ place ∷ []) p n → ⊥) (λ p. HasCell stacks (ps ++ place ∷ []) p n)) (sym (others n ne)) (carried n ne (get cell_order table n) (old.leads n)))
+      (cell_cases n (cell_number stack place));
+}
   where
     last : (n : CellNumber) (j : ℕ) (p : Place) (s : Stack) → slice_get (place ∷ []) j ≡ Some p → slice_get stacks p.stack ≡ Some s → cell_number s p ≡ n → n ≡ cell_number stack place
     last n zero p s e f g =
@@ -194,6 +196,7 @@ cells_more stacks ps place stack number table new is is_stack old this others = 
         let two : s ≡ stack = same_Some s stack (sym f ∙ (ap (λ (z : Place). slice_get stacks z.stack) (sym one) ∙ is_stack)) in
         sym g ∙ (ap (λ (z : Stack). cell_number z p) two ∙ ap (cell_number stack) (sym one))
     last n (suc j) p s e f g = absurd (none-some p e)
+
     carried : (n : CellNumber) → (n ≡ cell_number stack place → ⊥) → (o : Option ℕ) → MatchOption o ((p : ℕ) → HasCell stacks ps p n → ⊥) (λ p. HasCell stacks ps p n) → MatchOption o ((p : ℕ) → HasCell stacks (ps ++ place ∷ []) p n → ⊥) (λ p. HasCell stacks (ps ++ place ∷ []) p n)
     carried n ne None h = λ p k. ⊎_elim
         (λ (u : (p < length ps) × (slice_get ps p ≡ Some k.place)). h p (record { place = k.place; is_place = u.1; stack = k.stack; is_stack = k.is_stack; is_number = k.is_number }))

@@ -1,17 +1,15 @@
 -- The tables of the covers over and under the stacks.
-use Rattle.std.proofs.Common.{◌≡◌, ℕ, zero, suc, ◌<◌, ◌≤◌, ◌+◌, List, [], ◌∷◌, ◌++◌, arith, refl, sym, ◌∙◌, ap, ◌⊎◌, inl, inr, ⊎_elim, subst, length, Some, None, take, set, length-set, replicate, add-one}
+use Rattle.std.proofs.Common.{◌≡◌, ℕ, zero, suc, ◌<◌, ◌+◌, List, [], ◌∷◌, ◌++◌, arith, refl, sym, ◌∙◌, ap, ◌⊎◌, inl, inr, ⊎_elim, subst, length, Some, None, length-set, replicate}
 use Rattle.std.specs.Prelude.{slice_get, slice_set, slice_index_or, MatchOption, Option, Contains, All}
 use Rattle.std.proofs.lemmas.Bool.{cases_eq}
-use Rattle.std.proofs.lemmas.List.{take_more}
 use Rattle.std.proofs.lemmas.Option.{none-some, same_Some, slice_get_within, slice_get-get_or, get_or_from_slice_get}
 use Rattle.stow_data.specs.declared.geometry.Cover.{Cover}
-use Rattle.stow_data.specs.declared.geometry.Stack.{Stack}
 use Rattle.stow_data.specs.declared.hatches.Naming.{Naming}
 use Rattle.stow_data.specs.declared.hatches.Naming.TheVariants.{Under, On}
 use Rattle.stow_data.specs.Ship.{Ship, LiesUnder, StandsOn}
-use Rattle.stow_data.specs.Profile.{IsShip, IsCover, IsInHold, IsOnDeck}
+use Rattle.stow_data.specs.Profile.{IsShip, IsCover}
 use Rattle.stow_data.specs.CoverTable.{listed, Names, IsCoverTable}
-use Rattle.stow_data.proofs.Members.{Member, member_of, member_split, member_left, member_right}
+use Rattle.stow_data.proofs.Members.{Member, member_of}
 use Rattle.stow_data.proofs.InOrder.{split_get, get_left, get_right}
 use Rattle.stow_data.proofs.CellLemmas.{member_contains}
 
@@ -75,14 +73,16 @@ last_item xs x = get_right xs (x ∷ []) 0 (length xs) (omega arith)
 
 pub table_more : (covers : List Cover) (cover : Cover) (naming : Naming) (table new : List (Option ℕ)) (number : ℕ) → number ≡ length covers → IsCoverTable covers naming table
     → ((s : ℕ) → Contains (listed naming cover) s → slice_get new s ≡ Some (Some number)) → ((s : ℕ) → (Contains (listed naming cover) s → ⊥) → slice_get new s ≡ slice_get table s) → IsCoverTable (covers ++ cover ∷ []) naming new
-table_more covers cover naming table new number is old these others = record { leads = λ s entry at. ⊎_elim
-    (λ (m : Member s (listed naming cover)). let c = member_contains (listed naming cover) s m in
-    let e : Some number ≡ entry = same_Some (Some number) entry (sym (these s c) ∙ at) in
-    subst (λ (z : Option ℕ). MatchOption z ((k : ℕ) → Names (covers ++ cover ∷ []) naming s k → ⊥) (λ k. Names (covers ++ cover ∷ []) naming s k)) e
-    (record { cover = cover; is_cover = subst (λ (z : ℕ). slice_get (covers ++ cover ∷ []) z ≡ Some cover) (sym is) (last_item covers cover); named = c }))
-    (λ (out : Member s (listed naming cover) → ⊥). let no : Contains (listed naming cover) s → ⊥ = λ c. out (contains_member (listed naming cover) s c) in
-    carried s entry no (old.leads s entry (sym (others s no) ∙ at)))
-    (member_or_not (listed naming cover) s) }
+table_more covers cover naming table new number is old these others = record {
+  leads = λ s entry at. ⊎_elim
+      (λ (m : Member s (listed naming cover)). let c = member_contains (listed naming cover) s m in
+      let e : Some number ≡ entry = same_Some (Some number) entry (sym (these s c) ∙ at) in
+      subst (λ (z : Option ℕ). MatchOption z ((k : ℕ) → Names (covers ++ cover ∷ []) naming s k → ⊥) (λ k. Names (covers ++ cover ∷ []) naming s k)) e
+      (record { cover = cover; is_cover = subst (λ (z : ℕ). slice_get (covers ++ cover ∷ []) z ≡ Some cover) (sym is) (last_item covers cover); named = c }))
+      (λ (out : Member s (listed naming cover) → ⊥). let no : Contains (listed naming cover) s → ⊥ = λ c. out (contains_member (listed naming cover) s c) in
+      carried s entry no (old.leads s entry (sym (others s no) ∙ at)))
+      (member_or_not (listed naming cover) s);
+}
   where
     carried : (s : ℕ) (entry : Option ℕ) → (Contains (listed naming cover) s → ⊥) → MatchOption entry ((k : ℕ) → Names covers naming s k → ⊥) (λ k. Names covers naming s k) → MatchOption entry ((k : ℕ) → Names (covers ++ cover ∷ []) naming s k → ⊥) (λ k. Names (covers ++ cover ∷ []) naming s k)
     carried s None out h = λ k n. ⊎_elim

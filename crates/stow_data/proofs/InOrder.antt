@@ -1,20 +1,19 @@
 -- Places and half-cells by their numbers: each stands once, and they rise by stack and tier.
-use Rattle.std.proofs.Common.{◌≡◌, ℕ, zero, suc, ◌<◌, ◌≤◌, ◌+◌, ◌-◌, Bool, true, false, List, [], ◌∷◌, ◌++◌, arith, refl, sym, ◌∙◌, ap, ◌⊎◌, inl, inr, ⊎_elim, subst, length, Some}
-use Rattle.std.specs.Prelude.{slice_get, slice_index_or, flat_map, map, MatchOption, Option}
+use Rattle.std.proofs.Common.{◌≡◌, ℕ, zero, suc, ◌<◌, ◌≤◌, ◌+◌, ◌-◌, Bool, false, List, [], ◌∷◌, ◌++◌, arith, refl, sym, ◌∙◌, ap, ◌⊎◌, inl, inr, ⊎_elim, subst, length, Some}
+use Rattle.std.specs.Prelude.{slice_get, slice_index_or, flat_map, map}
 use Rattle.std.specs.List.{range_with_len, enumerate_from}
 use Rattle.std.proofs.lemmas.Bool.{false≢true, cases_order}
 use Rattle.std.proofs.lemmas.Option.{none-some, same_Some, slice_get_within}
 use Rattle.stow_data.specs.declared.geometry.Stack.{Stack}
 use Rattle.stow_data.specs.declared.geometry.Span.{Span}
-use Rattle.stow_data.specs.declared.geometry.Span.TheVariants.{Fore, Aft, Both}
 use Rattle.stow_data.specs.declared.geometry.Lengths.{Lengths}
 use Rattle.stow_data.specs.declared.geometry.Lengths.TheVariants.{Forty, Twenty, Mixed, ForeOnly, AftOnly}
 use Rattle.stow_data.specs.declared.geometry.Place.{Place}
 use Rattle.stow_data.specs.declared.geometry.Half.{Half}
 use Rattle.stow_data.specs.Ship.{Ship, places, halves, spans, sides, stack_places, stack_halves, tier_places, tier_halves, IsAbove, IsDirectlyAbove}
-use Rattle.stow_data.proofs.Members.{Member, flat_at, flat_from, map_at, map_from, range_at, range_from, index_of, numbered, listed, member_of}
-use Rattle.stow_data.proofs.Distinct.{Distinct, Differ, distinct_flat, distinct_map, distinct_range, differ_numbers, distinct_get}
-use Rattle.stow_data.proofs.Listed.{place_from, half_from, IsOf, IsHalfOf}
+use Rattle.stow_data.proofs.Members.{Member, flat_at, flat_from, map_at, map_from, range_from, index_of, numbered, listed, member_of}
+use Rattle.stow_data.proofs.Distinct.{Distinct, distinct_flat, distinct_map, distinct_range, differ_numbers, distinct_get}
+use Rattle.stow_data.proofs.Listed.{half_from}
 
 -- an item of two lists joined is one of the first or of the second
 pub split_get : {X : Type 0} (xs ys : List X) (k : ℕ) (z : X) → slice_get (xs ++ ys) k ≡ Some z → ((k < length xs) × (slice_get xs k ≡ Some z)) ⊎ ((j : ℕ) × (k ≡ length xs + j) × (slice_get ys j ≡ Some z))

@@ -5,3 +5,5 @@ pub mod Made
 pub mod InOrder
 pub mod CellLemmas
 pub mod CoverLemmas
+pub mod SampleLemmas
+pub mod KindLemmas

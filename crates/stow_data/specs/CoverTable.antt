@@ -1,5 +1,5 @@
 -- The tables of the covers over and under the stacks.
-use Rattle.std.specs.Prelude.{◌≡◌, ℕ, List, Option, Some, None, MatchOption, slice_get, Contains}
+use Rattle.std.specs.Prelude.{◌≡◌, ℕ, List, Option, Some, MatchOption, slice_get, Contains}
 use Rattle.stow_data.specs.declared.geometry.Cover.{Cover}
 use Rattle.stow_data.specs.declared.hatches.Naming.{Naming}
 use Rattle.stow_data.specs.declared.hatches.Naming.TheVariants.{Under, On}

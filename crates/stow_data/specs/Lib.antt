@@ -5,3 +5,6 @@ pub mod CoverTable
 pub mod Tables
 pub mod Shipment
 pub mod Cargoes
+pub mod Kinds
+pub mod KindFields
+pub mod Sample

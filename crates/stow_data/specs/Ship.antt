@@ -1,5 +1,5 @@
 -- A ship: stacks, half-cells, places, columns and covers (ISO 9711).
-use Rattle.std.specs.Prelude.{◌≡◌, ℕ, ◌+◌, ◌-◌, ◌*◌, ◌<◌, ◌≤◌, Bool, true, false, List, [], ◌∷◌, Option, Some, None, slice_get, slice_index_or, length, flat_map, map, Contains, IsTrue}
+use Rattle.std.specs.Prelude.{◌≡◌, ℕ, ◌+◌, ◌-◌, ◌*◌, Bool, true, false, List, [], ◌∷◌, Some, slice_get, slice_index_or, flat_map, map, Contains, IsTrue}
 use Rattle.std.specs.List.{enumerate_from, range_with_len}
 use Rattle.stow_data.specs.declared.geometry.Stack.{Stack}
 use Rattle.stow_data.specs.declared.geometry.Cover.{Cover}

@@ -11,7 +11,7 @@ set-requires c = omega (arith, c.stack.view_is, c.stack-item.is, c.requires c.lo
 pub loop-stack-preserved : goal.loop-stack-preserved
 loop-stack-preserved c =
     let more : take (c.loop-stack.stack-index + 1) c.args.stacks.now ≡ take c.loop-stack.stack-index c.args.stacks.now ++ c.stack-item.result ∷ [] =
-        take_more c.args.stacks.now c.loop-stack.stack-index c.stack-item.result c.loop-stack-test.true ∙ ap (λ (z : ℕ). take c.loop-stack.stack-index c.args.stacks.now ++ z ∷ []) (sym c.stack-item.is) in
+    take_more c.args.stacks.now c.loop-stack.stack-index c.stack-item.result c.loop-stack-test.true ∙ ap (λ (z : ℕ). take c.loop-stack.stack-index c.args.stacks.now ++ z ∷ []) (sym c.stack-item.is) in
     c.set.ensures
     ∙ ap (λ (k : ℕ). set c.loop-stack.table k (Some c.args.cover)) c.stack.view_is
     ∙ ap (λ (t : List (Option ℕ)). set t c.stack-item.result (Some c.args.cover)) c.loop-stack.invariant

@@ -1,4 +1,4 @@
-use Rattle.std.proofs.Common.{◌≡◌, ◌+◌, ◌<◌, ℕ, arith, ap, subst, length}
+use Rattle.std.proofs.Common.{◌≡◌, ◌+◌, ℕ, arith, ap, subst, length}
 use Rattle.std.proofs.lemmas.Option.{slice_get_within}
 use Rattle.stow_data.specs.Ship.{halves, sides, IsAbove}
 use Rattle.stow_data.proofs.InOrder.{half_stack_in, half_low, above_at, none_above}

@@ -1,6 +1,6 @@
 use Rattle.std.proofs.Common.{◌≡◌, ◌-◌, ℕ, arith, ap, subst, length}
 use Rattle.stow_data.specs.Ship.{IsAbove}
-use Rattle.stow_data.proofs.InOrder.{half_stack_in, below_at, none_below}
+use Rattle.stow_data.proofs.InOrder.{half_stack_in, below_at}
 use Rattle.stow_data.proofs.vessel.Ship.below.Goals as goal
 
 pub stack-stack-requires : goal.stack-stack-requires

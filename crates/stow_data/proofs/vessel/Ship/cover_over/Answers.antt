@@ -1,4 +1,4 @@
-use Rattle.std.proofs.Common.{◌≡◌, arith, ap, subst, length}
+use Rattle.std.proofs.Common.{arith, ap, subst, length}
 use Rattle.stow_data.specs.Ship.{Ship}
 use Rattle.stow_data.specs.Profile.{IsShip}
 use Rattle.stow_data.proofs.CoverLemmas.{over_said, under_in}

@@ -1,11 +1,8 @@
-use Rattle.std.proofs.Common.{◌≡◌, ◌∙◌, ap, sym, subst, List}
+use Rattle.std.proofs.Common.{◌≡◌, ◌∙◌, ap}
 use Rattle.std.specs.Prelude.{flat_map}
 use Rattle.std.specs.List.{enumerate_from}
-use Rattle.stow_data.specs.declared.geometry.Cover.{Cover}
 use Rattle.stow_data.specs.declared.hatches.Naming.TheVariants.{Under, On}
 use Rattle.stow_data.specs.Ship.{places, halves, stack_places, stack_halves}
-use Rattle.stow_data.specs.CellTable.{IsCellTable}
-use Rattle.stow_data.specs.CoverTable.{IsCoverTable}
 use Rattle.stow_data.proofs.CellLemmas.{each_bounded}
 use Rattle.stow_data.proofs.CoverLemmas.{named_in}
 use Rattle.stow_data.proofs.vessel.Ship.new.Goals as goal
