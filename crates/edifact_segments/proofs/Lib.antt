@@ -1,0 +1,4 @@
+pub mod PieceLemmas
+pub mod CanonicalLemmas
+pub mod WrittenLemmas
+pub mod Determined

@@ -1,0 +1,5 @@
+pub mod Pieces
+pub mod Elements
+pub mod Canonical
+pub mod Written
+pub mod Characters

@@ -1,0 +1,6 @@
+pub mod Plan
+pub mod Departure
+pub mod Moves
+pub mod Voyage
+pub mod Least
+pub mod Shown
