@@ -9,3 +9,5 @@ pub mod Upper
 pub mod Exact
 pub mod Closed
 pub mod Whole
+pub mod Fillers
+pub mod RulesHold

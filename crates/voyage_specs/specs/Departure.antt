@@ -88,12 +88,12 @@ near_by ship level p q = ((level == 1) && ((p.stack == q.stack) && ((p.tier == q
 abbrev pub near : Ship → ℕ → Place → Place → Bool
 near ship level p q = near_by ship level p q && not (meets p q)
 
--- a separation: no container of its one class stands near one of its other class
-abbrev pub IsSeparatedBy : Ship → Cargo → Plan → Separation → Type 0
-IsSeparatedBy ship cargo plan rule = (p q c d : ℕ) (first second : Place) (x y : Container) → Stands ship cargo plan p c first x → Stands ship cargo plan q d second y → x.class ≡ Some rule.a → y.class ≡ Some rule.b → near ship rule.level first second ≡ false
+-- separation e: no container of its class a stands near one of its class b
+abbrev pub IsSeparatedBy : Ship → Cargo → Plan → ℕ → Type 0
+IsSeparatedBy ship cargo plan e = (rule : Separation) (p q c d : ℕ) (first second : Place) (x y : Container) → slice_get ship.separations e ≡ Some rule → Stands ship cargo plan p c first x → Stands ship cargo plan q d second y → x.class ≡ Some rule.a → y.class ≡ Some rule.b → near ship rule.level first second ≡ false
 
 abbrev pub IsSeparated : Ship → Cargo → Plan → Type 0
-IsSeparated ship cargo plan = (e : ℕ) (rule : Separation) → slice_get ship.separations e ≡ Some rule → IsSeparatedBy ship cargo plan rule
+IsSeparated ship cargo plan = (e : ℕ) → IsSeparatedBy ship cargo plan e
 
 -- a well-formed plan of exactly the containers that are aboard after the call, by the first three rules
 pub record IsStowed (ship : Ship) (cargo : Cargo) (call : ℕ) (plan : Plan) : Type 0 where

@@ -1,0 +1,92 @@
+-- The rules of plans and departures place by place, as the plain programs look at them.
+use Rattle.std.specs.Prelude.{◌≡◌, ℕ, ◌+◌, ◌<◌, ◌≤◌, Bool, false, Option, Some, slice_get, IsTrue}
+use Rattle.stow_data.specs.declared.geometry.Half.{Half}
+use Rattle.stow_data.specs.declared.geometry.Place.{Place}
+use Rattle.stow_data.specs.declared.geometry.Stack.{Stack}
+use Rattle.stow_data.specs.declared.geometry.Length.{Length}
+use Rattle.stow_data.specs.declared.geometry.Separation.{Separation as Separated}
+use Rattle.stow_data.specs.declared.shipments.Container.{Container}
+use Rattle.stow_data.specs.Ship.{Ship, places, HasHalf, HasLength, TakesSide}
+use Rattle.stow_data.specs.Shipment.{Cargo, IsAboard}
+use Rattle.voyage_specs.specs.declared.rules.Rule.{Rule}
+use Rattle.voyage_specs.specs.declared.rules.Rule.TheVariants.{Support, TwentyOnForty, NoPlug, StackWeight, Separation}
+use Rattle.voyage_specs.specs.Plan.{Plan, Holds, Fills, Stands}
+use Rattle.voyage_specs.specs.Departure.{half_of, IsTwenty, IsSupported, IsTwentyOnTwenty, IsPlugged, IsWithinLimits, IsSeparated, IsSeparatedBy, stack_weight, near}
+use Rattle.voyage_specs.specs.Moves.{Bears}
+
+-- container c fills the half-cell from place n
+pub record FillsFrom (ship : Ship) (plan : Plan) (n : ℕ) (h : Half) (c : ℕ) : Type 0 where
+  pub place : Place
+  pub is_place : slice_get (places ship) n ≡ Some place
+  pub has_half : HasHalf place h
+  pub holds : Holds plan n c
+
+-- something fills the half-cell; from place n
+abbrev pub IsTaken : Ship → Plan → Half → Type 0
+IsTaken ship plan h = (c : ℕ) × Fills ship plan h c
+
+abbrev pub IsTakenFrom : Ship → Plan → Half → ℕ → Type 0
+IsTakenFrom ship plan h n = (c : ℕ) × FillsFrom ship plan n h c
+
+-- what fills the half-cell bears a container of this length; from place n
+abbrev pub IsBearing : Ship → Cargo → Plan → Length → Half → Type 0
+IsBearing ship cargo plan long h = (d : ℕ) × Fills ship plan h d × Bears cargo long d
+
+abbrev pub IsBearingFrom : Ship → Cargo → Plan → Length → Half → ℕ → Type 0
+IsBearingFrom ship cargo plan long h n = (d : ℕ) × FillsFrom ship plan n h d × Bears cargo long d
+
+-- none but a 20-foot container fills the half-cell; from place n
+abbrev pub HasTwentyOnly : Ship → Cargo → Plan → Half → Type 0
+HasTwentyOnly ship cargo plan h = (d : ℕ) → Fills ship plan h d → IsTwenty cargo d
+
+abbrev pub HasTwentyOnlyFrom : Ship → Cargo → Plan → Half → ℕ → Type 0
+HasTwentyOnlyFrom ship cargo plan h n = (d : ℕ) → FillsFrom ship plan n h d → IsTwenty cargo d
+
+-- the half-cell below one side of a place, if there is one, is filled; holds none but a 20-foot container
+abbrev pub RestsOn : Ship → Plan → Place → Bool → Type 0
+RestsOn ship plan place side = (t : ℕ) → TakesSide place.span side → place.tier ≡ t + 1 → IsTaken ship plan (half_of place.stack t side)
+
+abbrev pub RestsOnTwenty : Ship → Cargo → Plan → Place → Bool → Type 0
+RestsOnTwenty ship cargo plan place side = (t : ℕ) → TakesSide place.span side → place.tier ≡ t + 1 → HasTwentyOnly ship cargo plan (half_of place.stack t side)
+
+-- what stands at place n is supported; if it is a 20-foot container, by none but 20-foot ones; if it is a reefer, at a plug
+abbrev pub SupportedAt : Ship → Plan → ℕ → Type 0
+SupportedAt ship plan n = (place : Place) (c : ℕ) (side : Bool) → slice_get (places ship) n ≡ Some place → Holds plan n c → RestsOn ship plan place side
+
+abbrev pub TwentyAt : Ship → Cargo → Plan → ℕ → Type 0
+TwentyAt ship cargo plan n = (place : Place) (c : ℕ) (side : Bool) → slice_get (places ship) n ≡ Some place → Holds plan n c → IsTwenty cargo c → RestsOnTwenty ship cargo plan place side
+
+abbrev pub PluggedAt : Ship → Cargo → Plan → ℕ → Type 0
+PluggedAt ship cargo plan n = (c : ℕ) (place : Place) (container : Container) → Stands ship cargo plan n c place container → IsTrue container.reefer → IsTrue place.plug
+
+-- stack s is within its limit
+abbrev pub WithinAt : Ship → Cargo → Plan → ℕ → Type 0
+WithinAt ship cargo plan s = (stack : Stack) → slice_get ship.stacks s ≡ Some stack → stack_weight ship cargo plan s ≤ stack.limit_kg
+
+-- places p and q keep a separation; place p keeps it from all others
+abbrev pub KeptApart : Ship → Cargo → Plan → Separated → ℕ → ℕ → Type 0
+KeptApart ship cargo plan rule p q = (c d : ℕ) (first second : Place) (x y : Container) → Stands ship cargo plan p c first x → Stands ship cargo plan q d second y → x.class ≡ Some rule.a → y.class ≡ Some rule.b → near ship rule.level first second ≡ false
+
+abbrev pub KeptApartFrom : Ship → Cargo → Plan → Separated → ℕ → Type 0
+KeptApartFrom ship cargo plan rule p = (q : ℕ) → KeptApart ship cargo plan rule p q
+
+-- what a departure rule demands
+abbrev pub Obeys : Ship → Cargo → Plan → Rule → Type 0
+Obeys ship cargo plan Support = IsSupported ship plan
+Obeys ship cargo plan TwentyOnForty = IsTwentyOnTwenty ship cargo plan
+Obeys ship cargo plan NoPlug = IsPlugged ship cargo plan
+Obeys ship cargo plan StackWeight = IsWithinLimits ship cargo plan
+Obeys ship cargo plan (Separation e) = IsSeparatedBy ship cargo plan e
+
+-- the rules in order: by number, separations by their index
+abbrev pub rule_number : Rule → ℕ
+rule_number Support = 1
+rule_number TwentyOnForty = 2
+rule_number NoPlug = 3
+rule_number StackWeight = 4
+rule_number (Separation e) = 5 + e
+
+-- the plan breaks this rule and none before it
+pub record BreaksFirst (ship : Ship) (cargo : Cargo) (plan : Plan) (rule : Rule) : Type 0 where
+  pub broken : Obeys ship cargo plan rule → ⊥
+  pub none_before : (r : Rule) → rule_number r < rule_number rule → Obeys ship cargo plan r
