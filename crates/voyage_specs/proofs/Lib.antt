@@ -11,3 +11,4 @@ pub mod Closed
 pub mod Whole
 pub mod Fillers
 pub mod RulesHold
+pub mod PlansHold

@@ -1,5 +1,5 @@
 -- The rules of plans and departures place by place, as the plain programs look at them.
-use Rattle.std.specs.Prelude.{◌≡◌, ℕ, ◌+◌, ◌<◌, ◌≤◌, Bool, false, Option, Some, slice_get, IsTrue}
+use Rattle.std.specs.Prelude.{◌≡◌, ℕ, ◌+◌, ◌<◌, ◌≤◌, ◌↔◌, Bool, false, List, Option, Some, slice_get, IsTrue}
 use Rattle.stow_data.specs.declared.geometry.Half.{Half}
 use Rattle.stow_data.specs.declared.geometry.Place.{Place}
 use Rattle.stow_data.specs.declared.geometry.Stack.{Stack}
@@ -11,7 +11,7 @@ use Rattle.stow_data.specs.Shipment.{Cargo, IsAboard}
 use Rattle.voyage_specs.specs.declared.rules.Rule.{Rule}
 use Rattle.voyage_specs.specs.declared.rules.Rule.TheVariants.{Support, TwentyOnForty, NoPlug, StackWeight, Separation}
 use Rattle.voyage_specs.specs.Plan.{Plan, Holds, Fills, Stands}
-use Rattle.voyage_specs.specs.Departure.{half_of, IsTwenty, IsSupported, IsTwentyOnTwenty, IsPlugged, IsWithinLimits, IsSeparated, IsSeparatedBy, stack_weight, near}
+use Rattle.voyage_specs.specs.Departure.{half_of, IsTwenty, IsSupported, IsTwentyOnTwenty, IsPlugged, IsWithinLimits, IsSeparated, IsSeparatedBy, stack_weight, weight_in, near}
 use Rattle.voyage_specs.specs.Moves.{Bears}
 
 -- container c fills the half-cell from place n
@@ -63,12 +63,48 @@ PluggedAt ship cargo plan n = (c : ℕ) (place : Place) (container : Container) 
 abbrev pub WithinAt : Ship → Cargo → Plan → ℕ → Type 0
 WithinAt ship cargo plan s = (stack : Stack) → slice_get ship.stacks s ≡ Some stack → stack_weight ship cargo plan s ≤ stack.limit_kg
 
+-- the weight of what stands at place n, where that is in stack s
+abbrev pub WeighsAt : Ship → Cargo → Plan → ℕ → ℕ → ℕ → Type 0
+WeighsAt ship cargo plan s n weight = (place : Place) (o : Option ℕ) → slice_get (places ship) n ≡ Some place → slice_get plan n ≡ Some o → weight ≡ weight_in ship.weight_step cargo s (place, o)
+
+-- a container of this class stands at place n
+pub record HasClassAt (cargo : Cargo) (plan : Plan) (n : ℕ) (class : List ℕ) : Type 0 where
+  pub number : ℕ
+  pub holds : Holds plan n number
+  pub container : Container
+  pub is_container : slice_get cargo.containers number ≡ Some container
+  pub is_class : container.class ≡ Some class
+
 -- places p and q keep a separation; place p keeps it from all others
 abbrev pub KeptApart : Ship → Cargo → Plan → Separated → ℕ → ℕ → Type 0
-KeptApart ship cargo plan rule p q = (c d : ℕ) (first second : Place) (x y : Container) → Stands ship cargo plan p c first x → Stands ship cargo plan q d second y → x.class ≡ Some rule.a → y.class ≡ Some rule.b → near ship rule.level first second ≡ false
+KeptApart ship cargo plan rule p q = (first second : Place) → slice_get (places ship) p ≡ Some first → slice_get (places ship) q ≡ Some second → HasClassAt cargo plan p rule.a → HasClassAt cargo plan q rule.b → near ship rule.level first second ≡ false
 
 abbrev pub KeptApartFrom : Ship → Cargo → Plan → Separated → ℕ → Type 0
 KeptApartFrom ship cargo plan rule p = (q : ℕ) → KeptApart ship cargo plan rule p q
+
+-- separation e is the first that the plan breaks
+pub record IsFirstUnseparated (ship : Ship) (cargo : Cargo) (plan : Plan) (e : ℕ) : Type 0 where
+  pub broken : IsSeparatedBy ship cargo plan e → ⊥
+  pub kept_before : (k : ℕ) → k < e → IsSeparatedBy ship cargo plan k
+
+-- what stands at place n is a container of the cargo whose length fits there
+abbrev pub FitsAt : Ship → Cargo → Plan → ℕ → Type 0
+FitsAt ship cargo plan n = (c : ℕ) → Holds plan n c → (container : Container) × (slice_get cargo.containers c ≡ Some container) × ((place : Place) → slice_get (places ship) n ≡ Some place → HasLength place.span container.long)
+
+-- places p and q, if they aren't one, hold different containers and have no half-cell in common where both are filled
+pub record StandsAlone (ship : Ship) (plan : Plan) (p q : ℕ) : Type 0 where
+  pub apart : (h : Half) (c d : ℕ) → FillsFrom ship plan p h c → FillsFrom ship plan q h d → p ≡ q
+  pub once : (c : ℕ) → Holds plan p c → Holds plan q c → p ≡ q
+
+abbrev pub StandsAloneAt : Ship → Plan → ℕ → Type 0
+StandsAloneAt ship plan p = (q : ℕ) → StandsAlone ship plan p q
+
+-- container c stands somewhere; exactly where it is aboard
+abbrev pub IsSomewhere : Plan → ℕ → Type 0
+IsSomewhere plan c = (p : ℕ) × Holds plan p c
+
+abbrev pub AboardAt : Cargo → ℕ → Plan → ℕ → Type 0
+AboardAt cargo call plan c = (container : Container) → slice_get cargo.containers c ≡ Some container → IsSomewhere plan c ↔ IsAboard call container
 
 -- what a departure rule demands
 abbrev pub Obeys : Ship → Cargo → Plan → Rule → Type 0
@@ -77,6 +113,13 @@ Obeys ship cargo plan TwentyOnForty = IsTwentyOnTwenty ship cargo plan
 Obeys ship cargo plan NoPlug = IsPlugged ship cargo plan
 Obeys ship cargo plan StackWeight = IsWithinLimits ship cargo plan
 Obeys ship cargo plan (Separation e) = IsSeparatedBy ship cargo plan e
+
+pub record ObeysAll (ship : Ship) (cargo : Cargo) (plan : Plan) : Type 0 where
+  pub supported : IsSupported ship plan
+  pub twenty : IsTwentyOnTwenty ship cargo plan
+  pub plugged : IsPlugged ship cargo plan
+  pub within : IsWithinLimits ship cargo plan
+  pub separated : IsSeparated ship cargo plan
 
 -- the rules in order: by number, separations by their index
 abbrev pub rule_number : Rule → ℕ
