@@ -12,3 +12,4 @@ pub mod Whole
 pub mod Fillers
 pub mod RulesHold
 pub mod PlansHold
+pub mod MovesHold

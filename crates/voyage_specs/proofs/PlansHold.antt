@@ -1,7 +1,7 @@
 -- Well-formed plans, from what holds place by place.
 use Rattle.std.specs.Prelude.{◌≡◌, ℕ, ◌<◌, ◌≤◌, Bool, true, false, length, slice_get, Some, ◌==◌, ◌&&◌}
 use Rattle.std.proofs.Common.{refl, sym, ◌∙◌, ap, subst, arith}
-use Rattle.std.proofs.lemmas.Bool.{and_from, and_parts, both_ways, eq-eqb, eqb-true}
+use Rattle.std.proofs.lemmas.Bool.{and_from, and_parts, both_ways, eq-eqb, eqb-true, false_from_ne_true}
 use Rattle.std.proofs.lemmas.Option.{slice_get_within, same_Some}
 use Rattle.stow_data.specs.declared.geometry.Half.{Half}
 use Rattle.stow_data.specs.declared.geometry.Place.{Place}
@@ -86,3 +86,22 @@ alone_from ship cargo plan formed p q = record {
   apart = λ h c d x y. formed.apart h c d (record { number = p; place = x.place; is_place = x.is_place; has_half = x.has_half; holds = x.holds }) (record { number = q; place = y.place; is_place = y.is_place; has_half = y.has_half; holds = y.holds });
   once = λ c x y. formed.once p q c x y;
 }
+
+-- two filled places
+pub alone_pair : (ship : Ship) (plan : Plan) (p q c d : ℕ) (first second : Place) → slice_get (places ship) p ≡ Some first → slice_get (places ship) q ≡ Some second → Holds plan p c → Holds plan q d → (c ≡ d → ⊥) → meets first second ≡ false → StandsAlone ship plan p q
+alone_pair ship plan p q c d first second is_p is_q held_p held_q other far = record {
+  apart = λ h e f x y.
+      let m = meets_from x.place y.place h x.has_half y.has_half in
+      let a : x.place ≡ first = same_Some x.place first (sym x.is_place ∙ is_p) in
+      let b : y.place ≡ second = same_Some y.place second (sym y.is_place ∙ is_q) in
+      absurd (both_ways (meets first second) far (subst (λ (z : Place). meets first z ≡ true) b (subst (λ (z : Place). meets z y.place ≡ true) a m)));
+  once = λ e x y.
+      let a : c ≡ e = same_Some c e (same_Some (Some c) (Some e) (sym held_p ∙ x)) in
+      let b : d ≡ e = same_Some d e (same_Some (Some d) (Some e) (sym held_q ∙ y)) in
+      absurd (other (a ∙ sym b));
+}
+
+pub far_from : (ship : Ship) (plan : Plan) (p q c d : ℕ) (first second : Place) → slice_get (places ship) p ≡ Some first → slice_get (places ship) q ≡ Some second → Holds plan p c → Holds plan q d → (p ≡ q → ⊥) → StandsAlone ship plan p q → meets first second ≡ false
+far_from ship plan p q c d first second is_p is_q held_p held_q other alone = false_from_ne_true (meets first second) (λ m.
+    let h = meeting_half first second m in
+    other (alone.apart h.0 c d (record { place = first; is_place = is_p; has_half = h.1; holds = held_p }) (record { place = second; is_place = is_q; has_half = h.2; holds = held_q })))

@@ -1,18 +1,19 @@
 -- The rules of plans and departures place by place, as the plain programs look at them.
-use Rattle.std.specs.Prelude.{◌≡◌, ℕ, ◌+◌, ◌<◌, ◌≤◌, ◌↔◌, Bool, false, List, Option, Some, slice_get, IsTrue}
+use Rattle.std.specs.Prelude.{◌≡◌, ℕ, ◌+◌, ◌<◌, ◌≤◌, ◌↔◌, Bool, true, false, List, Option, Some, length, take, slice_get, IsTrue}
 use Rattle.stow_data.specs.declared.geometry.Half.{Half}
 use Rattle.stow_data.specs.declared.geometry.Place.{Place}
 use Rattle.stow_data.specs.declared.geometry.Stack.{Stack}
 use Rattle.stow_data.specs.declared.geometry.Length.{Length}
 use Rattle.stow_data.specs.declared.geometry.Separation.{Separation as Separated}
 use Rattle.stow_data.specs.declared.shipments.Container.{Container}
-use Rattle.stow_data.specs.Ship.{Ship, places, HasHalf, HasLength, TakesSide}
+use Rattle.stow_data.specs.Ship.{Ship, places, HasHalf, HasLength, LiesUnder, StandsOn, TakesSide, half_at, half_over}
 use Rattle.stow_data.specs.Shipment.{Cargo, IsAboard}
 use Rattle.voyage_specs.specs.declared.rules.Rule.{Rule}
 use Rattle.voyage_specs.specs.declared.rules.Rule.TheVariants.{Support, TwentyOnForty, NoPlug, StackWeight, Separation}
 use Rattle.voyage_specs.specs.Plan.{Plan, Holds, Fills, Stands}
 use Rattle.voyage_specs.specs.Departure.{half_of, IsTwenty, IsSupported, IsTwentyOnTwenty, IsPlugged, IsWithinLimits, IsSeparated, IsSeparatedBy, stack_weight, weight_in, near}
-use Rattle.voyage_specs.specs.Moves.{Bears}
+use Rattle.voyage_specs.specs.declared.moves.Move.{Move}
+use Rattle.voyage_specs.specs.Moves.{State, Allowed, AllAllowed, Bears, end_of}
 
 -- container c fills the half-cell from place n
 pub record FillsFrom (ship : Ship) (plan : Plan) (n : ℕ) (h : Half) (c : ℕ) : Type 0 where
@@ -133,3 +134,43 @@ rule_number (Separation e) = 5 + e
 pub record BreaksFirst (ship : Ship) (cargo : Cargo) (plan : Plan) (rule : Rule) : Type 0 where
   pub broken : Obeys ship cargo plan rule → ⊥
   pub none_before : (r : Rule) → rule_number r < rule_number rule → Obeys ship cargo plan r
+
+-- the lists of a state have an entry for each place, container and cover
+pub record BelongsTo (ship : Ship) (cargo : Cargo) (s : State) : Type 0 where
+  pub each_place : length s.plan ≡ length (places ship)
+  pub each_container : length s.quay ≡ length cargo.containers
+  pub each_cover : length s.off ≡ length ship.covers
+
+-- each cover over a stack is off; each cover under it is on; for one cover
+abbrev pub IsOpenBy : Ship → List Bool → ℕ → ℕ → Type 0
+IsOpenBy ship off stack k = LiesUnder ship stack k → slice_get off k ≡ Some true
+
+abbrev pub IsOpen : Ship → List Bool → ℕ → Type 0
+IsOpen ship off stack = (k : ℕ) → IsOpenBy ship off stack k
+
+abbrev pub IsShutBy : Ship → List Bool → ℕ → ℕ → Type 0
+IsShutBy ship off stack k = StandsOn ship stack k → slice_get off k ≡ Some false
+
+abbrev pub IsShut : Ship → List Bool → ℕ → Type 0
+IsShut ship off stack = (k : ℕ) → IsShutBy ship off stack k
+
+-- place p holds nothing or isn't on cover k
+abbrev pub IsBareAt : Ship → Plan → ℕ → ℕ → Type 0
+IsBareAt ship plan k p = (c : ℕ) (place : Place) → slice_get (places ship) p ≡ Some place → StandsOn ship place.stack k → Holds plan p c → ⊥
+
+-- nothing is above one side of a place, or in it; what is below it bears a container of this length
+abbrev pub IsClearOn : Ship → Plan → Place → Bool → Type 0
+IsClearOn ship plan p side = TakesSide p.span side → IsTaken ship plan (half_over p side) → ⊥
+
+abbrev pub IsEmptyOn : Ship → Plan → Place → Bool → Type 0
+IsEmptyOn ship plan p side = TakesSide p.span side → IsTaken ship plan (half_at p side) → ⊥
+
+abbrev pub IsBorneOn : Ship → Cargo → Plan → Place → Length → Bool → Type 0
+IsBorneOn ship cargo plan p long side = (t : ℕ) → TakesSide p.span side → p.tier ≡ t + 1 → IsBearing ship cargo plan long (half_of p.stack t side)
+
+-- the first moves of a list are allowed, and the next one isn't
+pub record RefusesAt (ship : Ship) (cargo : Cargo) (call : ℕ) (s : State) (moves : List Move) (n : ℕ) : Type 0 where
+  pub move : Move
+  pub is_move : slice_get moves n ≡ Some move
+  pub allowed : AllAllowed ship cargo call s (take n moves)
+  pub refused : Allowed ship cargo (end_of cargo call s (take n moves)) move → ⊥

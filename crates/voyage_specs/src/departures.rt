@@ -6,8 +6,8 @@ ghost use Rattle.voyage_specs.specs.Plan.{Holds, IsWellFormed};
 ghost use Rattle.voyage_specs.specs.Departure.{HoldsAboard, IsStowed, IsDeparture};
 ghost use Rattle.voyage_specs.specs.Places.{AboardAt, FitsAt, IsSomewhere, StandsAlone, StandsAloneAt};
 
-use crate::rules::{broken_rule, is_plugged, is_supported, is_twenty_on_twenty};
-use crate::separation::shares_half;
+use crate::rules::{is_plugged, is_supported, is_twenty_on_twenty, is_within_limits};
+use crate::separation::{broken_separation, shares_half};
 use stow_data::{CallNo, Cargo, Container, ContainerNo, Length, PlaceNo, Plan, Ship, Span};
 
 /// Whether the span takes a container of this length.
@@ -157,11 +157,13 @@ pub fn is_stowed(ship: &Ship, cargo: &Cargo, plan: &Plan, call: CallNo) -> bool
     requires { length plan.now ≡ length (places ship.now) }
     ensures { IsTrue result ↔ IsStowed ship.now cargo.now call plan.now }
 {
-    is_well_formed(ship, cargo, plan)
-        && holds_aboard(ship, cargo, plan, call)
-        && is_supported(ship, plan)
-        && is_twenty_on_twenty(ship, cargo, plan)
-        && is_plugged(ship, cargo, plan)
+    if !is_well_formed(ship, cargo, plan) || !holds_aboard(ship, cargo, plan, call) {
+        return false;
+    }
+    if !is_supported(ship, plan) || !is_twenty_on_twenty(ship, cargo, plan) {
+        return false;
+    }
+    is_plugged(ship, cargo, plan)
 }
 
 /// Whether a plan is a legal departure of the call.
@@ -169,5 +171,11 @@ pub fn is_departure(ship: &Ship, cargo: &Cargo, plan: &Plan, call: CallNo) -> bo
     requires { length plan.now ≡ length (places ship.now) }
     ensures { IsTrue result ↔ IsDeparture ship.now cargo.now call plan.now }
 {
-    is_stowed(ship, cargo, plan, call) && broken_rule(ship, cargo, plan).is_none()
+    if !is_stowed(ship, cargo, plan, call) || !is_within_limits(ship, cargo, plan) {
+        return false;
+    }
+    match broken_separation(ship, cargo, plan) {
+        Some(_) => false,
+        None => true,
+    }
 }
