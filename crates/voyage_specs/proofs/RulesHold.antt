@@ -29,7 +29,7 @@ all_supported ship plan m l all = λ stack tier aft c x.
     (all x.number (let i : x.number < length (places ship) = slice_get_within (places ship) x.number x.place x.is_place in omega arith) x.place c aft x.is_place x.holds tier x.has_half.side (sym x.has_half.same_tier))
 
 -- a place with something in it, by its two sides
-by_side : (P : Bool → Type 0) → P false → P true → (side : Bool) → P side
+pub by_side : (P : Bool → Type 0) → P false → P true → (side : Bool) → P side
 by_side P fore aft false = fore
 by_side P fore aft true = aft
 

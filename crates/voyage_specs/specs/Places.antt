@@ -6,7 +6,7 @@ use Rattle.stow_data.specs.declared.geometry.Stack.{Stack}
 use Rattle.stow_data.specs.declared.geometry.Length.{Length}
 use Rattle.stow_data.specs.declared.geometry.Separation.{Separation as Separated}
 use Rattle.stow_data.specs.declared.shipments.Container.{Container}
-use Rattle.stow_data.specs.Ship.{Ship, places, HasHalf, HasLength, LiesUnder, StandsOn, TakesSide, half_at, half_over}
+use Rattle.stow_data.specs.Ship.{Ship, places, Fits, HasHalf, HasLength, LiesUnder, StandsOn, TakesSide, half_at, half_over}
 use Rattle.stow_data.specs.Shipment.{Cargo, IsAboard}
 use Rattle.voyage_specs.specs.declared.rules.Rule.{Rule}
 use Rattle.voyage_specs.specs.declared.rules.Rule.TheVariants.{Support, TwentyOnForty, NoPlug, StackWeight, Separation}
@@ -167,6 +167,20 @@ IsEmptyOn ship plan p side = TakesSide p.span side → IsTaken ship plan (half_a
 
 abbrev pub IsBorneOn : Ship → Cargo → Plan → Place → Length → Bool → Type 0
 IsBorneOn ship cargo plan p long side = (t : ℕ) → TakesSide p.span side → p.tier ≡ t + 1 → IsBearing ship cargo plan long (half_of p.stack t side)
+
+-- what a put of a container on a place asks beside their being there
+pub record PassesPut (ship : Ship) (cargo : Cargo) (s : State) (c : ℕ) (container : Container) (place : Place) : Type 0 where
+  pub on_quay : slice_get s.quay c ≡ Some true
+  pub fits : Fits place container.long container.reefer
+  pub open_over : IsOpen ship s.off place.stack
+  pub shut_under : IsShut ship s.off place.stack
+  pub empty : (side : Bool) → IsEmptyOn ship s.plan place side
+  pub borne : (side : Bool) → IsBorneOn ship cargo s.plan place container.long side
+
+-- what a lift from a filled place asks
+pub record PassesLift (ship : Ship) (s : State) (place : Place) : Type 0 where
+  pub clear : (side : Bool) → IsClearOn ship s.plan place side
+  pub open_over : IsOpen ship s.off place.stack
 
 -- the first moves of a list are allowed, and the next one isn't
 pub record RefusesAt (ship : Ship) (cargo : Cargo) (call : ℕ) (s : State) (moves : List Move) (n : ℕ) : Type 0 where

@@ -1,14 +1,14 @@
 //! The state at a call, and which crane moves it allows: plain, slow programs.
-ghost use Rattle.std.specs.Prelude.{◌≡◌, ◌↔◌, ◌<◌, ℕ, ◌≤◌, ◌==◌, IfOk, IsTrue, length, map};
+ghost use Rattle.std.specs.Prelude.{◌≡◌, ◌↔◌, ◌<◌, ℕ, Bool, Some, slice_get, ◌≤◌, ◌==◌, IfOk, IsTrue, length, map};
 ghost use Rattle.stow_data.specs.Ship.{places, LiesUnder, StandsOn};
-ghost use Rattle.voyage_specs.specs.Moves.{Allowed, CanLift, CanPut, IsBare, IsClear, after, rehandles_of};
+ghost use Rattle.voyage_specs.specs.Moves.{Allowed, CanLift, CanPut, IsBare, leaves};
 ghost use Rattle.voyage_specs.specs.Voyage.{start};
-ghost use Rattle.voyage_specs.specs.Places.{BelongsTo, IsBareAt, IsBorneOn, IsClearOn, IsEmptyOn, IsOpen, IsOpenBy, IsShut, IsShutBy};
+ghost use Rattle.voyage_specs.specs.Places.{BelongsTo, IsBareAt, IsBorneOn, IsClearOn, IsEmptyOn, IsOpen, IsOpenBy, IsShut, IsShutBy, PassesLift, PassesPut};
 
 use crate::half_cells::{is_bearing, is_taken, takes_side};
 use crate::moves::Move;
 use stow_data::{
-    CallNo, Cargo, ContainerNo, CoverNo, FlagList, Half, Length, NoMemory, Place, PlaceNo, Plan,
+    CallNo, Cargo, Container, ContainerNo, CoverNo, FlagList, Half, Length, NoMemory, Place, PlaceNo, Plan,
     Seq, Ship, StackNo,
 };
 use std::alloc::Global;
@@ -50,10 +50,9 @@ fn is_under(ship: &Ship, stack: StackNo, k: CoverNo) -> bool
 }
 
 fn is_on(ship: &Ship, stack: StackNo, k: CoverNo) -> bool
-    requires { k < length ship.now.covers }
     ensures { IsTrue result ↔ StandsOn ship.now stack k }
 {
-    ship.cover(k).on.as_slice().contains(&stack)
+    k.0 < ship.covers() && ship.cover(k).on.as_slice().contains(&stack)
 }
 
 /// Whether a cover is off, if the stack lies under it.
@@ -103,8 +102,7 @@ fn is_shut(ship: &Ship, off: &FlagList, stack: StackNo) -> bool
 /// Whether a place holds nothing or isn't on the cover.
 fn is_bare_at(ship: &Ship, plan: &Plan, k: CoverNo, p: PlaceNo) -> bool
     requires each_place { length plan.now ≡ length (places ship.now) }
-    requires cover_in { k < length ship.now.covers }
-    requires place_in { p < length (places ship.now) }
+    requires inside { p < length (places ship.now) }
     ensures { IsTrue result ↔ IsBareAt ship.now plan.now k p }
 {
     match plan.at(p) {
@@ -115,8 +113,7 @@ fn is_bare_at(ship: &Ship, plan: &Plan, k: CoverNo, p: PlaceNo) -> bool
 
 /// Whether nothing stands on the cover.
 fn is_bare(ship: &Ship, plan: &Plan, k: CoverNo) -> bool
-    requires each_place { length plan.now ≡ length (places ship.now) }
-    requires inside { k < length ship.now.covers }
+    requires { length plan.now ≡ length (places ship.now) }
     ensures { IsTrue result ↔ IsBare ship.now plan.now k }
 {
     for p in 0..ship.places() {
@@ -141,6 +138,15 @@ fn is_clear_on(ship: &Ship, plan: &Plan, place: &Place, aft: bool) -> bool
     !takes_side(place.span, aft) || !is_taken(ship, plan, &above)
 }
 
+/// Whether nothing is directly above a place.
+fn is_clear(ship: &Ship, plan: &Plan, place: &Place) -> bool
+    requires each_place { length plan.now ≡ length (places ship.now) }
+    requires low { place.now.tier ≤ 98 }
+    ensures { IsTrue result ↔ ((side : Bool) → IsClearOn ship.now plan.now place.now side) }
+{
+    is_clear_on(ship, plan, place, false) && is_clear_on(ship, plan, place, true)
+}
+
 /// Whether nothing is in one side of a place.
 fn is_empty_on(ship: &Ship, plan: &Plan, place: &Place, aft: bool) -> bool
     requires { length plan.now ≡ length (places ship.now) }
@@ -152,6 +158,14 @@ fn is_empty_on(ship: &Ship, plan: &Plan, place: &Place, aft: bool) -> bool
         aft,
     };
     !takes_side(place.span, aft) || !is_taken(ship, plan, &half)
+}
+
+/// Whether nothing is in a place.
+fn is_empty(ship: &Ship, plan: &Plan, place: &Place) -> bool
+    requires { length plan.now ≡ length (places ship.now) }
+    ensures { IsTrue result ↔ ((side : Bool) → IsEmptyOn ship.now plan.now place.now side) }
+{
+    is_empty_on(ship, plan, place, false) && is_empty_on(ship, plan, place, true)
 }
 
 /// Whether what is below one side of a place, above the lowest tier, bears a container of this length.
@@ -175,4 +189,123 @@ fn is_borne_on(
         aft,
     };
     is_bearing(ship, cargo, plan, long, &below)
+}
+
+/// Whether what is below a place, above the lowest tier, bears a container of this length.
+fn is_borne(ship: &Ship, cargo: &Cargo, plan: &Plan, place: &Place, long: Length) -> bool
+    requires { length plan.now ≡ length (places ship.now) }
+    ensures { IsTrue result ↔ ((side : Bool) → IsBorneOn ship.now cargo.now plan.now place.now long side) }
+{
+    is_borne_on(ship, cargo, plan, place, long, false)
+        && is_borne_on(ship, cargo, plan, place, long, true)
+}
+
+/// Whether the list has this truth value at a number.
+fn has_flag(flags: &FlagList, number: u32, value: bool) -> bool
+    ensures { IsTrue result ↔ (slice_get flags.now number ≡ Some value) }
+{
+    (number as usize) < flags.len() && *flags.at(number as usize) == value
+}
+
+/// Whether the call is the destination of a container.
+fn is_bound(cargo: &Cargo, call: CallNo, c: ContainerNo) -> bool
+    ensures { result ≡ leaves cargo.now call c }
+{
+    c.0 < cargo.len() && cargo.container(c).dest == call
+}
+
+impl State {
+    /// How a call begins: with the departure before, all covers on, and on the quay what loads at the call.
+    pub fn arrive(
+        alloc: Global,
+        ship: &Ship,
+        cargo: &Cargo,
+        plan: Plan,
+        call: CallNo,
+    ) -> Result<State, NoMemory>
+        ensures { IfOk result (λ s. s ≡ start ship.now cargo.now call plan) }
+    {
+        Ok(State {
+            plan,
+            quay: loading(alloc, cargo, call)?,
+            off: Seq::filled(alloc, false, ship.covers() as usize)?,
+        })
+    }
+
+    /// Whether nothing is above a place and no cover over it is on.
+    fn passes_lift(&self, ship: &Ship, place: &Place) -> bool
+        requires each_place { length self.now.plan ≡ length (places ship.now) }
+        requires each_cover { length self.now.off ≡ length ship.now.covers }
+        requires low { place.now.tier ≤ 98 }
+        ensures { IsTrue result ↔ PassesLift ship.now self.now place.now }
+    {
+        is_clear(ship, &self.plan, place) && is_open(ship, &self.off, place.stack)
+    }
+
+    /// Whether a lift from a place is allowed.
+    pub fn can_lift(&self, ship: &Ship, p: PlaceNo) -> bool
+        requires each_place { length self.now.plan ≡ length (places ship.now) }
+        requires each_cover { length self.now.off ≡ length ship.now.covers }
+        ensures { IsTrue result ↔ CanLift ship.now self.now p }
+    {
+        if p.0 >= ship.places() {
+            return false;
+        }
+        match self.plan.at(p) {
+            None => false,
+            Some(_) => self.passes_lift(ship, &ship.place(p)),
+        }
+    }
+
+    /// Whether a place is free for a container, and the covers lie as they must.
+    fn passes_put(
+        &self,
+        ship: &Ship,
+        cargo: &Cargo,
+        c: ContainerNo,
+        container: &Container,
+        p: PlaceNo,
+    ) -> bool
+        requires each_place { length self.now.plan ≡ length (places ship.now) }
+        requires each_cover { length self.now.off ≡ length ship.now.covers }
+        requires on_list { c < length self.now.quay }
+        requires inside { p < length (places ship.now) }
+        ensures { (place : Place) → slice_get (places ship.now) p ≡ Some place → IsTrue result ↔ PassesPut ship.now cargo.now self.now c container.now place }
+    {
+        let place = ship.place(p);
+        if !*self.quay.at(c.0 as usize) || !ship.fits(p, container.long, container.reefer) {
+            return false;
+        }
+        if !is_open(ship, &self.off, place.stack) || !is_shut(ship, &self.off, place.stack) {
+            return false;
+        }
+        is_empty(ship, &self.plan, &place)
+            && is_borne(ship, cargo, &self.plan, &place, container.long)
+    }
+
+    /// Whether a put of a container on a place is allowed.
+    pub fn can_put(&self, ship: &Ship, cargo: &Cargo, c: ContainerNo, p: PlaceNo) -> bool
+        requires { BelongsTo ship.now cargo.now self.now }
+        ensures { IsTrue result ↔ CanPut ship.now cargo.now self.now c p }
+    {
+        if p.0 >= ship.places() || c.0 >= cargo.len() {
+            return false;
+        }
+        self.passes_put(ship, cargo, c, cargo.container(c), p)
+    }
+
+    /// Whether a move is allowed.
+    pub fn allows(&self, ship: &Ship, cargo: &Cargo, m: Move) -> bool
+        requires { BelongsTo ship.now cargo.now self.now }
+        ensures { IsTrue result ↔ Allowed ship.now cargo.now self.now m }
+    {
+        match m {
+            Move::Lift(p) => self.can_lift(ship, p),
+            Move::Put(c, p) => self.can_put(ship, cargo, c, p),
+            Move::OffCover(k) => {
+                has_flag(&self.off, k.0, false) && is_bare(ship, &self.plan, k)
+            }
+            Move::OnCover(k) => has_flag(&self.off, k.0, true),
+        }
+    }
 }
