@@ -13,3 +13,4 @@ pub mod Fillers
 pub mod RulesHold
 pub mod PlansHold
 pub mod MovesHold
+pub mod RunsHold

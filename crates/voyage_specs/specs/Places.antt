@@ -13,7 +13,8 @@ use Rattle.voyage_specs.specs.declared.rules.Rule.TheVariants.{Support, TwentyOn
 use Rattle.voyage_specs.specs.Plan.{Plan, Holds, Fills, Stands}
 use Rattle.voyage_specs.specs.Departure.{half_of, IsTwenty, IsSupported, IsTwentyOnTwenty, IsPlugged, IsWithinLimits, IsSeparated, IsSeparatedBy, stack_weight, weight_in, near}
 use Rattle.voyage_specs.specs.declared.moves.Move.{Move}
-use Rattle.voyage_specs.specs.Moves.{State, Allowed, AllAllowed, Bears, end_of}
+use Rattle.voyage_specs.specs.declared.moves.Move.TheVariants.{OffCover, OnCover, Lift, Put}
+use Rattle.voyage_specs.specs.Moves.{State, Allowed, AllAllowed, Bears, end_of, rehandles}
 
 -- container c fills the half-cell from place n
 pub record FillsFrom (ship : Ship) (plan : Plan) (n : ℕ) (h : Half) (c : ℕ) : Type 0 where
@@ -182,9 +183,23 @@ pub record PassesLift (ship : Ship) (s : State) (place : Place) : Type 0 where
   pub clear : (side : Bool) → IsClearOn ship s.plan place side
   pub open_over : IsOpen ship s.off place.stack
 
--- the first moves of a list are allowed, and the next one isn't
-pub record RefusesAt (ship : Ship) (cargo : Cargo) (call : ℕ) (s : State) (moves : List Move) (n : ℕ) : Type 0 where
+-- the numbers of a move name entries of the state's lists
+abbrev pub IsInRange : State → Move → Type 0
+IsInRange s (Lift p) = p < length s.plan
+IsInRange s (Put c p) = (p < length s.plan) × (c < length s.quay)
+IsInRange s (OffCover k) = k < length s.off
+IsInRange s (OnCover k) = k < length s.off
+
+-- the moves are allowed, lead to the state t and count n rehandles
+pub record Runs (ship : Ship) (cargo : Cargo) (call : ℕ) (s : State) (moves : List Move) (t : State) (n : ℕ) : Type 0 where
+  pub allowed : AllAllowed ship cargo call s moves
+  pub leads : t ≡ end_of cargo call s moves
+  pub counts : n ≡ rehandles cargo call s moves
+
+-- the first n moves are allowed and lead to the state t, and the next one isn't
+pub record StopsAt (ship : Ship) (cargo : Cargo) (call : ℕ) (s : State) (moves : List Move) (t : State) (n : ℕ) : Type 0 where
+  pub allowed : AllAllowed ship cargo call s (take n moves)
+  pub leads : t ≡ end_of cargo call s (take n moves)
   pub move : Move
   pub is_move : slice_get moves n ≡ Some move
-  pub allowed : AllAllowed ship cargo call s (take n moves)
-  pub refused : Allowed ship cargo (end_of cargo call s (take n moves)) move → ⊥
+  pub refused : Allowed ship cargo t move → ⊥

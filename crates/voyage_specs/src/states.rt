@@ -1,9 +1,10 @@
 //! The state at a call, and which crane moves it allows: plain, slow programs.
 ghost use Rattle.std.specs.Prelude.{◌≡◌, ◌↔◌, ◌<◌, ℕ, Bool, Some, slice_get, ◌≤◌, ◌==◌, IfOk, IsTrue, length, map};
 ghost use Rattle.stow_data.specs.Ship.{places, LiesUnder, StandsOn};
-ghost use Rattle.voyage_specs.specs.Moves.{Allowed, CanLift, CanPut, IsBare, leaves};
+ghost use Rattle.voyage_specs.specs.Moves.{Allowed, CanLift, CanPut, IsBare, after, leaves, quay_with, rehandles_of};
+ghost use Rattle.voyage_specs.specs.Moves as words;
 ghost use Rattle.voyage_specs.specs.Voyage.{start};
-ghost use Rattle.voyage_specs.specs.Places.{BelongsTo, IsBareAt, IsBorneOn, IsClearOn, IsEmptyOn, IsOpen, IsOpenBy, IsShut, IsShutBy, PassesLift, PassesPut};
+ghost use Rattle.voyage_specs.specs.Places.{BelongsTo, IsBareAt, IsBorneOn, IsClearOn, IsEmptyOn, IsInRange, IsOpen, IsOpenBy, IsShut, IsShutBy, PassesLift, PassesPut};
 
 use crate::half_cells::{is_bearing, is_taken, takes_side};
 use crate::moves::Move;
@@ -214,6 +215,28 @@ fn is_bound(cargo: &Cargo, call: CallNo, c: ContainerNo) -> bool
     c.0 < cargo.len() && cargo.container(c).dest == call
 }
 
+/// What a lift counts: 1 where the container doesn't leave at the call.
+fn lift_count(cargo: &Cargo, call: CallNo, o: Option<ContainerNo>) -> u64
+    ensures value { result ≡ words.lift_count cargo.now call o }
+    ensures small { result ≤ 1 }
+{
+    match o {
+        None => 0,
+        Some(c) => { if is_bound(cargo, call, c) { 0 } else { 1 } }
+    }
+}
+
+/// Puts on the quay what was lifted, unless it leaves at the call.
+fn leave(quay: &mut FlagList, cargo: &Cargo, call: CallNo, o: Option<ContainerNo>)
+    ensures { quay.new ≡ quay_with cargo.now call quay.old (Some o) }
+{
+    if let Some(c) = o {
+        if !is_bound(cargo, call, c) && (c.0 as usize) < quay.len() {
+            quay.set(c.0 as usize, true);
+        }
+    }
+}
+
 impl State {
     /// How a call begins: with the departure before, all covers on, and on the quay what loads at the call.
     pub fn arrive(
@@ -306,6 +329,39 @@ impl State {
                 has_flag(&self.off, k.0, false) && is_bare(ship, &self.plan, k)
             }
             Move::OnCover(k) => has_flag(&self.off, k.0, true),
+        }
+    }
+
+    /// The rehandles of a move: 1 for a lift of a container at a call other than its destination.
+    pub fn rehandles_by(&self, cargo: &Cargo, call: CallNo, m: Move) -> u64
+        requires { IsInRange self.now m }
+        ensures value { result ≡ rehandles_of cargo.now call self.now m }
+        ensures small { result ≤ 1 }
+    {
+        match m {
+            Move::Lift(p) => lift_count(cargo, call, self.plan.at(p)),
+            Move::Put(_, _) => 0,
+            Move::OffCover(_) => 0,
+            Move::OnCover(_) => 0,
+        }
+    }
+
+    /// Does a move.
+    pub fn apply(&mut self, cargo: &Cargo, call: CallNo, m: Move)
+        requires { IsInRange self.old m }
+        ensures { self.new ≡ after cargo.now call self.old m }
+    {
+        match m {
+            Move::Lift(p) => {
+                leave(&mut self.quay, cargo, call, self.plan.at(p));
+                self.plan.set(p, None);
+            }
+            Move::Put(c, p) => {
+                self.quay.set(c.0 as usize, false);
+                self.plan.set(p, Some(c));
+            }
+            Move::OffCover(k) => self.off.set(k.0 as usize, true),
+            Move::OnCover(k) => self.off.set(k.0 as usize, false),
         }
     }
 }
