@@ -14,6 +14,7 @@ use Rattle.voyage_specs.specs.Plan.{Plan, Holds, Fills, Stands}
 use Rattle.voyage_specs.specs.Departure.{half_of, IsTwenty, IsSupported, IsTwentyOnTwenty, IsPlugged, IsWithinLimits, IsSeparated, IsSeparatedBy, stack_weight, weight_in, near}
 use Rattle.voyage_specs.specs.declared.moves.Move.{Move}
 use Rattle.voyage_specs.specs.declared.moves.Move.TheVariants.{OffCover, OnCover, Lift, Put}
+use Rattle.voyage_specs.specs.Voyage.{AllOn, LeadsTo, start}
 use Rattle.voyage_specs.specs.Moves.{State, Allowed, AllAllowed, Bears, end_of, rehandles}
 
 -- container c fills the half-cell from place n
@@ -183,6 +184,16 @@ pub record PassesLift (ship : Ship) (s : State) (place : Place) : Type 0 where
   pub clear : (side : Bool) → IsClearOn ship s.plan place side
   pub open_over : IsOpen ship s.off place.stack
 
+-- none of the truth values is true
+abbrev pub NoneSet : List Bool → Type 0
+NoneSet flags = (c : ℕ) → slice_get flags c ≡ Some true → ⊥
+
+-- the plan is this one, the quay is empty and all covers are on
+pub record EndsAt (ship : Ship) (s : State) (plan : Plan) : Type 0 where
+  pub plan_is : s.plan ≡ plan
+  pub quay_empty : NoneSet s.quay
+  pub covers_on : AllOn ship s.off
+
 -- the numbers of a move name entries of the state's lists
 abbrev pub IsInRange : State → Move → Type 0
 IsInRange s (Lift p) = p < length s.plan
@@ -203,3 +214,8 @@ pub record StopsAt (ship : Ship) (cargo : Cargo) (call : ℕ) (s : State) (moves
   pub move : Move
   pub is_move : slice_get moves n ≡ Some move
   pub refused : Allowed ship cargo t move → ⊥
+
+-- a call's moves lead from one departure to the next and count n rehandles
+pub record LeadsBy (ship : Ship) (cargo : Cargo) (call : ℕ) (before : Plan) (moves : List Move) (after : Plan) (n : ℕ) : Type 0 where
+  pub leads : LeadsTo ship cargo call before moves after
+  pub counts : n ≡ rehandles cargo call (start ship cargo call before) moves

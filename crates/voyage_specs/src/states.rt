@@ -4,7 +4,7 @@ ghost use Rattle.stow_data.specs.Ship.{places, LiesUnder, StandsOn};
 ghost use Rattle.voyage_specs.specs.Moves.{Allowed, CanLift, CanPut, IsBare, after, leaves, quay_with, rehandles_of};
 ghost use Rattle.voyage_specs.specs.Moves as words;
 ghost use Rattle.voyage_specs.specs.Voyage.{start};
-ghost use Rattle.voyage_specs.specs.Places.{BelongsTo, IsBareAt, IsBorneOn, IsClearOn, IsEmptyOn, IsInRange, IsOpen, IsOpenBy, IsShut, IsShutBy, PassesLift, PassesPut};
+ghost use Rattle.voyage_specs.specs.Places.{BelongsTo, IsBareAt, IsBorneOn, IsClearOn, IsEmptyOn, IsInRange, IsOpen, IsOpenBy, IsShut, IsShutBy, EndsAt, NoneSet, PassesLift, PassesPut};
 
 use crate::half_cells::{is_bearing, is_taken, takes_side};
 use crate::moves::Move;
@@ -215,6 +215,41 @@ fn is_bound(cargo: &Cargo, call: CallNo, c: ContainerNo) -> bool
     c.0 < cargo.len() && cargo.container(c).dest == call
 }
 
+/// Whether two plans hold the same at a place.
+fn is_same_at(a: &Plan, b: &Plan, p: PlaceNo) -> bool
+    requires a_in { p < length a.now }
+    requires b_in { p < length b.now }
+    ensures { IsTrue result ↔ (slice_get a.now p ≡ slice_get b.now p) }
+{
+    a.at(p) == b.at(p)
+}
+
+/// Whether two plans of a ship are the same.
+fn is_same(ship: &Ship, a: &Plan, b: &Plan) -> bool
+    requires first { length a.now ≡ length (places ship.now) }
+    requires second { length b.now ≡ length (places ship.now) }
+    ensures { IsTrue result ↔ (a.now ≡ b.now) }
+{
+    for p in 0..ship.places() {
+        if !is_same_at(a, b, PlaceNo(p)) {
+            return false;
+        }
+    }
+    true
+}
+
+/// Whether none of the truth values is true.
+fn none_set(flags: &FlagList) -> bool
+    ensures { IsTrue result ↔ NoneSet flags.now }
+{
+    for i in 0..flags.len() {
+        if *flags.at(i) {
+            return false;
+        }
+    }
+    true
+}
+
 /// What a lift counts: 1 where the container doesn't leave at the call.
 fn lift_count(cargo: &Cargo, call: CallNo, o: Option<ContainerNo>) -> u64
     ensures value { result ≡ words.lift_count cargo.now call o }
@@ -363,5 +398,21 @@ impl State {
             Move::OffCover(k) => self.off.set(k.0 as usize, true),
             Move::OnCover(k) => self.off.set(k.0 as usize, false),
         }
+    }
+
+    /// Whether the plan is this one, the quay is empty and all covers are on.
+    pub fn ends_at(&self, ship: &Ship, plan: &Plan) -> bool
+        requires each_place { length self.now.plan ≡ length (places ship.now) }
+        requires each_cover { length self.now.off ≡ length ship.now.covers }
+        requires each_place_too { length plan.now ≡ length (places ship.now) }
+        ensures { IsTrue result ↔ EndsAt ship.now self.now plan.now }
+    {
+        if !is_same(ship, &self.plan, plan) {
+            return false;
+        }
+        if !none_set(&self.quay) {
+            return false;
+        }
+        none_set(&self.off)
     }
 }
