@@ -14,3 +14,4 @@ pub mod RulesHold
 pub mod PlansHold
 pub mod MovesHold
 pub mod RunsHold
+pub mod Rows
