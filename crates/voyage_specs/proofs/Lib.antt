@@ -9,3 +9,9 @@ pub mod Upper
 pub mod Exact
 pub mod Closed
 pub mod Whole
+pub mod Fillers
+pub mod RulesHold
+pub mod PlansHold
+pub mod MovesHold
+pub mod RunsHold
+pub mod Rows

@@ -58,7 +58,7 @@ unheld_is (Some c ∷ xs) zero l x = absurd (x c refl)
 unheld_is (a ∷ xs) (suc p) l x = unheld_is xs p (omega arith) x
 
 -- lists that read alike are equal
-same_reads : {X : Type 0} (xs ys : List X) → ((p : ℕ) → slice_get xs p ≡ slice_get ys p) → xs ≡ ys
+pub same_reads : {X : Type 0} (xs ys : List X) → ((p : ℕ) → slice_get xs p ≡ slice_get ys p) → xs ≡ ys
 same_reads [] [] h = refl
 same_reads [] (y ∷ ys) h = absurd (none-some y (h 0))
 same_reads (x ∷ xs) [] h = absurd (none-some x (sym (h 0)))

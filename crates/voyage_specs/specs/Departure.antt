@@ -73,6 +73,10 @@ meets p q = (p.stack == q.stack) && ((p.tier == q.tier) && has_column_in_common 
 abbrev pub adjoins : Place → Place → Bool
 adjoins p q = (p.tier == q.tier + 1) || (q.tier == p.tier + 1)
 
+-- in one tier, or in tiers that differ by one with a column in common
+abbrev pub is_next : Place → Place → Bool
+is_next p q = (p.tier == q.tier) || (adjoins p q && has_column_in_common p.span q.span)
+
 abbrev pub is_same_bay : Option Stack → Option Stack → Bool
 is_same_bay (Some s) (Some t) = s.bay == t.bay
 is_same_bay (Some s) None = false
@@ -82,23 +86,27 @@ is_same_bay None t = false
 -- level 2: the same stack
 -- level 3: the same bay, hold and deck together
 abbrev pub near_by : Ship → ℕ → Place → Place → Bool
-near_by ship level p q = ((level == 1) && ((p.stack == q.stack) && ((p.tier == q.tier) || (adjoins p q && has_column_in_common p.span q.span)))) || (((level == 2) && (p.stack == q.stack)) || ((level == 3) && is_same_bay (slice_get ship.stacks p.stack) (slice_get ship.stacks q.stack)))
+near_by ship level p q = ((level == 1) && ((p.stack == q.stack) && is_next p q)) || (((level == 2) && (p.stack == q.stack)) || ((level == 3) && is_same_bay (slice_get ship.stacks p.stack) (slice_get ship.stacks q.stack)))
 
 -- places with a half-cell in common are not near
 abbrev pub near : Ship → ℕ → Place → Place → Bool
 near ship level p q = near_by ship level p q && not (meets p q)
 
--- a separation: no container of its one class stands near one of its other class
-abbrev pub IsSeparatedBy : Ship → Cargo → Plan → Separation → Type 0
-IsSeparatedBy ship cargo plan rule = (p q c d : ℕ) (first second : Place) (x y : Container) → Stands ship cargo plan p c first x → Stands ship cargo plan q d second y → x.class ≡ Some rule.a → y.class ≡ Some rule.b → near ship rule.level first second ≡ false
+-- separation e: no container of its class a stands near one of its class b
+abbrev pub IsSeparatedBy : Ship → Cargo → Plan → ℕ → Type 0
+IsSeparatedBy ship cargo plan e = (rule : Separation) (p q c d : ℕ) (first second : Place) (x y : Container) → slice_get ship.separations e ≡ Some rule → Stands ship cargo plan p c first x → Stands ship cargo plan q d second y → x.class ≡ Some rule.a → y.class ≡ Some rule.b → near ship rule.level first second ≡ false
 
 abbrev pub IsSeparated : Ship → Cargo → Plan → Type 0
-IsSeparated ship cargo plan = (e : ℕ) (rule : Separation) → slice_get ship.separations e ≡ Some rule → IsSeparatedBy ship cargo plan rule
+IsSeparated ship cargo plan = (e : ℕ) → IsSeparatedBy ship cargo plan e
+
+-- the plan holds exactly the containers that are aboard after the call
+abbrev pub HoldsAboard : Cargo → ℕ → Plan → Type 0
+HoldsAboard cargo call plan = (c : ℕ) (container : Container) → slice_get cargo.containers c ≡ Some container → ((p : ℕ) × Holds plan p c) ↔ IsAboard call container
 
 -- a well-formed plan of exactly the containers that are aboard after the call, by the first three rules
 pub record IsStowed (ship : Ship) (cargo : Cargo) (call : ℕ) (plan : Plan) : Type 0 where
   pub well_formed : IsWellFormed ship cargo plan
-  pub aboard : (c : ℕ) (container : Container) → slice_get cargo.containers c ≡ Some container → ((p : ℕ) × Holds plan p c) ↔ IsAboard call container
+  pub aboard : HoldsAboard cargo call plan
   pub supported : IsSupported ship plan
   pub twenty : IsTwentyOnTwenty ship cargo plan
   pub plugged : IsPlugged ship cargo plan

@@ -4,3 +4,4 @@ pub mod Moves
 pub mod Voyage
 pub mod Least
 pub mod Shown
+pub mod Places
