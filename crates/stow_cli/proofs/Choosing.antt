@@ -1,15 +1,16 @@
 -- What the loader's tests say on a ship of 40-foot stacks.
-use Rattle.std.proofs.Common.{◌≡◌, ℕ, zero, suc, ◌+◌, ◌-◌, ◌<◌, ◌≤◌, true, false, length, Option, Some, None, refl, sym, ◌∙◌, ap, subst, arith, ⊎_elim}
-use Rattle.std.specs.Prelude.{◌==◌, is_some, is_none, slice_get}
-use Rattle.std.proofs.lemmas.Bool.{and_parts, and_from, and_left, and_right, or_left, or_right, or_from, or_cases, cases_Bool, eqb-true, eq-eqb, ltb-true, lt-ltb, not_from_true, not_from_false, false_from_ne_true, both_ways}
-use Rattle.std.proofs.lemmas.Option.{get_or_from_slice_get}
+use Rattle.std.proofs.Common.{◌≡◌, ℕ, zero, suc, ◌+◌, ◌-◌, ◌<◌, ◌≤◌, Bool, true, false, not, ◌&&◌, ◌||◌, List, [], ◌∷◌, length, Option, Some, None, refl, sym, ◌∙◌, ap, subst, arith, ◌⊎◌, inl, inr, ⊎_elim}
+use Rattle.std.specs.Prelude.{◌==◌, nat_lt, is_some, is_none, slice_get, slice_index_or}
+use Rattle.std.specs.List.{list_any, list_all, find, range_with_len}
+use Rattle.std.proofs.lemmas.Bool.{and_parts, and_from, and_left, and_right, or_left, or_right, or_from, or_cases, cases_eq, cases_Bool, eqb-true, eq-eqb, ne_eqb, ltb-true, lt-ltb, not_from_true, not_from_false, not-true, not-false, false_from_ne_true, both_ways}
+use Rattle.std.proofs.lemmas.Option.{get_or_from_slice_get, slice_get-get_or}
 use Rattle.stow_data.specs.declared.geometry.Place.{Place}
 use Rattle.stow_data.specs.Ship.{Ship, places}
 use Rattle.stow_data.specs.Shipment.{Cargo}
 use Rattle.stow_cli.specs.Plain.{IsForty}
-use Rattle.stow_cli.specs.Loader.{Stowage, held, is_below, is_directly_below, is_open, is_clean, is_lifted, leaves_at, leaves_before}
+use Rattle.stow_cli.specs.Loader.{Stowage, place_at, held, is_below, is_directly_below, is_open, is_clean, is_lifted, leaves_at, leaves_before, place_numbers}
 use Rattle.stow_cli.proofs.Columns.{place_is, same_place, lower_place, stack_of, tier_of}
-use Rattle.stow_cli.proofs.Ranges.{every_from, every_fails, some_from, some_fails}
+use Rattle.stow_cli.proofs.Ranges.{every_from, every_at, every_fails, some_from, some_fails}
 
 pub held_is : (plan : Stowage) (p : ℕ) (o : Option ℕ) → slice_get plan p ≡ Some o → held plan p ≡ o
 held_is plan p o h = get_or_from_slice_get plan p o None h

@@ -1,13 +1,13 @@
 -- The loader's steps, one after the other.
-use Rattle.std.proofs.Common.{◌≡◌, ℕ, zero, suc, ◌+◌, ◌-◌, ◌<◌, ◌≤◌, Bool, true, false, cond, ◌&&◌, List, [], ◌∷◌, ◌++◌, length, get_or, take, drop, map, Option, Some, None, refl, sym, ◌∙◌, ap, arith, ⊎_elim, append_assoc}
-use Rattle.std.specs.Prelude.{filter, flat_map, option_map, option_and_then, slice_set, slice_get}
+use Rattle.std.proofs.Common.{◌≡◌, ℕ, zero, suc, ◌+◌, ◌-◌, ◌<◌, ◌≤◌, Bool, true, false, not, cond, ◌&&◌, List, [], ◌∷◌, ◌++◌, length, get_or, take, drop, map, Option, Some, None, refl, sym, ◌∙◌, ap, subst, arith, ◌⊎◌, inl, inr, ⊎_elim, append_assoc}
+use Rattle.std.specs.Prelude.{filter, flat_map, option_map, option_and_then, slice_set, slice_get, slice_index_or, is_some}
 use Rattle.std.specs.List.{find, range_with_len}
 use Rattle.std.proofs.Common.{length-set}
 use Rattle.std.proofs.lemmas.Bool.{cases_Bool, cond-true, cond-false}
-use Rattle.std.proofs.lemmas.List.{drop_more, drop_all, append-nil, take_all, length-map}
+use Rattle.std.proofs.lemmas.List.{drop_more, drop_all, append-nil, take_all, length-map, map_more}
 use Rattle.stow_data.specs.Ship.{Ship, places}
 use Rattle.stow_data.specs.Shipment.{Cargo}
-use Rattle.stow_cli.specs.Loader.{Stowage, container_at, is_open, is_clean, choice, loaded, last_first, quay, staying, discharged, has_rehandle, departed, departures, place_numbers}
+use Rattle.stow_cli.specs.Loader.{Stowage, container_at, is_open, is_clean, choice, loaded, bound_for, last_first, quay, staying, discharged, has_rehandle, departed, departures, place_numbers}
 use Rattle.stow_cli.proofs.Ranges.{found_at}
 
 -- one more number passes the filter or not

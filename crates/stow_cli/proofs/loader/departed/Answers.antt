@@ -1,4 +1,4 @@
-use Rattle.std.proofs.Common.{◌≡◌, ◌∙◌, ap, sym}
+use Rattle.std.proofs.Common.{◌≡◌, ◌∙◌, ap, sym, true, false}
 use Rattle.std.proofs.lemmas.Bool.{cond-true, cond-false}
 use Rattle.stow_cli.specs.Loader.{departed, has_rehandle, loaded, discharged, quay}
 use Rattle.stow_cli.proofs.loader.departed.Goals as goal

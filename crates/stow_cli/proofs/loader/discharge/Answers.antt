@@ -1,3 +1,4 @@
+use Rattle.std.proofs.Common.{◌≡◌, ◌<◌, ◌≤◌, ◌-◌, ◌+◌, ℕ, ap, sym, ◌∙◌, subst, arith, true, false, length}
 use Rattle.stow_cli.specs.Loader.{staying}
 use Rattle.stow_cli.proofs.Loading.{discharge_one}
 use Rattle.stow_cli.proofs.loader.discharge.Goals as goal

@@ -1,4 +1,5 @@
-use Rattle.std.proofs.Common.{◌≡◌, ◌++◌, map, take, drop}
+use Rattle.std.proofs.Common.{◌≡◌, ◌++◌, map, take, drop, length}
+use Rattle.stow_data.specs.Ship.{places}
 use Rattle.stow_cli.specs.Loader.{staying}
 use Rattle.stow_cli.proofs.loader.discharge.Given as goal
 

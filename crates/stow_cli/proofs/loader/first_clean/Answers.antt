@@ -1,4 +1,4 @@
-use Rattle.std.proofs.Common.{sym, ◌∙◌, arith, length}
+use Rattle.std.proofs.Common.{◌≡◌, ◌<◌, ◌≤◌, ◌-◌, ◌+◌, ℕ, ap, sym, ◌∙◌, subst, arith, true, false, length}
 use Rattle.std.proofs.Common.{◌&&◌}
 use Rattle.stow_data.specs.Ship.{places}
 use Rattle.stow_cli.specs.Loader.{is_open, is_clean}

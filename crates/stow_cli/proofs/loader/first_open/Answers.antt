@@ -1,6 +1,7 @@
-use Rattle.std.proofs.Common.{sym, ◌∙◌, arith, length}
+use Rattle.std.proofs.Common.{◌≡◌, ◌<◌, ◌≤◌, ◌-◌, ◌+◌, ℕ, ap, sym, ◌∙◌, subst, arith, true, false, length}
+use Rattle.std.proofs.Common.{◌&&◌}
 use Rattle.stow_data.specs.Ship.{places}
-use Rattle.stow_cli.specs.Loader.{is_open}
+use Rattle.stow_cli.specs.Loader.{is_open, is_clean}
 use Rattle.stow_cli.proofs.Ranges.{find_here, find_none}
 use Rattle.stow_cli.proofs.loader.first_open.Goals as goal
 

@@ -1,4 +1,4 @@
-use Rattle.std.proofs.Common.{sym, ◌∙◌, arith, length}
+use Rattle.std.proofs.Common.{◌≡◌, ◌<◌, ◌≤◌, ◌-◌, ◌+◌, ℕ, ap, sym, ◌∙◌, subst, arith, true, false, length}
 use Rattle.stow_data.specs.Ship.{places}
 use Rattle.stow_cli.specs.Loader.{has_rehandle, is_rehandled}
 use Rattle.stow_cli.proofs.Ranges.{some_from, some_fails}

@@ -1,4 +1,4 @@
-use Rattle.std.proofs.Common.{◌≡◌, ◌-◌, ℕ, ap, sym, ◌∙◌, arith}
+use Rattle.std.proofs.Common.{◌≡◌, ◌<◌, ◌≤◌, ◌-◌, ◌+◌, ℕ, ap, sym, ◌∙◌, subst, arith, true, false, length}
 use borrow.Author.Count.{below_more}
 use Rattle.stow_cli.specs.Loader.{held, leaves_before}
 use Rattle.stow_cli.proofs.Choosing.{clean_from, clean_fails, held_is, tier_is, tier_number}

@@ -1,4 +1,4 @@
-use Rattle.std.proofs.Common.{◌≡◌, ◌<◌, ◌-◌, ◌+◌, ℕ, ap, sym, ◌∙◌, arith, false}
+use Rattle.std.proofs.Common.{◌≡◌, ◌<◌, ◌≤◌, ◌-◌, ◌+◌, ℕ, ap, sym, ◌∙◌, subst, arith, true, false, length}
 use borrow.Author.Count.{below_more}
 use Rattle.stow_cli.specs.Loader.{held, leaves_at}
 use Rattle.stow_cli.proofs.Choosing.{lifted_at, lifted_none, held_is, tier_is, tier_number}

@@ -1,6 +1,7 @@
-use Rattle.std.proofs.Common.{◌≡◌, ◌-◌, ℕ, ap, sym, ◌∙◌, arith}
+use Rattle.std.proofs.Common.{◌≡◌, ◌<◌, ◌≤◌, ◌-◌, ◌+◌, ℕ, ap, sym, ◌∙◌, subst, arith, true, false, length}
 use Rattle.std.specs.Prelude.{is_some}
 use Rattle.stow_cli.specs.Loader.{held}
+use Rattle.stow_cli.proofs.Columns.{tier_of}
 use Rattle.stow_cli.proofs.Choosing.{open_filled, open_floor, open_above, held_is, tier_is, tier_number}
 use Rattle.stow_cli.proofs.loader.is_open.Goals as goal
 

@@ -1,6 +1,6 @@
-use Rattle.std.proofs.Common.{◌≡◌, ◌-◌, ap, sym, ◌∙◌, arith, length}
+use Rattle.std.proofs.Common.{◌≡◌, ◌<◌, ◌≤◌, ◌-◌, ◌+◌, ℕ, ap, sym, ◌∙◌, subst, arith, true, false, length}
 use Rattle.std.proofs.Common.{None, Some}
-use Rattle.stow_cli.specs.Loader.{departed, departures}
+use Rattle.stow_cli.specs.Loader.{load, departed, departures}
 use Rattle.stow_cli.proofs.Loading.{sails_on, sails_not, sailed, sets_out, departed_long}
 use Rattle.stow_cli.proofs.loader.load.Goals as goal
 

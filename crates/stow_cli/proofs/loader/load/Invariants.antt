@@ -1,4 +1,4 @@
-use Rattle.std.proofs.Common.{◌≡◌, ◌++◌, ◌-◌, length}
+use Rattle.std.proofs.Common.{◌≡◌, ◌++◌, ◌-◌, length, Option}
 use Rattle.std.specs.Prelude.{option_map}
 use Rattle.stow_data.specs.Ship.{places}
 use Rattle.stow_cli.specs.Loader.{departures}

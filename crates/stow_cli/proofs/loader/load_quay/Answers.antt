@@ -1,4 +1,4 @@
-use Rattle.std.proofs.Common.{ap, sym, ◌∙◌, length}
+use Rattle.std.proofs.Common.{◌≡◌, ◌<◌, ◌≤◌, ◌-◌, ◌+◌, ℕ, ap, sym, ◌∙◌, subst, arith, true, false, length}
 use Rattle.std.proofs.Common.{length-set}
 use Rattle.stow_cli.proofs.Loading.{load_one, load_fails, load_all, chosen_in}
 use Rattle.stow_cli.proofs.loader.load_quay.Goals as goal

@@ -1,6 +1,6 @@
-use Rattle.std.proofs.Common.{arith}
+use Rattle.std.proofs.Common.{◌≡◌, ◌<◌, ◌≤◌, ◌-◌, ◌+◌, ℕ, ap, sym, ◌∙◌, subst, arith, true, false, length}
 use Rattle.stow_cli.specs.Loader.{bound_for, quay}
-use Rattle.stow_cli.proofs.Loading.{next_bound, all_bound}
+use Rattle.stow_cli.proofs.Loading.{next_bound, all_bound, starts_bound}
 use Rattle.stow_cli.proofs.loader.quay_of.Goals as goal
 
 pub loop-dest-preserved : goal.loop-dest-preserved
