@@ -1,5 +1,5 @@
 -- Plain bookings: 40-foot containers alone, none empty, reefer or with dangerous goods, and the cargo that they make.
-use Rattle.std.specs.Prelude.{◌≡◌, ◌≢◌, ℕ, ◌<◌, ◌≤◌, ◌==◌, Bool, false, ◌&&◌, ◌||◌, nat_le, nat_lt, codes, slice_index, List, [], length, map, replicate, Option, Some, None, All, AllPairs, IsTrue}
+use Rattle.std.specs.Prelude.{◌≢◌, ℕ, ◌<◌, ◌≤◌, ◌==◌, Bool, false, ◌&&◌, ◌||◌, nat_le, nat_lt, codes, slice_index, List, [], length, map, replicate, Option, Some, None, All, AllPairs, IsTrue}
 use Rattle.std.specs.List.{list_all, enumerate_from}
 use Rattle.std.specs.Str.{bytes_eq}
 use Rattle.toml.specs.Data.{Data, array, table, Members, get_member}

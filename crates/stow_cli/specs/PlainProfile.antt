@@ -1,5 +1,5 @@
 -- Plain profiles: 40-foot stacks alone, no reefer plugs, hatch covers or separations, and limits that no weight reaches.
-use Rattle.std.specs.Prelude.{◌≡◌, ℕ, ◌+◌, ◌*◌, ◌%◌, ◌≤◌, ◌==◌, Bool, true, false, ◌&&◌, ◌||◌, nat_le, nat_lt, codes, slice_index, List, [], ◌∷◌, length, replicate, Option, Some, None, All}
+use Rattle.std.specs.Prelude.{ℕ, ◌+◌, ◌*◌, ◌%◌, ◌==◌, Bool, true, false, ◌&&◌, ◌||◌, nat_le, nat_lt, codes, slice_index, List, [], ◌∷◌, length, replicate, Option, Some, None}
 use Rattle.std.specs.List.{list_all}
 use Rattle.toml.specs.Data.{Data, table, Members}
 use Rattle.stow_data.specs.declared.geometry.Stack.{Stack}
