@@ -414,3 +414,44 @@ fn a_feeder_is_planned(rt: HostRuntime) -> Result<(), Fail> {
     assert!(rt; folder.file("X-06.edi").is_none());
     Ok(())
 }
+
+/// One container, from call 1 to call 3 of four.
+const ONE: &str = "vessel = \"V\"
+voyage = \"1\"
+date = \"2601010000\"
+rotation = [\"AAAAA\", \"BBBBB\", \"CCCCC\", \"DDDDD\"]
+container = [{ id = \"AAAU0000001\", from = 1, to = 3, type = \"42G1\", kg = 10000 }]
+";
+
+const ONE_FIRST: &str = "UNB+UNOA:2+STOW+STOW+260101:0000+1'
+UNH+1+BAPLIE:D:95B:UN:SMDG22'
+BGM++1+9'
+DTM+137:2601010000:201'
+TDT+20+1++++++:::V'
+LOC+5+AAAAA:139:6'
+LOC+61+BBBBB:139:6'
+DTM+133:2601010000:201'
+LOC+147+0020182::5'
+MEA+WT++KGM:10000'
+LOC+9+AAAAA:139:6'
+LOC+11+CCCCC:139:6'
+RFF+BM:1'
+EQD+CN+AAAU0000001+42G1+++5'
+UNT+14+1'
+UNZ+1+1'
+";
+
+#[test]
+fn a_group_is_written_as_printed(rt: HostRuntime) -> Result<(), Fail> {
+    let alloc = rt.alloc();
+    let words = words_of(alloc, PLAN)?;
+    let mut folder = MemFolder::new(alloc, numbers_of(alloc, &[])?);
+    folder.lay("ship.toml", SHIP.as_bytes())?;
+    folder.lay("cargo.toml", ONE.as_bytes())?;
+    let mut out = MemSink::new(alloc, 1000, numbers_of(alloc, &[])?)?;
+    let status = stow(&rt, alloc, &words, &mut folder, &mut out, &NoGate);
+    assert_eq!(rt; status, Status::Fine);
+    let file = folder.file("X-01.edi").ok_or("no file")?;
+    assert_eq!(rt; file.as_slice(), ONE_FIRST.as_bytes());
+    Ok(())
+}
