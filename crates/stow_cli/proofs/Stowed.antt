@@ -120,7 +120,7 @@ sound_departs ship cargo call plan plain_ship plain s carried = record {
   within = within_limits ship cargo plan plain_ship (λ p c h.
       let known = is_container cargo c (s.known p c h) in
       (container_at cargo c, known, (each_is (IsShipped (length cargo.rotation)) cargo.containers c (container_at cargo c) plain.rules.each_shipped known).kg_to));
-  separated = λ e rule is. absurd (none-some rule (sym (ap (λ (z : List Separation). slice_get z e) plain_ship.no_separation) ∙ is));
+  separated = λ e rule p q c d first second x y is a b f g. absurd (none-some rule (sym (ap (λ (z : List Separation). slice_get z e) plain_ship.no_separation) ∙ is));
 }
 
 -- the empty ship at arrival
