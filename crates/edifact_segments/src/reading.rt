@@ -1,9 +1,11 @@
 //! Interchanges as they are read.
-ghost use Rattle.std.specs.Prelude.{◌≡◌, ◌≢◌, ◌⊎◌, ◌+◌, ◌<◌, ◌≤◌, ◌^◌, false, List, [], ◌∷◌, ◌++◌, length, drop, IfErr, IfOk, IsTrue, OnOk};
+ghost use Rattle.std.specs.Prelude.{◌≡◌, ◌≢◌, ◌⊎◌, ℕ, ◌+◌, ◌<◌, ◌≤◌, ◌^◌, false, List, [], ◌∷◌, ◌++◌, length, drop, IfErr, IfOk, IsTrue, OnOk};
 ghost use Rattle.edifact_segments.specs.Characters.{Character, Plain};
 ghost use Rattle.edifact_segments.specs.Drafts.{Drafts, Finds, Reads};
 ghost use Rattle.edifact_segments.specs.Grammar.{HasFault, HasUna, IsInterchange, Starts, unb, unz};
 ghost use Rattle.edifact_segments.specs.Scanning.{skip};
+ghost use Rattle.edifact_segments.specs.declared.faults.SegFault.{SegFault};
+ghost use Rattle.edifact_segments.specs.declared.segments.Segment.{Segment};
 
 use crate::draft::Draft;
 use crate::faults::SegFault;
@@ -184,4 +186,12 @@ fn take_plain(draft: &mut Draft, service: &Service, byte: u8) -> Result<(), NoMe
         draft.text.push(byte)?;
         Ok(())
     }
+}
+
+/// A text has one reading: one list of segments, or one fault.
+pub fn one_reading()
+    ensures segments { (bytes : List ℕ) (s t : List Segment) → IsInterchange bytes s → IsInterchange bytes t → s ≡ t }
+    ensures fault { (bytes : List ℕ) (f g : SegFault) → HasFault bytes f → HasFault bytes g → f ≡ g }
+    ensures apart { (bytes : List ℕ) (s : List Segment) (f : SegFault) → IsInterchange bytes s → HasFault bytes f → ⊥ }
+{
 }
