@@ -6,3 +6,4 @@ pub mod DraftLemmas
 pub mod ScanLemmas
 pub mod GrammarLemmas
 pub mod OneReading
+pub mod EachText

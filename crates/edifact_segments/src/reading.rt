@@ -195,3 +195,9 @@ pub fn one_reading()
     ensures apart { (bytes : List ℕ) (s : List Segment) (f : SegFault) → IsInterchange bytes s → HasFault bytes f → ⊥ }
 {
 }
+
+/// Each text has a reading: it is an interchange, or has a fault.
+pub fn each_text()
+    ensures { (bytes : List ℕ) → ((s : List Segment) × IsInterchange bytes s) ⊎ ((f : SegFault) × HasFault bytes f) }
+{
+}
