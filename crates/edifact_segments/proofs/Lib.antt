@@ -7,3 +7,4 @@ pub mod ScanLemmas
 pub mod GrammarLemmas
 pub mod OneReading
 pub mod EachText
+pub mod ReadBackLemmas

@@ -2,7 +2,10 @@
 ghost use Rattle.std.specs.Prelude.{◌≡◌, ◌≢◌, ◌⊎◌, ℕ, ◌+◌, ◌<◌, ◌≤◌, ◌^◌, false, List, [], ◌∷◌, ◌++◌, length, drop, IfErr, IfOk, IsTrue, OnOk};
 ghost use Rattle.edifact_segments.specs.Characters.{Character, Plain};
 ghost use Rattle.edifact_segments.specs.Drafts.{Drafts, Finds, Reads};
-ghost use Rattle.edifact_segments.specs.Grammar.{HasFault, HasUna, IsInterchange, Starts, unb, unz};
+ghost use Rattle.edifact_segments.specs.Grammar.{HasFault, HasUna, IsHeaded, IsInterchange, Starts, unb, unz};
+ghost use Rattle.edifact_segments.specs.ReadBack.{AreWritable, IsWritable};
+ghost use Rattle.edifact_segments.specs.Written.{written};
+ghost use Rattle.std.specs.List.{flat_map};
 ghost use Rattle.edifact_segments.specs.Scanning.{skip};
 ghost use Rattle.edifact_segments.specs.declared.faults.SegFault.{SegFault};
 ghost use Rattle.edifact_segments.specs.declared.segments.Segment.{Segment};
@@ -199,5 +202,13 @@ pub fn one_reading()
 /// Each text has a reading: it is an interchange, or has a fault.
 pub fn each_text()
     ensures { (bytes : List ℕ) → ((s : List Segment) × IsInterchange bytes s) ⊎ ((f : SegFault) × HasFault bytes f) }
+{
+}
+
+/// What is written reads back: segments in canonical form with tags and without control bytes, the first
+/// UNB and the last alone UNZ.
+pub fn reads_back()
+    ensures { (before : List Segment) (last : Segment) → AreWritable before → IsWritable last → last.tag ≡ unz
+        → IsHeaded (before ++ last ∷ []) → IsInterchange (flat_map written (before ++ last ∷ [])) (before ++ last ∷ []) }
 {
 }
