@@ -4,11 +4,11 @@ use Rattle.std.proofs.lemmas.Bool.{true≢false}
 use Rattle.std.proofs.lemmas.Bool.Decides.{eqb_tells}
 use Rattle.std.proofs.lemmas.List.{append-nil}
 use Rattle.edifact_segments.specs.Canonical.{canonical}
-use Rattle.edifact_segments.specs.Characters.{Character, is_control, spelling, AreCharacters, elements_of, default_service}
-use Rattle.edifact_segments.specs.Grammar.{IsService, are_marks, are_apart, is_gap_byte, IsGap, IsOpen, is_capital, IsTag, IsSegmentOf, HasNoTag, Completes, TakesSegment, HasUna, una, advice, Starts, Begins, Reaches, IsInterchange, HasFault, unz, unb, IsHeaded}
+use Rattle.edifact_segments.specs.Characters.{Character, spelling, elements_of, default_service}
+use Rattle.edifact_segments.specs.Grammar.{IsService, are_marks, are_apart, is_gap_byte, IsGap, is_capital, IsTag, IsSegmentOf, HasNoTag, Completes, TakesSegment, HasUna, una, advice, Starts, Begins, IsInterchange, HasFault, unz, unb, IsHeaded}
 use Rattle.edifact_segments.specs.Scanning.{skip, Front, Complete, Broken, Unended, front}
 use Rattle.edifact_segments.specs.declared.faults.SegFault.{SegFault}
-use Rattle.edifact_segments.specs.declared.faults.SegFault.TheVariants.{NoHeader, BadUna, Unterminated, ControlByte, BadTag, NoTrailer, Trailing, NoMemory}
+use Rattle.edifact_segments.specs.declared.faults.SegFault.TheVariants.{NoHeader, BadUna, Unterminated, ControlByte, BadTag, NoTrailer, Trailing}
 use Rattle.edifact_segments.specs.declared.segments.Segment.{Segment}
 use Rattle.edifact_segments.specs.declared.service.Service.{Service}
 use Rattle.edifact_segments.proofs.GrammarLemmas.{skipped, skip-skip, no_gap, Tells, tells-front, begins-push, headed-push}
@@ -70,6 +70,7 @@ module _ (bytes : List ℕ) (s : Service) (text : List ℕ) (starts : Starts byt
     where
       k : (gap : List ℕ) × (next ≡ gap ++ skip next) × IsGap gap
       k = skipped next
+
       go : (y : List ℕ) → skip next ≡ y → Read bytes
       go [] e =
           let P : List ℕ → Type 0 = λ w. IsGap w in
@@ -93,6 +94,7 @@ module _ (bytes : List ℕ) (s : Service) (text : List ℕ) (starts : Starts byt
       trailer : (x : Segment) → IsSegmentOf (elements_of s cs) x → (before ≡ [] → x.tag ≡ unb) → (x.tag ≡ unz) ⊎ (x.tag ≢ unz) → Read bytes
       trailer x k f (inl z) = closed before rest x next b h f (cs, co, k) z (omega (arith, le, lt))
       trailer x k f (inr z) = more (before ++ x ∷ []) next (begins-push s text rest before x next b (cs, co, k) z) (headed-push before x h f) lt
+
       header : (x : Segment) → IsSegmentOf (elements_of s cs) x → (ys : List Segment) → before ≡ ys → (x.tag ≡ unb) ⊎ (x.tag ≢ unb) → Read bytes
       header x k ys e (inl u) = trailer x k (λ _. u) (same_or_not x.tag unz)
       header x k (y ∷ ys) e (inr u) = trailer x k (λ n. absurd (omega (arith, ap length (sym e ∙ n)))) (same_or_not x.tag unz)
@@ -101,6 +103,7 @@ module _ (bytes : List ℕ) (s : Service) (text : List ℕ) (starts : Starts byt
           let here : text ≡ rest = subst P e b in
           let Q : List ℕ → Type 0 = λ w. TakesSegment s w x next in
           inr (NoHeader, (s, text, starts, inr (x, next, subst Q (sym here) (cs, co, k), u)))
+
       tagged : ((x : Segment) × IsSegmentOf (elements_of s cs) x) ⊎ HasNoTag s cs → Read bytes
       tagged (inl w) = header w.0 w.1 before refl (same_or_not w.0.tag unb)
       tagged (inr n) = inr (BadTag (length before + 1), (s, before, rest, cs, next, (text, starts, b, h), co, n, refl))
@@ -111,6 +114,7 @@ module _ (bytes : List ℕ) (s : Service) (text : List ℕ) (starts : Starts byt
     where
       k : (gap : List ℕ) × (rest ≡ gap ++ skip rest) × IsGap gap
       k = skipped rest
+
       found : (c : ℕ) (cs : List ℕ) → skip rest ≡ c ∷ cs → (f : Front) → front s false (c ∷ cs) ≡ f → Tells s f (c ∷ cs) → Read bytes
       found c cs e Unended fe t =
           let r : rest ≡ k.0 ++ c ∷ cs = k.1 ∙ ap (λ w. k.0 ++ w) e in
@@ -131,6 +135,7 @@ module _ (bytes : List ℕ) (s : Service) (text : List ℕ) (starts : Starts byt
           let r : rest ≡ k.0 ++ (spelling s cs' ++ s.terminator ∷ next) = k.1 ∙ ap (λ w. k.0 ++ w) (e ∙ t.1) in
           let lt : length next < length rest = omega (arith, ap length r, length-append k.0 (spelling s cs' ++ s.terminator ∷ next), length-append (spelling s cs') (s.terminator ∷ next)) in
           complete before rest cs' next b h (k.0, r, k.2, t.0) le lt more
+
       at_gap : (y : List ℕ) → skip rest ≡ y → (ys : List Segment) → before ≡ ys → Read bytes
       at_gap [] e [] eb =
           let P : List Segment → Type 0 = λ w. Begins s text w rest in
@@ -184,6 +189,7 @@ start bytes (a ∷ b ∷ c ∷ d ∷ f ∷ g ∷ text) e = go (true_or_not (are_
   where
     sv : Service
     sv = record { component = a; element = b; release = d; terminator = g }
+
     same : (s : Service) (x y : ℕ) (t : List ℕ) → bytes ≡ una (advice s x y ++ t) → s ≡ sv
     same s x y t h =
         let q : una (advice s x y ++ t) ≡ una (a ∷ b ∷ c ∷ d ∷ f ∷ g ∷ text) = sym h ∙ e in
@@ -193,9 +199,11 @@ start bytes (a ∷ b ∷ c ∷ d ∷ f ∷ g ∷ text) e = go (true_or_not (are_
         let eg : s.terminator ≡ g = cc in
         let make : ℕ → ℕ → ℕ → ℕ → Service = λ k l m n. record { component = k; element = l; release = m; terminator = n } in
         ap (λ z. make z s.element s.release s.terminator) ea ∙ ap (λ z. make a z s.release s.terminator) eb ∙ ap (λ z. make a b z s.terminator) ed ∙ ap (make a b d) eg
+
     none : (IsService sv → ⊥) → (s : Service) (t : List ℕ) → Starts bytes s t → ⊥
     none n s t (inl w) = let P : Service → Type 0 = λ z. IsService z in n (subst P (same s w.1 w.2 t w.3) w.0)
     none n s t (inr w) = w.0 (a ∷ b ∷ c ∷ d ∷ f ∷ g ∷ text, e)
+
     go : (are_marks sv ≡ true) ⊎ (are_marks sv ≡ false) → (are_apart sv ≡ true) ⊎ (are_apart sv ≡ false) → ((s : Service) × (t : List ℕ) × Starts bytes s t) ⊎ HasFault bytes BadUna
     go (inl m) (inl p) = inl (sv, text, inl ((m, p), c, f, e))
     go (inr m) p = inr ((a ∷ b ∷ c ∷ d ∷ f ∷ g ∷ text, e), none (λ k. true≢false (sym k.0 ∙ m)))
@@ -210,9 +218,11 @@ read_each bytes = go (una_or_not bytes)
   where
     from : (s : Service) (text : List ℕ) → Starts bytes s text → Read bytes
     from s text h = walk bytes s text h (suc (length text)) [] text refl tt (shorter_text bytes s text h) (omega arith)
+
     with_una : ((s : Service) × (text : List ℕ) × Starts bytes s text) ⊎ HasFault bytes BadUna → Read bytes
     with_una (inl w) = from w.0 w.1 w.2
     with_una (inr b) = inr (BadUna, b)
+
     go : HasUna bytes ⊎ (HasUna bytes → ⊥) → Read bytes
     go (inl u) = with_una (start bytes u.0 u.1)
     go (inr n) = from default_service bytes (inr (n, refl, refl))

@@ -1,11 +1,11 @@
 -- A text has one reading.
-use Rattle.std.proofs.Common.{◌≡◌, ◌≢◌, ℕ, suc, ◌+◌, ◌-◌, ◌<◌, ◌≤◌, Bool, true, false, cond, ◌==◌, ◌&&◌, ◌||◌, not, List, [], ◌∷◌, ◌++◌, length, refl, sym, ap, ◌∙◌, subst, arith, append_assoc, inl, inr, ◌⊎◌, Option, Some, None, Result, Ok, Err}
-use Rattle.std.proofs.lemmas.Bool.{true≢false, false≢true, eqb-true, eq-eqb, eqb-false}
+use Rattle.std.proofs.Common.{◌≡◌, ◌≢◌, ℕ, ◌+◌, ◌<◌, Bool, true, false, ◌==◌, ◌&&◌, not, List, [], ◌∷◌, ◌++◌, length, refl, sym, ap, ◌∙◌, subst, arith, append_assoc, inl, inr, ◌⊎◌, Option, Some, None, Result, Ok, Err}
+use Rattle.std.proofs.lemmas.Bool.{false≢true, eq-eqb}
 use Rattle.std.proofs.lemmas.Bool.Decides.{nat_tests}
 use Rattle.std.proofs.lemmas.List.{append-nil}
 use Rattle.edifact_segments.specs.Canonical.{canonical}
-use Rattle.edifact_segments.specs.Characters.{Character, Plain, Released, is_control, is_release, spelling, spelled, AreCharacters, IsCharacter, elements_of, default_service}
-use Rattle.edifact_segments.specs.Grammar.{is_mark, are_marks, are_apart, IsService, is_gap_byte, IsGap, IsOpen, IsTag, IsSegmentOf, HasNoTag, Completes, TakesSegment, HasUna, Advised, una, advice, Starts, Begins, Reaches, Closes, IsInterchange, HasFault, unz, unb, IsHeaded}
+use Rattle.edifact_segments.specs.Characters.{Character, Plain, Released, is_control, is_release, spelling, spelled, AreCharacters, IsCharacter, elements_of}
+use Rattle.edifact_segments.specs.Grammar.{is_mark, IsService, is_gap_byte, IsGap, IsOpen, IsSegmentOf, HasNoTag, Completes, TakesSegment, una, advice, Starts, Begins, Reaches, IsInterchange, HasFault, unz, unb, IsHeaded}
 use Rattle.edifact_segments.specs.Scanning.{skip, Front, Complete, Broken, Unended, with_character, front}
 use Rattle.edifact_segments.specs.declared.faults.SegFault.{SegFault}
 use Rattle.edifact_segments.specs.declared.faults.SegFault.TheVariants.{NoHeader, BadUna, Unterminated, ControlByte, BadTag, NoTrailer, Trailing, NoMemory}
@@ -42,6 +42,7 @@ calm s h =
     not_true : (b : Bool) → not b ≡ true → b ≡ false
     not_true true e = absurd (false≢true e)
     not_true false e = refl
+
     apart : (r t : ℕ) → (r == t) ≡ false → (t == r && not (t == 32)) ≡ false
     apart r t e = grind (arith, nat_tests)
 
@@ -320,6 +321,7 @@ goes_on n s rest before before' k o h k' d g hd =
   where
     first : before ≡ [] → g.0.tag ≡ unb
     first b = let P : List Segment → Type 0 = λ z. IsHeaded z in subst P (g.5 ∙ ap (λ z. z ++ g.0 ∷ g.2) b) hd
+
     go : Decides n before (KTakes g.0 g.1) o → ⊥
     go (inl w) = w.1 (first w.0)
     go (inr w) = g.4 w.0

@@ -1,11 +1,11 @@
 -- What is written reads back.
-use Rattle.std.proofs.Common.{◌≡◌, ◌≢◌, ℕ, suc, Bool, true, false, ◌==◌, ◌||◌, cond, List, [], ◌∷◌, ◌++◌, map, length, refl, sym, ap, ◌∙◌, subst, arith, append_assoc, inl, inr, ◌⊎◌}
+use Rattle.std.proofs.Common.{◌≡◌, ℕ, Bool, true, false, ◌==◌, cond, List, [], ◌∷◌, ◌++◌, map, refl, sym, ap, ◌∙◌, subst, arith, append_assoc, inr}
 use Rattle.std.specs.List.{flat_map}
 use Rattle.std.proofs.lemmas.Bool.{eqb-false}
 use Rattle.std.proofs.lemmas.Bool.Decides.{nat_tests}
 use Rattle.edifact_segments.specs.Canonical.{trimmed, canonical}
-use Rattle.edifact_segments.specs.Characters.{Character, Plain, Released, is_control, is_release, spelling, spelled, AreCharacters, IsCharacter, with_byte, elements_of, default_service}
-use Rattle.edifact_segments.specs.Grammar.{is_capital, IsTag, IsSegmentOf, IsGap, Completes, TakesSegment, HasUna, Starts, Begins, IsInterchange, unz, unb, IsHeaded}
+use Rattle.edifact_segments.specs.Characters.{Character, Plain, Released, is_control, is_release, spelling, AreCharacters, IsCharacter, with_byte, elements_of, default_service}
+use Rattle.edifact_segments.specs.Grammar.{is_capital, IsGap, TakesSegment, HasUna, Begins, IsInterchange, unz, unb, IsHeaded}
 use Rattle.edifact_segments.specs.ReadBack.{IsPrintable, IsPrintableElement, ArePrintable, IsWritable, AreWritable}
 use Rattle.edifact_segments.specs.Written.{is_service, written_elements, written}
 use Rattle.edifact_segments.specs.declared.segments.Segment.{Segment}
@@ -62,22 +62,31 @@ takes_written gap tail x g w = (cs, (gap, ap (λ y. gap ++ y) text, g, are), (ma
   where
     a : ℕ
     a = w.0.0
+
     b : ℕ
     b = w.0.1
+
     c : ℕ
     c = w.0.2
+
     es : List (List (List ℕ))
     es = canonical x.elements
+
     cs : List Character
     cs = Plain a ∷ Plain b ∷ Plain c ∷ characters es
+
     text : written x ++ tail ≡ spelling default_service cs ++ 39 ∷ 10 ∷ tail
     text = append_assoc (x.tag ++ written_elements es) (39 ∷ 10 ∷ []) tail ∙ ap (λ t. t ++ written_elements es ++ 39 ∷ 10 ∷ tail) w.0.3 ∙ ap (λ t. (a ∷ b ∷ c ∷ t) ++ 39 ∷ 10 ∷ tail) (sym (spelling-characters es))
+
     printable : ArePrintable es
     printable = let P : List (List (List ℕ)) → Type 0 = λ z. ArePrintable z in subst P (sym w.1) w.2
+
     are : AreCharacters default_service cs
     are = (capital_character a w.0.4, (capital_character b w.0.5, (capital_character c w.0.6, are-elements es printable)))
+
     whole : elements_of default_service cs ≡ (x.tag ∷ []) ∷ map shown es
     whole = capital_first a w.0.4 (Plain b ∷ Plain c ∷ characters es) ∙ ap (with_byte a) (capital_first b w.0.5 (Plain c ∷ characters es)) ∙ ap (λ z. with_byte a (with_byte b z)) (capital_first c w.0.6 (characters es) ∙ ap (with_byte c) (elements_of-characters es)) ∙ ap (λ t. (t ∷ []) ∷ map shown es) (sym w.0.3)
+
     same : x.elements ≡ canonical (map shown es)
     same = sym (ap trimmed (map-trimmed-shown es) ∙ canonical-canonical x.elements ∙ w.1)
 
@@ -87,6 +96,7 @@ begins_written gap tail (x ∷ segments) g w = add (begins_written (10 ∷ []) t
   where
     regroup : gap ++ (flat_map written (x ∷ segments) ++ tail) ≡ gap ++ (written x ++ (flat_map written segments ++ tail))
     regroup = ap (λ t. gap ++ t) (append_assoc (written x) (flat_map written segments) tail)
+
     add : ((gap' : List ℕ) × Begins default_service (10 ∷ (flat_map written segments ++ tail)) segments (gap' ++ tail) × IsGap gap') → (gap' : List ℕ) × Begins default_service (gap ++ (flat_map written (x ∷ segments) ++ tail)) (x ∷ segments) (gap' ++ tail) × IsGap gap'
     add h =
         let P : List ℕ → Type 0 = λ t. TakesSegment default_service t x (10 ∷ (flat_map written segments ++ tail)) in

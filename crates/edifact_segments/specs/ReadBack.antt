@@ -1,10 +1,8 @@
 -- Segments that are read back as they are written.
-use Rattle.std.specs.Prelude.{◌≡◌, ◌≢◌, ℕ, false, List, [], ◌∷◌, ◌++◌}
-use Rattle.std.specs.List.{flat_map}
+use Rattle.std.specs.Prelude.{◌≡◌, ◌≢◌, ℕ, false, List, [], ◌∷◌}
 use Rattle.edifact_segments.specs.Canonical.{canonical}
 use Rattle.edifact_segments.specs.Characters.{is_control}
-use Rattle.edifact_segments.specs.Grammar.{IsTag, IsHeaded, unz}
-use Rattle.edifact_segments.specs.Written.{written}
+use Rattle.edifact_segments.specs.Grammar.{IsTag, unz}
 use Rattle.edifact_segments.specs.declared.segments.Segment.{Segment}
 
 -- no control byte: in a component, an element, a segment

@@ -196,19 +196,16 @@ pub fn one_reading()
     ensures segments { (bytes : List ℕ) (s t : List Segment) → IsInterchange bytes s → IsInterchange bytes t → s ≡ t }
     ensures fault { (bytes : List ℕ) (f g : SegFault) → HasFault bytes f → HasFault bytes g → f ≡ g }
     ensures apart { (bytes : List ℕ) (s : List Segment) (f : SegFault) → IsInterchange bytes s → HasFault bytes f → ⊥ }
-{
-}
+{}
 
 /// Each text has a reading: it is an interchange, or has a fault.
 pub fn each_text()
     ensures { (bytes : List ℕ) → ((s : List Segment) × IsInterchange bytes s) ⊎ ((f : SegFault) × HasFault bytes f) }
-{
-}
+{}
 
 /// What is written reads back: segments in canonical form with tags and without control bytes, the first
 /// UNB and the last alone UNZ.
 pub fn reads_back()
     ensures { (before : List Segment) (last : Segment) → AreWritable before → IsWritable last → last.tag ≡ unz
         → IsHeaded (before ++ last ∷ []) → IsInterchange (flat_map written (before ++ last ∷ [])) (before ++ last ∷ []) }
-{
-}
+{}
