@@ -53,7 +53,7 @@ with_text-is : (t u : List ℕ) (ts : List (List ℕ)) (es : List (List (List �
 with_text-is [] u ts es = refl
 with_text-is (b ∷ bs) u ts es = ap (with_byte b) (with_text-is bs u ts es)
 
-none_of : (p q r s : Bool) → (p || q || r || s) ≡ false → (p ≡ false) × (q ≡ false) × (r ≡ false) × (s ≡ false)
+pub none_of : (p q r s : Bool) → (p || q || r || s) ≡ false → (p ≡ false) × (q ≡ false) × (r ≡ false) × (s ≡ false)
 none_of true q r s e = absurd (true≢false e)
 none_of false true r s e = absurd (true≢false e)
 none_of false false true s e = absurd (true≢false e)
@@ -75,7 +75,7 @@ elements_of-text [] cs = refl
 elements_of-text (b ∷ bs) cs = in_front_of-character b (elements_of default_service (map character bs ++ cs)) ∙ ap (with_byte b) (elements_of-text bs cs)
 
 -- an element without components is an empty one
-abbrev shown : List (List ℕ) → List (List ℕ)
+abbrev pub shown : List (List ℕ) → List (List ℕ)
 shown [] = [] ∷ []
 shown (c ∷ cs) = c ∷ cs
 
@@ -146,7 +146,7 @@ trimmed-shown : (e : List (List ℕ)) → trimmed (shown e) ≡ trimmed e
 trimmed-shown [] = refl
 trimmed-shown (c ∷ cs) = refl
 
-map-trimmed-shown : (es : List (List (List ℕ))) → map trimmed (map shown es) ≡ map trimmed es
+pub map-trimmed-shown : (es : List (List (List ℕ))) → map trimmed (map shown es) ≡ map trimmed es
 map-trimmed-shown [] = refl
 map-trimmed-shown (e ∷ es) = ap (λ x. x ∷ map trimmed (map shown es)) (trimmed-shown e) ∙ ap (λ x. trimmed e ∷ x) (map-trimmed-shown es)
 

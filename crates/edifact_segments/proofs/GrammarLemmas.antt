@@ -158,11 +158,11 @@ few-none segments n e = omega (arith, ap length e)
 pub headed-none : (segments : List Segment) → segments ≡ [] → IsHeaded segments
 headed-none segments e = let P : List Segment → Type 0 = λ ss. IsHeaded ss in subst P (sym e) tt
 
-begins-push : (s : Service) (text rest : List ℕ) (segments : List Segment) (x : Segment) (next : List ℕ) → Begins s text segments rest → TakesSegment s rest x next → x.tag ≢ unz → Begins s text (segments ++ x ∷ []) next
+pub begins-push : (s : Service) (text rest : List ℕ) (segments : List Segment) (x : Segment) (next : List ℕ) → Begins s text segments rest → TakesSegment s rest x next → x.tag ≢ unz → Begins s text (segments ++ x ∷ []) next
 begins-push s text rest [] x next b t u = (next, let P : List ℕ → Type 0 = λ y. TakesSegment s y x next in subst P (sym b) t, u, refl)
 begins-push s text rest (y ∷ segments) x next b t u = (b.0, b.1, b.2, begins-push s b.0 rest segments x next b.3 t u)
 
-headed-push : (segments : List Segment) (x : Segment) → IsHeaded segments → (segments ≡ [] → x.tag ≡ unb) → IsHeaded (segments ++ x ∷ [])
+pub headed-push : (segments : List Segment) (x : Segment) → IsHeaded segments → (segments ≡ [] → x.tag ≡ unb) → IsHeaded (segments ++ x ∷ [])
 headed-push [] x h k = k refl
 headed-push (y ∷ segments) x h k = h
 

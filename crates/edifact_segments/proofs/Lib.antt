@@ -5,3 +5,6 @@ pub mod Determined
 pub mod DraftLemmas
 pub mod ScanLemmas
 pub mod GrammarLemmas
+pub mod OneReading
+pub mod EachText
+pub mod ReadBackLemmas

@@ -6,3 +6,4 @@ pub mod Characters
 pub mod Grammar
 pub mod Scanning
 pub mod Drafts
+pub mod ReadBack

@@ -11,7 +11,7 @@ mod writing;
 
 pub use elements::ElementList;
 pub use faults::SegFault;
-pub use reading::read_interchange;
+pub use reading::{each_text, one_reading, read_interchange, reads_back};
 pub use segments::{Segment, SegmentList};
 pub use writing::{write_segment, written_determines};
 

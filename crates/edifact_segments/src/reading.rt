@@ -1,9 +1,14 @@
 //! Interchanges as they are read.
-ghost use Rattle.std.specs.Prelude.{◌≡◌, ◌≢◌, ◌⊎◌, ◌+◌, ◌<◌, ◌≤◌, ◌^◌, false, List, [], ◌∷◌, ◌++◌, length, drop, IfErr, IfOk, IsTrue, OnOk};
+ghost use Rattle.std.specs.Prelude.{◌≡◌, ◌≢◌, ◌⊎◌, ℕ, ◌+◌, ◌<◌, ◌≤◌, ◌^◌, false, List, [], ◌∷◌, ◌++◌, length, drop, IfErr, IfOk, IsTrue, OnOk};
 ghost use Rattle.edifact_segments.specs.Characters.{Character, Plain};
 ghost use Rattle.edifact_segments.specs.Drafts.{Drafts, Finds, Reads};
-ghost use Rattle.edifact_segments.specs.Grammar.{HasFault, HasUna, IsInterchange, Starts, unb, unz};
+ghost use Rattle.edifact_segments.specs.Grammar.{HasFault, HasUna, IsHeaded, IsInterchange, Starts, unb, unz};
+ghost use Rattle.edifact_segments.specs.ReadBack.{AreWritable, IsWritable};
+ghost use Rattle.edifact_segments.specs.Written.{written};
+ghost use Rattle.std.specs.List.{flat_map};
 ghost use Rattle.edifact_segments.specs.Scanning.{skip};
+ghost use Rattle.edifact_segments.specs.declared.faults.SegFault.{SegFault};
+ghost use Rattle.edifact_segments.specs.declared.segments.Segment.{Segment};
 
 use crate::draft::Draft;
 use crate::faults::SegFault;
@@ -185,3 +190,22 @@ fn take_plain(draft: &mut Draft, service: &Service, byte: u8) -> Result<(), NoMe
         Ok(())
     }
 }
+
+/// A text has one reading: one list of segments, or one fault.
+pub fn one_reading()
+    ensures segments { (bytes : List ℕ) (s t : List Segment) → IsInterchange bytes s → IsInterchange bytes t → s ≡ t }
+    ensures fault { (bytes : List ℕ) (f g : SegFault) → HasFault bytes f → HasFault bytes g → f ≡ g }
+    ensures apart { (bytes : List ℕ) (s : List Segment) (f : SegFault) → IsInterchange bytes s → HasFault bytes f → ⊥ }
+{}
+
+/// Each text has a reading: it is an interchange, or has a fault.
+pub fn each_text()
+    ensures { (bytes : List ℕ) → ((s : List Segment) × IsInterchange bytes s) ⊎ ((f : SegFault) × HasFault bytes f) }
+{}
+
+/// What is written reads back: segments in canonical form with tags and without control bytes, the first
+/// UNB and the last alone UNZ.
+pub fn reads_back()
+    ensures { (before : List Segment) (last : Segment) → AreWritable before → IsWritable last → last.tag ≡ unz
+        → IsHeaded (before ++ last ∷ []) → IsInterchange (flat_map written (before ++ last ∷ [])) (before ++ last ∷ []) }
+{}
