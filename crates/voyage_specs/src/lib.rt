@@ -9,6 +9,8 @@ mod rules;
 
 mod separation;
 mod states;
+#[cfg(test)]
+mod tests;
 
 pub use crane::{count_call, run};
 pub use departures::{holds_aboard, is_aboard, is_departure, is_stowed, is_well_formed};

@@ -281,7 +281,9 @@ impl State {
         plan: Plan,
         call: CallNo,
     ) -> Result<State, NoMemory>
-        ensures { IfOk result (λ s. s ≡ start ship.now cargo.now call plan) }
+        requires { length plan ≡ length (places ship.now) }
+        ensures state { IfOk result (λ s. s ≡ start ship.now cargo.now call plan) }
+        ensures belongs { IfOk result (λ s. BelongsTo ship.now cargo.now s) }
     {
         Ok(State {
             plan,
