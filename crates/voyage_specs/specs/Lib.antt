@@ -5,4 +5,3 @@ pub mod Voyage
 pub mod Least
 pub mod Shown
 pub mod Places
-pub mod Samples

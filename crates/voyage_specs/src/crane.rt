@@ -7,8 +7,8 @@ ghost use Rattle.voyage_specs.specs.Places.{BelongsTo, LeadsBy, Runs, StopsAt};
 use crate::departures::is_departure;
 use crate::moves::Move;
 use crate::states::State;
-use stow_data::{CallNo, Cargo, NoMemory, Plan, Ship};
 use std::alloc::Global;
+use stow_data::{CallNo, Cargo, NoMemory, Plan, Ship};
 
 /// Runs a list of moves. Ok has the number of rehandles, the lifts of containers at a call other than their destination; Err has the index of the first move that isn't allowed, and the state is the one before it.
 pub fn run(

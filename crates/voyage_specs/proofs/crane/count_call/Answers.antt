@@ -1,9 +1,8 @@
-use Rattle.std.proofs.Common.{ap, sym, ◌∙◌, ◌≡◌, subst}
-use Rattle.std.proofs.lemmas.Bool.{both_ways}
+use Rattle.std.proofs.Common.{ap, sym, ◌∙◌, subst}
 use Rattle.voyage_specs.specs.Moves.{State, AllAllowed}
 use Rattle.voyage_specs.specs.Voyage.{start}
 use Rattle.voyage_specs.specs.Places.{BelongsTo}
-use Rattle.voyage_specs.proofs.RunsHold.{start_belongs, end_belongs, stops_not, leads_from, ends_from}
+use Rattle.voyage_specs.proofs.RunsHold.{start_belongs, end_belongs, stops_not}
 use Rattle.voyage_specs.proofs.crane.count_call.Goals as goal
 
 pub run-requires : goal.run-requires

@@ -1,4 +1,4 @@
-use Rattle.std.proofs.Common.{ap, ◌∙◌, ◌≡◌, List, Bool, false, subst, sym}
+use Rattle.std.proofs.Common.{ap, ◌∙◌, false, subst, sym}
 use Rattle.std.specs.Prelude.{replicate}
 use Rattle.voyage_specs.specs.Moves.{State}
 use Rattle.voyage_specs.specs.Places.{BelongsTo}
