@@ -9,7 +9,7 @@ mod rules;
 mod separation;
 mod states;
 
-pub use crane::{count_call, run};
+pub use crane::{MoveList, count_call, count_voyage, run};
 pub use departures::{holds_aboard, is_aboard, is_departure, is_stowed, is_well_formed};
 pub use half_cells::{is_bearing, is_taken, is_twenty};
 pub use moves::Move;
