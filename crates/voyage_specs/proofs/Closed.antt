@@ -1,8 +1,8 @@
 -- Each closed set of filled places is lifted by some legal moves, which count it exactly.
-use Rattle.std.specs.Prelude.{◌≡◌, ℕ, Bool, true, false, List, [], ◌∷◌, Option, Some, None, slice_get, ◌||◌, ◌&&◌, not, ◌==◌, ◌⊎◌, ◌↔◌, length, ◌<◌, ◌≤◌, suc, zero, ◌+◌, Contains, nat_eq, Any}
+use Rattle.std.specs.Prelude.{◌≡◌, ℕ, Bool, true, false, List, [], ◌∷◌, Option, Some, None, slice_get, ◌||◌, ◌&&◌, not, ◌==◌, length, ◌<◌, suc, zero, nat_eq}
 use Rattle.std.specs.List.{list_any}
-use Rattle.std.proofs.Common.{refl, sym, ◌∙◌, ap, arith, subst, inl, inr, ⊎_elim}
-use Rattle.std.proofs.lemmas.Bool.{and_from, and_parts, and_cases, both_ways, or_cases, or_left, or_right, or_parts, eq-eqb, eqb-true, eqb-false, false_from_ne_true, not-true, not-false, not_from_false, cases_Bool, cases_eq, ne_eqb}
+use Rattle.std.proofs.Common.{refl, sym, ◌∙◌, ap, arith, inl, inr, ⊎_elim}
+use Rattle.std.proofs.lemmas.Bool.{and_from, and_parts, and_cases, both_ways, or_cases, or_left, or_right, or_parts, eq-eqb, eqb-true, false_from_ne_true, not-true, not-false, cases_eq}
 use Rattle.std.proofs.lemmas.Map.Views.{list_any-from_Contains, Contains-from_any}
 use Rattle.std.proofs.lemmas.Cmp.{nat_eq_equiv}
 use Rattle.std.proofs.lemmas.Option.{none-some, same_Some, slice_get_within}
@@ -14,11 +14,11 @@ use Rattle.stow_data.specs.Ship.{Ship, places, LiesUnder, StandsOn}
 use Rattle.stow_data.specs.Shipment.{Cargo}
 use Rattle.voyage_specs.specs.Plan.{Plan, Holds}
 use Rattle.voyage_specs.specs.Departure.{IsStowed, IsDeparture}
-use Rattle.voyage_specs.specs.Moves.{State, lift_count, rehandles, end_of}
+use Rattle.voyage_specs.specs.Moves.{lift_count, rehandles}
 use Rattle.voyage_specs.specs.Voyage.{LeadsTo, start}
-use Rattle.voyage_specs.specs.Least.{IsOver, IsClosed, IsDivided, counted}
+use Rattle.voyage_specs.specs.Least.{IsClosed, IsDivided, counted}
 use Rattle.voyage_specs.proofs.Order.{over_is_later}
-use Rattle.voyage_specs.proofs.Upper.{Facts, moves, moves_reach, IsDone}
+use Rattle.voyage_specs.proofs.Upper.{Facts, moves, moves_reach}
 use Rattle.voyage_specs.proofs.Exact.{moves_count}
 
 -- tests of two cells, and of one

@@ -1,18 +1,15 @@
 -- Every allowed list of moves counts at least what it must lift.
-use Rattle.std.specs.Prelude.{◌≡◌, ℕ, Bool, true, false, List, [], ◌∷◌, Option, Some, None, slice_get, slice_set, slice_index_or, ◌||◌, ◌==◌, ◌≢◌, ◌⊎◌, length, ◌<◌, ◌≤◌, suc, zero, ◌+◌, cond}
-use Rattle.std.specs.List.{list_any}
-use Rattle.std.proofs.Common.{refl, sym, ◌∙◌, ap, arith, subst, inl, inr, ⊎_elim}
+use Rattle.std.specs.Prelude.{◌≡◌, ℕ, Bool, true, false, List, [], ◌∷◌, Option, Some, None, slice_set, slice_index_or, ◌||◌, ◌==◌, ◌≤◌, suc, zero, ◌+◌, cond}
+use Rattle.std.proofs.Common.{refl, arith, ⊎_elim}
 use Rattle.std.proofs.lemmas.Bool.{both_ways, or_cases, or_left, or_right, eq-eqb, eqb-true}
-use Rattle.std.proofs.lemmas.Option.{none-some, same_Some, slice_get_past, get_or_from_slice_get}
-use Rattle.stow_data.specs.declared.shipments.Container.{Container}
 use Rattle.voyage_specs.specs.declared.moves.Move.{Move}
 use Rattle.voyage_specs.specs.declared.moves.Move.TheVariants.{OffCover, OnCover, Lift, Put}
 use Rattle.stow_data.specs.Ship.{Ship}
 use Rattle.stow_data.specs.Shipment.{Cargo}
 use Rattle.voyage_specs.specs.Plan.{Plan, Holds}
-use Rattle.voyage_specs.specs.Moves.{State, AllAllowed, after, end_of, lift_count, rehandles, rehandles_of, CanPut, CanLift, Allowed}
+use Rattle.voyage_specs.specs.Moves.{State, AllAllowed, after, lift_count, rehandles}
 use Rattle.voyage_specs.specs.Least.{counted}
-use Rattle.voyage_specs.proofs.Lower.{put_elsewhere, lifts_from, is_lifted}
+use Rattle.voyage_specs.proofs.Lower.{put_elsewhere, is_lifted}
 
 cond_le : (b : Bool) (n : ℕ) → cond b n 0 ≤ n
 cond_le true n = omega arith

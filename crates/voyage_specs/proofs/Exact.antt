@@ -1,21 +1,20 @@
 -- The moves of a call count exactly the set.
-use Rattle.std.specs.Prelude.{◌≡◌, ℕ, Bool, true, false, List, [], ◌∷◌, ◌++◌, Option, Some, None, slice_get, slice_set, slice_index_or, ◌||◌, ◌&&◌, not, ◌==◌, length, ◌<◌, ◌≤◌, suc, zero, ◌+◌, cond}
-use Rattle.std.proofs.Common.{refl, sym, ◌∙◌, ap, arith, subst, inl, inr, ⊎_elim}
-use Rattle.std.proofs.lemmas.Bool.{and_parts, both_ways, cases_Bool, cases_eq, or_from, and_right, not-true}
+use Rattle.std.specs.Prelude.{◌≡◌, ℕ, Bool, true, false, List, [], ◌∷◌, ◌++◌, Option, Some, None, slice_get, slice_set, slice_index_or, ◌&&◌, not, length, ◌<◌, suc, zero, ◌+◌, cond}
+use Rattle.std.proofs.Common.{refl, sym, ◌∙◌, ap, arith}
+use Rattle.std.proofs.lemmas.Bool.{and_parts, or_from, and_right, not-true}
 use Rattle.std.proofs.lemmas.List.{get_or-set_other}
 use Rattle.std.proofs.lemmas.Option.{unwrap_or-slice_get}
 use Rattle.std.specs.Option.{unwrap_or}
-use Rattle.stow_data.specs.declared.shipments.Container.{Container}
 use Rattle.voyage_specs.specs.declared.moves.Move.{Move}
 use Rattle.voyage_specs.specs.declared.moves.Move.TheVariants.{OffCover, OnCover, Lift, Put}
 use Rattle.stow_data.specs.Ship.{Ship, places}
 use Rattle.stow_data.specs.Shipment.{Cargo}
-use Rattle.voyage_specs.specs.Plan.{Plan, Holds}
+use Rattle.voyage_specs.specs.Plan.{Plan}
 use Rattle.voyage_specs.specs.Moves.{State, after, end_of, lift_count, rehandles}
 use Rattle.voyage_specs.specs.Voyage.{start}
 use Rattle.voyage_specs.specs.Least.{counted}
 use Rattle.voyage_specs.proofs.Runs.{lifts_down, puts_from, put_of, covers_down}
-use Rattle.voyage_specs.proofs.Upper.{Facts, moves, pass_1, pass_2, pass_3, lift_state_moved}
+use Rattle.voyage_specs.proofs.Upper.{Facts, moves, pass_1, pass_2}
 
 rehandles_append : (cargo : Cargo) (call : ℕ) (xs ys : List Move) (s : State) → rehandles cargo call s (xs ++ ys) ≡ rehandles cargo call s xs + rehandles cargo call (end_of cargo call s xs) ys
 rehandles_append cargo call [] ys s = omega arith

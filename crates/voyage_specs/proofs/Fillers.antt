@@ -1,5 +1,5 @@
 -- What fills a half-cell, place by place.
-use Rattle.std.specs.Prelude.{◌≡◌, ℕ, ◌<◌, ◌≤◌, length, slice_get, Some}
+use Rattle.std.specs.Prelude.{ℕ, ◌<◌, ◌≤◌, length}
 use Rattle.std.proofs.Common.{arith}
 use Rattle.std.proofs.lemmas.Option.{slice_get_within}
 use Rattle.stow_data.specs.declared.geometry.Half.{Half}
@@ -7,8 +7,6 @@ use Rattle.stow_data.specs.declared.geometry.Length.{Length}
 use Rattle.stow_data.specs.Ship.{Ship, places}
 use Rattle.stow_data.specs.Shipment.{Cargo}
 use Rattle.voyage_specs.specs.Plan.{Plan, Fills}
-use Rattle.voyage_specs.specs.Departure.{IsTwenty}
-use Rattle.voyage_specs.specs.Moves.{Bears}
 use Rattle.voyage_specs.specs.Places.{FillsFrom, IsTaken, IsTakenFrom, IsBearing, IsBearingFrom, HasTwentyOnly, HasTwentyOnlyFrom}
 
 fills : {ship : Ship} {plan : Plan} {n : ℕ} {h : Half} {c : ℕ} → FillsFrom ship plan n h c → Fills ship plan h c

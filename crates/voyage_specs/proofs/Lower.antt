@@ -1,20 +1,18 @@
 -- What every allowed list of moves lifts.
-use Rattle.std.specs.Prelude.{◌≡◌, ℕ, Bool, true, false, List, [], ◌∷◌, Option, Some, None, slice_get, slice_set, ◌||◌, ◌==◌, ◌≢◌, ◌⊎◌, length, ◌<◌, suc, zero, ◌+◌}
+use Rattle.std.specs.Prelude.{◌≡◌, ℕ, Bool, true, false, List, [], ◌∷◌, Option, Some, None, slice_get, slice_set, ◌==◌, suc, zero, ◌+◌}
 use Rattle.std.specs.List.{list_any}
-use Rattle.std.proofs.Common.{refl, sym, ◌∙◌, ap, arith, subst, inl, inr, ⊎_elim}
-use Rattle.std.proofs.lemmas.Bool.{or_parts, or_cases, or_left, or_right, eqb-false, eqb-true, eq-eqb, both_ways, cases_Bool, cases_eq, ne_eqb, false_from_ne_true, true_from_ne_false}
+use Rattle.std.proofs.Common.{refl, sym, ◌∙◌, ap, subst, ⊎_elim}
+use Rattle.std.proofs.lemmas.Bool.{or_parts, or_cases, or_left, or_right, eqb-false, eqb-true, both_ways, cases_eq, false_from_ne_true, true_from_ne_false}
 use Rattle.std.proofs.lemmas.Option.{none-some, same_Some}
-use Rattle.stow_data.specs.declared.shipments.Container.{Container}
-use Rattle.stow_data.specs.declared.geometry.Half.{Half}
 use Rattle.stow_data.specs.declared.geometry.Place.{Place}
 use Rattle.stow_data.specs.declared.geometry.Span.{Span}
 use Rattle.stow_data.specs.declared.geometry.Span.TheVariants.{Fore, Aft, Both}
 use Rattle.voyage_specs.specs.declared.moves.Move.{Move}
 use Rattle.voyage_specs.specs.declared.moves.Move.TheVariants.{OffCover, OnCover, Lift, Put}
-use Rattle.stow_data.specs.Ship.{Ship, places, HasHalf, LiesUnder, StandsOn, TakesSide}
+use Rattle.stow_data.specs.Ship.{Ship, places, LiesUnder, StandsOn, TakesSide}
 use Rattle.stow_data.specs.Shipment.{Cargo}
-use Rattle.voyage_specs.specs.Plan.{Plan, Holds, Fills}
-use Rattle.voyage_specs.specs.Moves.{State, Allowed, AllAllowed, after, end_of, CanLift, CanPut, IsBare}
+use Rattle.voyage_specs.specs.Plan.{Holds}
+use Rattle.voyage_specs.specs.Moves.{State, Allowed, AllAllowed, after, end_of, CanPut}
 use Rattle.voyage_specs.specs.Voyage.{AllOn}
 use Rattle.voyage_specs.specs.Least.{IsOver, IsOnCoverOf, IsClosed}
 

@@ -1,13 +1,12 @@
 -- What a move asks, from what holds cover by cover and place by place.
 use Rattle.std.specs.Prelude.{◌≡◌, ℕ, ◌<◌, ◌≤◌, ◌+◌, ◌-◌, ◌==◌, suc, zero, Bool, true, false, List, [], ◌∷◌, ◌++◌, length, map, take, replicate, slice_get, Some}
 use Rattle.std.proofs.Common.{refl, sym, ◌∙◌, ap, subst, arith, take_all}
-use Rattle.std.proofs.lemmas.Bool.{both_ways}
 use Rattle.std.proofs.lemmas.Option.{slice_get_within, same_Some, none-some}
 use Rattle.stow_data.specs.declared.geometry.Cover.{Cover}
 use Rattle.stow_data.specs.declared.geometry.Length.{Length}
 use Rattle.stow_data.specs.declared.geometry.Place.{Place}
 use Rattle.stow_data.specs.declared.shipments.Container.{Container}
-use Rattle.stow_data.specs.Ship.{Ship, places, Fits, FitsAt, LiesUnder, StandsOn, TakesSide}
+use Rattle.stow_data.specs.Ship.{Ship, places, Fits, FitsAt}
 use Rattle.stow_data.specs.Shipment.{Cargo}
 use Rattle.voyage_specs.specs.Plan.{Plan, Holds}
 use Rattle.voyage_specs.specs.Departure.{half_of}

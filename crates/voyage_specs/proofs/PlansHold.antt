@@ -1,6 +1,6 @@
 -- Well-formed plans, from what holds place by place.
 use Rattle.std.specs.Prelude.{◌≡◌, ℕ, ◌<◌, ◌≤◌, Bool, true, false, length, slice_get, Some, ◌==◌, ◌&&◌}
-use Rattle.std.proofs.Common.{refl, sym, ◌∙◌, ap, subst, arith}
+use Rattle.std.proofs.Common.{refl, sym, ◌∙◌, subst, arith}
 use Rattle.std.proofs.lemmas.Bool.{and_from, and_parts, both_ways, eq-eqb, eqb-true, false_from_ne_true}
 use Rattle.std.proofs.lemmas.Option.{slice_get_within, same_Some}
 use Rattle.stow_data.specs.declared.geometry.Half.{Half}
@@ -10,9 +10,9 @@ use Rattle.stow_data.specs.declared.geometry.Span.TheVariants.{Fore, Aft, Both}
 use Rattle.stow_data.specs.declared.shipments.Container.{Container}
 use Rattle.stow_data.specs.Ship.{Ship, places, HasHalf, HasLength, TakesSide, half_at}
 use Rattle.stow_data.specs.Shipment.{Cargo}
-use Rattle.voyage_specs.specs.Plan.{Plan, Holds, Fills, Stands, IsWellFormed}
+use Rattle.voyage_specs.specs.Plan.{Plan, Holds, IsWellFormed}
 use Rattle.voyage_specs.specs.Departure.{HoldsAboard, has_column_in_common, meets}
-use Rattle.voyage_specs.specs.Places.{FillsFrom, FitsAt, StandsAlone, StandsAloneAt, IsSomewhere, AboardAt}
+use Rattle.voyage_specs.specs.Places.{FitsAt, StandsAlone, StandsAloneAt, IsSomewhere, AboardAt}
 use Rattle.voyage_specs.proofs.Fillers.{from}
 
 pub all_fit : (ship : Ship) (cargo : Cargo) (plan : Plan) (m : ℕ) → length plan ≤ m → ((n : ℕ) → n < m → FitsAt ship cargo plan n) → (n : ℕ) → FitsAt ship cargo plan n

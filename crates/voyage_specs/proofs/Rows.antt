@@ -1,5 +1,5 @@
 -- Worked rows, by computation.
-use Rattle.std.specs.Prelude.{◌≡◌, ℕ, Bool, true, false, List, [], ◌∷◌, Option, Some, None, slice_get, length}
+use Rattle.std.specs.Prelude.{◌≡◌, ℕ, true, false, List, [], ◌∷◌, Some, None}
 use Rattle.std.proofs.Common.{refl}
 use Rattle.stow_data.specs.declared.geometry.Place.{Place}
 use Rattle.stow_data.specs.declared.geometry.Span.TheVariants.{Fore, Aft, Both}
@@ -11,7 +11,7 @@ use Rattle.stow_data.specs.Shipment.{Cargo}
 use Rattle.voyage_specs.specs.declared.moves.Move.{Move}
 use Rattle.voyage_specs.specs.declared.moves.Move.TheVariants.{OffCover, OnCover, Lift, Put}
 use Rattle.voyage_specs.specs.Departure.{near, stack_weight}
-use Rattle.voyage_specs.specs.Moves.{State, CanLift, end_of}
+use Rattle.voyage_specs.specs.Moves.{end_of}
 use Rattle.voyage_specs.specs.Voyage.{start, count}
 
 -- A hold stack of one tier with a plug, a deck stack of one, a cover between; a reefer 1 to 2 and a plain container 1 to 3.

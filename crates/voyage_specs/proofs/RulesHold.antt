@@ -1,16 +1,15 @@
 -- The rules of a departure, from what holds place by place.
-use Rattle.std.specs.Prelude.{◌≡◌, ℕ, ◌+◌, ◌-◌, ◌<◌, ◌≤◌, Bool, true, false, suc, zero, List, [], ◌∷◌, length, slice_get, Some, None, IsTrue, zip, sum_by}
+use Rattle.std.specs.Prelude.{◌≡◌, ℕ, ◌+◌, ◌-◌, ◌<◌, ◌≤◌, Bool, true, false, suc, zero, List, [], ◌∷◌, length, slice_get, Some, zip, sum_by}
 use Rattle.std.proofs.Common.{refl, sym, ◌∙◌, ap, subst, arith, take, take_all}
 use Rattle.std.proofs.lemmas.Option.{slice_get_within, none-some, same_Some, get_or_from_slice_get}
 use Rattle.std.proofs.lemmas.List.Sums.{sum_by_more}
-use Rattle.stow_data.specs.declared.geometry.Half.{Half}
 use Rattle.stow_data.specs.declared.geometry.Place.{Place}
 use Rattle.stow_data.specs.declared.geometry.Separation.{Separation}
 use Rattle.stow_data.specs.declared.shipments.Container.{Container}
 use Rattle.stow_data.specs.Ship.{Ship, places, TakesSide}
 use Rattle.stow_data.specs.Shipment.{Cargo}
 use Rattle.voyage_specs.specs.Plan.{Plan, Holds, Fills, Stands}
-use Rattle.voyage_specs.specs.Departure.{half_of, IsTwenty, IsSupported, IsTwentyOnTwenty, IsPlugged, IsWithinLimits, IsSeparated, IsSeparatedBy, stack_weight, weight_in}
+use Rattle.voyage_specs.specs.Departure.{half_of, IsSupported, IsTwentyOnTwenty, IsPlugged, IsWithinLimits, IsSeparated, IsSeparatedBy, stack_weight, weight_in}
 use Rattle.voyage_specs.specs.Places.{IsTaken, HasTwentyOnly, RestsOn, RestsOnTwenty, SupportedAt, TwentyAt, PluggedAt, WithinAt, WeighsAt, HasClassAt, KeptApart, KeptApartFrom, Obeys, rule_number}
 use Rattle.voyage_specs.specs.declared.rules.Rule.{Rule}
 use Rattle.voyage_specs.specs.declared.rules.Rule.TheVariants.{Support, TwentyOnForty, NoPlug, StackWeight, Separation as Apart}

@@ -1,23 +1,21 @@
 -- Lists of lifts, of puts and of covers.
-use Rattle.std.specs.Prelude.{◌≡◌, ℕ, Bool, true, false, List, [], ◌∷◌, ◌++◌, Option, Some, None, slice_get, slice_set, ◌||◌, ◌&&◌, not, ◌==◌, ◌⊎◌, length, ◌<◌, ◌≤◌, suc, zero, ◌+◌, cond}
-use Rattle.std.proofs.Common.{refl, sym, ◌∙◌, ap, arith, subst, inl, inr, ⊎_elim}
+use Rattle.std.specs.Prelude.{◌≡◌, ℕ, Bool, true, false, List, [], ◌∷◌, ◌++◌, Option, Some, None, slice_get, slice_set, ◌||◌, ◌&&◌, not, ◌==◌, ◌<◌, ◌≤◌, suc, zero, ◌+◌, cond}
+use Rattle.std.proofs.Common.{refl, sym, ◌∙◌, ap, arith, subst, ⊎_elim}
 use mathlib.Core.Path.{fun_ext}
-use Rattle.std.proofs.lemmas.Bool.{cond-true, cond-false, false_from_ne_true, and_from, and_parts, and_right, and_left, both_ways, or_cases, or_left, or_right, or_from, or_parts, eq-eqb, eqb-true, eqb-false, cases_Bool, cases_eq, cases_lt, ne_eqb, not_from_false, not_from_true}
-use Rattle.std.proofs.lemmas.Option.{none-some, same_Some, slice_get_within}
+use Rattle.std.proofs.lemmas.Bool.{cond-true, cond-false, false_from_ne_true, and_from, and_parts, and_right, and_left, both_ways, or_left, or_right, or_from, eq-eqb, cases_Bool, cases_eq, ne_eqb, not_from_false, not_from_true}
 use Rattle.stow_data.specs.declared.geometry.Cover.{Cover}
-use Rattle.stow_data.specs.declared.shipments.Container.{Container}
 use Rattle.stow_data.specs.declared.geometry.Place.{Place}
 use Rattle.voyage_specs.specs.declared.moves.Move.{Move}
-use Rattle.voyage_specs.specs.declared.moves.Move.TheVariants.{OffCover, OnCover, Lift, Put}
+use Rattle.voyage_specs.specs.declared.moves.Move.TheVariants.{Lift, Put}
 use Rattle.stow_data.specs.Ship.{Ship, places, LiesUnder, StandsOn}
 use Rattle.stow_data.specs.Shipment.{Cargo}
 use Rattle.voyage_specs.specs.Plan.{Plan, Holds, IsWellFormed}
 use Rattle.voyage_specs.specs.Departure.{IsStowed}
-use Rattle.voyage_specs.specs.Moves.{State, Allowed, AllAllowed, after, end_of, IsBare}
-use Rattle.voyage_specs.specs.Least.{IsOver, IsOnCoverOf, IsClosed}
+use Rattle.voyage_specs.specs.Moves.{State, Allowed, AllAllowed, after, end_of}
+use Rattle.voyage_specs.specs.Least.{IsOver, IsClosed}
 use Rattle.voyage_specs.proofs.Lower.{slice_get-set_other, slice_get-set_same}
-use Rattle.voyage_specs.proofs.Steps.{Lifting, Putting, still_held, can_lift, can_put}
-use Rattle.voyage_specs.proofs.Phases.{LiftState, PutState, lift_step, put_step, IsDue}
+use Rattle.voyage_specs.proofs.Steps.{can_lift, can_put}
+use Rattle.voyage_specs.proofs.Phases.{LiftState, PutState, lift_step, put_step}
 
 -- the moves are allowed, and of the state at the end P holds
 abbrev pub Reaches : Ship → Cargo → ℕ → State → List Move → (State → Type 0) → Type 0

@@ -1,21 +1,17 @@
 -- One lift, and one put, of the moves that lift a closed set and put what is due.
-use Rattle.std.specs.Prelude.{◌≡◌, ℕ, Bool, true, false, List, [], ◌∷◌, Option, Some, None, slice_get, slice_set, slice_index_or, ◌||◌, ◌&&◌, not, ◌==◌, ◌⊎◌, ◌↔◌, length, ◌<◌, ◌≤◌, suc, zero, ◌+◌, cond, IsTrue}
-use Rattle.std.proofs.Common.{refl, sym, ◌∙◌, ap, arith, subst, inl, inr, ⊎_elim}
-use Rattle.std.proofs.lemmas.Bool.{and_parts, and_cases, not-true, not-false, both_ways, or_cases, or_parts, or_left, or_right, eq-eqb, eqb-true, eqb-false, false_from_ne_true, true_from_ne_false, cases_Bool, cases_eq}
+use Rattle.std.specs.Prelude.{◌≡◌, ℕ, Bool, true, false, List, [], ◌∷◌, Some, None, slice_get, slice_set, ◌||◌, ◌&&◌, not, ◌==◌, length, ◌<◌, suc, zero, ◌+◌}
+use Rattle.std.proofs.Common.{refl, sym, ◌∙◌, ap, arith, subst, ⊎_elim}
+use Rattle.std.proofs.lemmas.Bool.{and_parts, and_cases, not-true, not-false, both_ways, or_cases, or_parts, eqb-true, eqb-false, false_from_ne_true, cases_eq}
 use Rattle.std.proofs.lemmas.Option.{none-some, same_Some, slice_get_within}
-use Rattle.stow_data.specs.declared.shipments.Container.{Container}
-use Rattle.stow_data.specs.declared.geometry.Half.{Half}
 use Rattle.stow_data.specs.declared.geometry.Place.{Place}
 use Rattle.stow_data.specs.declared.geometry.Length.{Length}
 use Rattle.stow_data.specs.declared.geometry.Length.TheVariants.{Twenty, Forty}
-use Rattle.voyage_specs.specs.declared.moves.Move.{Move}
-use Rattle.voyage_specs.specs.declared.moves.Move.TheVariants.{OffCover, OnCover, Lift, Put}
-use Rattle.stow_data.specs.Ship.{Ship, places, HasHalf, half_at, half_over, LiesUnder, StandsOn, Fits}
+use Rattle.stow_data.specs.Ship.{Ship, places, half_at, LiesUnder, StandsOn}
 use Rattle.stow_data.specs.Shipment.{Cargo}
 use Rattle.voyage_specs.specs.Plan.{Plan, Holds, Fills, IsWellFormed, Stands}
 use Rattle.voyage_specs.specs.Departure.{IsStowed, IsTwenty}
-use Rattle.voyage_specs.specs.Moves.{State, Allowed, AllAllowed, after, end_of, lift_count, leaves, rehandles, CanPut, CanLift, IsClear, IsBare, Bears}
-use Rattle.voyage_specs.specs.Least.{IsOver, IsOnCoverOf, IsClosed}
+use Rattle.voyage_specs.specs.Moves.{State, CanPut, CanLift, Bears}
+use Rattle.voyage_specs.specs.Least.{IsOver, IsClosed}
 use Rattle.voyage_specs.proofs.Lower.{slice_get-set_other, slice_get-set_same}
 
 -- s is the old plan without the places that are gone

@@ -1,25 +1,25 @@
 -- The moves that lift a closed set: covers off, lifts from above, puts from below, covers on.
-use Rattle.std.specs.Prelude.{◌≡◌, ℕ, Bool, true, false, List, [], ◌∷◌, ◌++◌, Option, Some, None, slice_get, slice_set, map, ◌||◌, ◌&&◌, not, ◌==◌, ◌⊎◌, ◌↔◌, length, ◌<◌, ◌≤◌, suc, zero, ◌+◌, cond}
+use Rattle.std.specs.Prelude.{◌≡◌, ℕ, Bool, true, false, List, [], ◌∷◌, ◌++◌, Some, None, slice_get, map, ◌||◌, ◌&&◌, not, ◌==◌, ◌⊎◌, ◌↔◌, length, ◌<◌, ◌≤◌, suc, zero, cond}
 use Rattle.std.proofs.Common.{refl, sym, ◌∙◌, ap, arith, subst, inl, inr, ⊎_elim}
 use mathlib.Core.Path.{fun_ext}
-use Rattle.std.proofs.lemmas.Bool.{cond-true, cond-false, false_from_ne_true, true_from_ne_false, and_from, and_parts, and_right, and_left, both_ways, or_cases, or_left, or_right, or_from, or_parts, eq-eqb, eqb-true, eqb-false, cases_Bool, cases_eq, cases_lt, ne_eqb, not_from_false, not_from_true, not-true, not-false, and_cases}
+use Rattle.std.proofs.lemmas.Bool.{cond-true, true_from_ne_false, and_from, and_parts, and_right, both_ways, eq-eqb, eqb-true, eqb-false, cases_Bool, cases_eq, ne_eqb, not_from_false, not_from_true, not-true}
 use Rattle.std.proofs.lemmas.Option.{none-some, same_Some, slice_get_within}
 use Rattle.std.proofs.lemmas.List.{length-map}
 use Rattle.stow_data.specs.declared.geometry.Cover.{Cover}
 use Rattle.stow_data.specs.declared.shipments.Container.{Container}
 use Rattle.stow_data.specs.declared.geometry.Place.{Place}
 use Rattle.voyage_specs.specs.declared.moves.Move.{Move}
-use Rattle.voyage_specs.specs.declared.moves.Move.TheVariants.{OffCover, OnCover, Lift, Put}
+use Rattle.voyage_specs.specs.declared.moves.Move.TheVariants.{OffCover, OnCover}
 use Rattle.stow_data.specs.Ship.{Ship, places, LiesUnder, StandsOn}
 use Rattle.stow_data.specs.Shipment.{Cargo, IsAboard}
 use Rattle.voyage_specs.specs.Plan.{Plan, Holds, IsWellFormed}
 use Rattle.voyage_specs.specs.Departure.{IsStowed}
-use Rattle.voyage_specs.specs.Moves.{State, Allowed, AllAllowed, after, end_of, IsBare, leaves}
+use Rattle.voyage_specs.specs.Moves.{State, end_of, IsBare, leaves}
 use Rattle.voyage_specs.specs.Voyage.{AllOn, start}
 use Rattle.voyage_specs.specs.Least.{IsOver, IsOnCoverOf, IsClosed}
 use Rattle.voyage_specs.proofs.Steps.{Lifting, Putting, still_held, slice_get_in}
-use Rattle.voyage_specs.proofs.Phases.{LiftState, PutState, Loads, WasLifted, IsDue, same_held}
-use Rattle.voyage_specs.proofs.Runs.{Reaches, then, lifts_down, lift_run, LiftRule, AfterLifts, puts_from, put_run, PutRule, AfterPuts, OffIs, covers_down, cover_run, CoverRule, AfterCovers}
+use Rattle.voyage_specs.proofs.Phases.{LiftState, PutState, Loads, WasLifted, IsDue}
+use Rattle.voyage_specs.proofs.Runs.{Reaches, then, lifts_down, lift_run, AfterLifts, puts_from, put_run, AfterPuts, OffIs, covers_down, cover_run, AfterCovers}
 
 -- what is known of a call: old and new plan, and the sets that the moves go by
 pub record Facts (ship : Ship) (cargo : Cargo) (call : ℕ) (old new : Plan) (lifted moved deck opened due : ℕ → Bool) : Type 0 where

@@ -1,15 +1,14 @@
 -- No legal voyage counts less than the least sets.
-use Rattle.std.specs.Prelude.{◌≡◌, ℕ, Bool, true, false, List, [], ◌∷◌, Option, Some, None, slice_get, ◌≤◌, suc, zero, ◌+◌, cond, map}
-use Rattle.std.proofs.Common.{refl, sym, ◌∙◌, ap, arith, subst}
+use Rattle.std.specs.Prelude.{◌≡◌, ℕ, Bool, false, List, [], ◌∷◌, Some, slice_get, ◌≤◌, suc, zero, map}
+use Rattle.std.proofs.Common.{refl, arith, subst}
 use Rattle.std.proofs.lemmas.Option.{none-some}
 use Rattle.stow_data.specs.declared.geometry.Cover.{Cover}
-use Rattle.stow_data.specs.declared.shipments.Container.{Container}
 use Rattle.voyage_specs.specs.declared.moves.Move.{Move}
 use Rattle.stow_data.specs.Ship.{Ship}
 use Rattle.stow_data.specs.Shipment.{Cargo}
-use Rattle.voyage_specs.specs.Plan.{Plan, Holds}
-use Rattle.voyage_specs.specs.Moves.{State, AllAllowed, end_of, lift_count, rehandles}
-use Rattle.voyage_specs.specs.Voyage.{AllOn, start, LeadsTo, IsVoyage, count}
+use Rattle.voyage_specs.specs.Plan.{Plan}
+use Rattle.voyage_specs.specs.Moves.{lift_count, rehandles}
+use Rattle.voyage_specs.specs.Voyage.{start, LeadsTo, IsVoyage, count}
 use Rattle.voyage_specs.specs.Least.{counted, counted_all, IsClosed, IsLeastClosed, AreLeast}
 use Rattle.voyage_specs.proofs.Lower.{lifted_closed, is_lifted}
 use Rattle.voyage_specs.proofs.Count.{counted_more, lifted_counts}

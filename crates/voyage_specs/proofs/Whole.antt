@@ -1,20 +1,20 @@
 -- Voyages from plans: the count of given departures, and the departures that rehandle nothing.
-use Rattle.std.specs.Prelude.{◌≡◌, ℕ, Bool, true, false, List, [], ◌∷◌, Option, Some, None, slice_get, length, ◌<◌, ◌≤◌, ◌==◌, suc, zero, ◌+◌, cond, All, AllPairs, ◌⊎◌}
-use Rattle.std.proofs.Common.{refl, sym, ◌∙◌, ap, arith, subst, inl, inr, ⊎_elim}
+use Rattle.std.specs.Prelude.{◌≡◌, ℕ, Bool, true, false, List, [], ◌∷◌, Option, Some, None, slice_get, length, ◌<◌, ◌≤◌, suc, ◌+◌, cond, All}
+use Rattle.std.proofs.Common.{refl, sym, ◌∙◌, ap, arith, subst, ⊎_elim}
 use Rattle.std.proofs.lemmas.Bool.{both_ways, cases_Bool, eqb-true}
 use Rattle.std.proofs.lemmas.Option.{none-some, same_Some, get_or_from_slice_get, slice_get_within}
 use Rattle.std.proofs.lemmas.List.Elements.{All-get_or}
 use Rattle.stow_data.specs.declared.shipments.Container.{Container}
-use Rattle.stow_data.specs.Ship.{Ship, LiesUnder, StandsOn}
-use Rattle.stow_data.specs.Shipment.{Cargo, IsAboard, IsCargo, IsShipped}
+use Rattle.stow_data.specs.Ship.{Ship}
+use Rattle.stow_data.specs.Shipment.{Cargo, IsCargo, IsShipped}
 use Rattle.stow_data.specs.Profile.{IsShip, IsCover, highest}
 use Rattle.stow_data.specs.declared.geometry.Stack.{Stack}
 use Rattle.voyage_specs.specs.declared.moves.Move.{Move}
 use Rattle.voyage_specs.specs.Plan.{Plan, Holds}
 use Rattle.voyage_specs.specs.Departure.{IsStowed, IsDeparture, AreDepartures, HasArrival}
 use Rattle.voyage_specs.specs.Moves.{leaves, lift_count, rehandles}
-use Rattle.voyage_specs.specs.Voyage.{start, LeadsTo, IsVoyage, count, IsLegalVoyage, HasCount}
-use Rattle.voyage_specs.specs.Least.{IsOver, IsOnCoverOf, IsClosed, IsFilled, AreClosed, AreLeast, IsDivided, RehandlesNone, RehandleNone, counted, counted_all}
+use Rattle.voyage_specs.specs.Voyage.{start, LeadsTo, IsVoyage, count, HasCount}
+use Rattle.voyage_specs.specs.Least.{IsClosed, IsFilled, AreClosed, AreLeast, IsDivided, RehandlesNone, RehandleNone, counted, counted_all}
 use Rattle.voyage_specs.proofs.Upper.{leaves_is}
 use Rattle.voyage_specs.proofs.Closed.{closed_leads}
 use Rattle.voyage_specs.proofs.Voyages.{voyage_counts}

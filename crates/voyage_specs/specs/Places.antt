@@ -14,7 +14,7 @@ use Rattle.voyage_specs.specs.Plan.{Plan, Holds, Fills, Stands}
 use Rattle.voyage_specs.specs.Departure.{half_of, IsTwenty, IsSupported, IsTwentyOnTwenty, IsPlugged, IsWithinLimits, IsSeparated, IsSeparatedBy, stack_weight, weight_in, near}
 use Rattle.voyage_specs.specs.declared.moves.Move.{Move}
 use Rattle.voyage_specs.specs.declared.moves.Move.TheVariants.{OffCover, OnCover, Lift, Put}
-use Rattle.voyage_specs.specs.Voyage.{AllOn, LeadsTo, start}
+use Rattle.voyage_specs.specs.Voyage.{AllOn, IsVoyage, LeadsTo, count, start}
 use Rattle.voyage_specs.specs.Moves.{State, Allowed, AllAllowed, Bears, end_of, rehandles}
 
 -- container c fills the half-cell from place n
@@ -219,3 +219,8 @@ pub record StopsAt (ship : Ship) (cargo : Cargo) (call : ℕ) (s : State) (moves
 pub record LeadsBy (ship : Ship) (cargo : Cargo) (call : ℕ) (before : Plan) (moves : List Move) (after : Plan) (n : ℕ) : Type 0 where
   pub leads : LeadsTo ship cargo call before moves after
   pub counts : n ≡ rehandles cargo call (start ship cargo call before) moves
+
+-- the moves are a legal voyage from a call on and count n rehandles
+pub record SailsBy (ship : Ship) (cargo : Cargo) (call : ℕ) (before : Plan) (moves : List (List Move)) (departures : List Plan) (n : ℕ) : Type 0 where
+  pub legal : IsVoyage ship cargo call before moves departures
+  pub counts : n ≡ count ship cargo call before moves departures

@@ -1,14 +1,14 @@
 //! Lists of crane moves at a call: plain, slow programs.
-ghost use Rattle.std.specs.Prelude.{◌≡◌, IfOk, MatchOption, MatchResult, length};
+ghost use Rattle.std.specs.Prelude.{◌≡◌, IfOk, MatchOption, MatchResult, All, length};
 ghost use Rattle.stow_data.specs.Ship.{places};
-ghost use Rattle.voyage_specs.specs.Voyage.{LeadsTo};
-ghost use Rattle.voyage_specs.specs.Places.{BelongsTo, LeadsBy, Runs, StopsAt};
+ghost use Rattle.voyage_specs.specs.Voyage.{IsVoyage, LeadsTo};
+ghost use Rattle.voyage_specs.specs.Places.{BelongsTo, LeadsBy, Runs, SailsBy, StopsAt};
 
 use crate::departures::is_departure;
 use crate::moves::Move;
 use crate::states::State;
-use stow_data::{CallNo, Cargo, NoMemory, Plan, Ship};
 use std::alloc::Global;
+use stow_data::{CallNo, Cargo, NoMemory, Plan, Seq, Ship};
 
 /// Runs a list of moves. Ok has the number of rehandles, the lifts of containers at a call other than their destination; Err has the index of the first move that isn't allowed, and the state is the one before it.
 pub fn run(
@@ -58,5 +58,37 @@ pub fn count_call(
             }
             Ok(Some(count))
         }
+    }
+}
+
+/// A list of moves.
+pub type MoveList = Seq<Move>;
+
+/// The rehandle count of a voyage from a call on with these departures, or none where it isn't a legal one.
+pub fn count_voyage(
+    alloc: Global,
+    ship: &Ship,
+    cargo: &Cargo,
+    call: CallNo,
+    before: &Plan,
+    moves: &[MoveList],
+    departures: &[Plan],
+) -> Result<Option<u64>, NoMemory>
+    requires first { length before.now ≡ length (places ship.now) }
+    requires each { All (λ p. length p ≡ length (places ship.now)) departures.now }
+    ensures { IfOk result (λ o. MatchOption o (IsVoyage ship.now cargo.now call before.now moves.now departures.now → ⊥) (λ n. SailsBy ship.now cargo.now call before.now moves.now departures.now n)) }
+{
+    let next = CallNo(call.0.checked_add(1).ok_or(NoMemory)?);
+    match (moves.split_first(), departures.split_first()) {
+        (None, None) => Ok(Some(0)),
+        (Some((first, rest)), Some((after, others))) => {
+            let here = count_call(alloc, ship, cargo, call, before, first.as_slice(), after)?;
+            let later = count_voyage(alloc, ship, cargo, next, after, rest, others)?;
+            match (here, later) {
+                (Some(here), Some(later)) => Ok(Some(here.checked_add(later).ok_or(NoMemory)?)),
+                _ => Ok(None),
+            }
+        }
+        _ => Ok(None),
     }
 }

@@ -68,14 +68,7 @@ fn takes(ship: &Ship, plan: &Plan, h: &Half, p: PlaceNo) -> bool
 }
 
 /// Whether something fills the half-cell from this place that bears a container of this length.
-fn bears_from(
-    ship: &Ship,
-    cargo: &Cargo,
-    plan: &Plan,
-    long: Length,
-    h: &Half,
-    p: PlaceNo,
-) -> bool
+fn bears_from(ship: &Ship, cargo: &Cargo, plan: &Plan, long: Length, h: &Half, p: PlaceNo) -> bool
     requires each_place { length plan.now ≡ length (places ship.now) }
     requires inside { p < length (places ship.now) }
     ensures { IsTrue result ↔ IsBearingFrom ship.now cargo.now plan.now long h.now p }

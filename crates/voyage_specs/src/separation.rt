@@ -102,13 +102,7 @@ fn kept_apart(
 }
 
 /// Whether a place keeps a separation from all others.
-fn kept_apart_from(
-    ship: &Ship,
-    cargo: &Cargo,
-    plan: &Plan,
-    rule: &Separation,
-    p: PlaceNo,
-) -> bool
+fn kept_apart_from(ship: &Ship, cargo: &Cargo, plan: &Plan, rule: &Separation, p: PlaceNo) -> bool
     requires each_place { length plan.now ≡ length (places ship.now) }
     requires inside { p < length (places ship.now) }
     ensures { IsTrue result ↔ KeptApartFrom ship.now cargo.now plan.now rule.now p }

@@ -8,12 +8,12 @@ ghost use Rattle.voyage_specs.specs.Places.{BelongsTo, IsBareAt, IsBorneOn, IsCl
 
 use crate::half_cells::{is_bearing, is_taken, takes_side};
 use crate::moves::Move;
-use stow_data::{
-    CallNo, Cargo, Container, ContainerNo, CoverNo, FlagList, Half, Length, NoMemory, Place, PlaceNo, Plan,
-    Seq, Ship, StackNo,
-};
 use std::alloc::Global;
 use std::marker::Model;
+use stow_data::{
+    CallNo, Cargo, Container, ContainerNo, CoverNo, FlagList, Half, Length, NoMemory, Place,
+    PlaceNo, Plan, Seq, Ship, StackNo,
+};
 
 /// The state at a call: the plan, which containers are on the quay, and which hatch covers are off.
 #[derive(Drop)]
@@ -281,7 +281,9 @@ impl State {
         plan: Plan,
         call: CallNo,
     ) -> Result<State, NoMemory>
-        ensures { IfOk result (λ s. s ≡ start ship.now cargo.now call plan) }
+        requires { length plan ≡ length (places ship.now) }
+        ensures state { IfOk result (λ s. s ≡ start ship.now cargo.now call plan) }
+        ensures belongs { IfOk result (λ s. BelongsTo ship.now cargo.now s) }
     {
         Ok(State {
             plan,
@@ -360,9 +362,7 @@ impl State {
         match m {
             Move::Lift(p) => self.can_lift(ship, p),
             Move::Put(c, p) => self.can_put(ship, cargo, c, p),
-            Move::OffCover(k) => {
-                has_flag(&self.off, k.0, false) && is_bare(ship, &self.plan, k)
-            }
+            Move::OffCover(k) => { has_flag(&self.off, k.0, false) && is_bare(ship, &self.plan, k) }
             Move::OnCover(k) => has_flag(&self.off, k.0, true),
         }
     }

@@ -1,4 +1,4 @@
-use Rattle.std.proofs.Common.{ap, sym, ◌∙◌, ◌≡◌, Some, arith}
+use Rattle.std.proofs.Common.{ap, sym, ◌∙◌, Some, arith}
 use Rattle.std.proofs.lemmas.Option.{slice_get-get_or}
 use Rattle.voyage_specs.proofs.RunsHold.{run_more}
 use Rattle.voyage_specs.proofs.crane.run.Goals as goal

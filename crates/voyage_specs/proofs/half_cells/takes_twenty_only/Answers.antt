@@ -1,5 +1,4 @@
 use Rattle.std.proofs.Common.{refl}
-use Rattle.std.proofs.lemmas.Bool.{both_ways}
 use Rattle.voyage_specs.proofs.half_cells.takes_twenty_only.Goals as goal
 
 pub returns-in-None : goal.returns-in-None

@@ -1,5 +1,4 @@
 use Rattle.std.proofs.Common.{arith}
-use Rattle.std.proofs.lemmas.Bool.{both_ways}
 use Rattle.voyage_specs.proofs.RulesHold.{weigh_more, weigh_all}
 use Rattle.voyage_specs.proofs.rules.weight_of_stack.Goals as goal
 

@@ -1,4 +1,4 @@
-use Rattle.std.proofs.Common.{◌≡◌, ◌≤◌, ◌*◌, ℕ, take}
+use Rattle.std.proofs.Common.{◌≡◌, ◌≤◌, ◌*◌, take}
 use Rattle.std.specs.Prelude.{sum_by, zip}
 use Rattle.stow_data.specs.Ship.{places}
 use Rattle.voyage_specs.specs.Departure.{weight_in}

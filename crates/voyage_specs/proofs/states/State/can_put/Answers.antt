@@ -1,5 +1,4 @@
 use Rattle.std.proofs.Common.{arith}
-use Rattle.std.specs.Prelude.{◌<◌, length, slice_get}
 use Rattle.stow_data.specs.Ship.{places}
 use Rattle.voyage_specs.proofs.MovesHold.{put_parts, put_from}
 use Rattle.voyage_specs.proofs.Steps.{slice_get_in}

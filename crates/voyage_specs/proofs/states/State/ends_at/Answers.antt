@@ -1,6 +1,5 @@
-use Rattle.std.proofs.Common.{ap, subst, sym, ◌∙◌, ◌≡◌, List, Bool, refl, false}
+use Rattle.std.proofs.Common.{ap, subst, sym, ◌∙◌, ◌≡◌, refl, false}
 use Rattle.std.proofs.lemmas.Bool.{both_ways}
-use Rattle.voyage_specs.specs.Plan.{Plan}
 use Rattle.voyage_specs.specs.Moves.{State}
 use Rattle.voyage_specs.specs.Places.{NoneSet}
 use Rattle.voyage_specs.proofs.RunsHold.{shut_all, none_off}

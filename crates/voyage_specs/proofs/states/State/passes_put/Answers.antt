@@ -1,4 +1,4 @@
-use Rattle.std.proofs.Common.{ap, subst, sym, ◌∙◌, ◌≡◌, Some, IsTrue, true, List, Bool}
+use Rattle.std.proofs.Common.{ap, subst, sym, ◌≡◌, Some, true, List, Bool}
 use Rattle.std.specs.Prelude.{slice_get}
 use Rattle.voyage_specs.specs.Plan.{Plan}
 use Rattle.voyage_specs.specs.Moves.{State}
