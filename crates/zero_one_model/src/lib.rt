@@ -1,0 +1,8 @@
+//! The 0-1 program of a voyage: its variables, its rows and boxes (after Avriel, Penn, Shpirer and Witteboon, 1998).
+#![tactic(auto)]
+
+mod boxes;
+mod program;
+
+pub use boxes::Box01;
+pub use program::{Raise, RaiseList, Row, RowList, Var, VarList};
