@@ -2,6 +2,8 @@
 #![tactic(auto)]
 
 mod boxes;
+mod coefficients;
+mod lookups;
 mod program;
 
 pub use boxes::Box01;
