@@ -3,13 +3,15 @@ ghost use Rattle.std.specs.Prelude.{◌≡◌, ℕ, ◌+◌, ◌-◌, ◌<◌, �
 ghost use Rattle.std.specs.Option.{option_eq};
 ghost use Rattle.std.specs.Cmp.Lexicographic.{pointwise};
 ghost use Rattle.zero_one_model.specs.Program.{where_set};
-ghost use Rattle.zero_one_model.specs.Rows.{takes, covers, below, above, bit, active, stays, ends, is_twenty, turned, no_half, no_separation};
-ghost use Rattle.zero_one_model.specs.Variables.{no_place, no_kind};
+ghost use Rattle.zero_one_model.specs.Rows.{takes, covers, below, above, bit, active, stays, ends, is_twenty, turned, no_half, no_separation, no_stack};
+ghost use Rattle.zero_one_model.specs.Variables.{Voyage, no_place, no_kind, all_kinds};
+ghost use Rattle.stow_data.specs.Kinds.{AreKinds, loading};
 ghost use Rattle.stow_data.specs.Ship.{halves, places};
 
 use crate::program::Var;
 use stow_data::{
-    Half, HalfNo, Kind, KindNo, Kinds, Length, Name, Place, PlaceNo, Separation, Ship, Span,
+    CallNo, Half, HalfNo, Kind, KindNo, Kinds, Length, Name, Place, PlaceNo, Separation, Ship,
+    Span, Stack, StackNo,
 };
 
 pub fn takes_side(span: Span, aft: bool) -> bool
@@ -148,4 +150,23 @@ pub fn separation_at(ship: &Ship, index: u32) -> &Separation
     ensures { result.now ≡ slice_index_or ship.now.separations index no_separation }
 {
     ship.separation(index)
+}
+
+/// A stack, which is there, by its total look-up.
+#[tactic(auto, using(std::proofs::lemmas::Option::get_or_from_slice_get))]
+pub fn stack_at(ship: &Ship, s: StackNo) -> &Stack
+    requires { s < length ship.now.stacks }
+    ensures { result.now ≡ slice_index_or ship.now.stacks s no_stack }
+{
+    ship.stack(s)
+}
+
+/// How many containers of a kind load at a call.
+pub fn loads_at_call(kinds: &Kinds, call: CallNo, g: KindNo) -> u32
+    ghost m: { Voyage }
+    requires kinds { AreKinds m.ship.weight_step m.cargo.containers kinds.now }
+    requires kind { g < length (all_kinds m) }
+    ensures { result ≡ loading m.ship.weight_step m.cargo.containers call g }
+{
+    kinds.count(call, g)
 }

@@ -4,13 +4,14 @@ ghost use Rattle.std.specs.Option.{option_eq};
 ghost use Rattle.std.specs.Cmp.Lexicographic.{pointwise};
 ghost use Rattle.stow_data.specs.Ship.{halves, places};
 ghost use Rattle.zero_one_model.specs.Program.{where_set};
-ghost use Rattle.zero_one_model.specs.Variables.{Voyage, all_kinds};
-ghost use Rattle.zero_one_model.specs.Rows.{covers, active, ends, half, coef};
+ghost use Rattle.zero_one_model.specs.Variables.{Voyage, all_kinds, is_rehandled};
+ghost use Rattle.zero_one_model.specs.Rows.{covers, active, ends, half, coef, rhs, bit};
+ghost use Rattle.stow_data.specs.Kinds.{AreKinds};
 ghost use Rattle.zero_one_model.specs.Ranges.{InRange};
 
 use crate::coefficients::{
     as_one, half_at, has_half, heavy, is_active, is_class, is_end, is_past, is_short, kind_at,
-    over, place_at, separation_at, turned_of, under,
+    loads_at_call, over, place_at, separation_at, stack_at, turned_of, under,
 };
 use crate::program::{Row, Var};
 use stow_data::{Half, Kind, Kinds, Name, Place, Ship};
@@ -103,4 +104,35 @@ pub fn coefficient(ship: &Ship, kinds: &Kinds, row: &Row, x: Var) -> i64
         }
         Row::Cross { .. } => 0,
     }
+}
+
+/// The right side of a base row.
+pub fn right_side(ship: &Ship, kinds: &Kinds, row: &Row) -> i64
+    ghost m: { Voyage }
+    requires ship { ship.now ≡ m.ship }
+    requires kinds { AreKinds m.ship.weight_step m.cargo.containers kinds.now }
+    requires row { InRange m row.now }
+    ensures { result ≡ rhs m row.now }
+{
+    match row {
+        Row::Flow { q, call, kind } => turned_of(*q, loads_at_call(kinds, *call, *kind) as i64),
+        Row::Start { q, .. } => turned_of(*q, 1),
+        Row::Support { .. } | Row::Twenty { .. } | Row::Cross { .. } => 0,
+        Row::Weight { stack, .. } => {
+            let limit = stack_at(ship, *stack).limit_kg;
+            0 - limit as i64
+        }
+        Row::Cell { .. } | Row::Block { .. } | Row::Hatch { .. } | Row::Apart { .. } => -1,
+    }
+}
+
+/// What a variable costs: 1 where it is lifted before its kind's destination.
+pub fn cost_at(kinds: &Kinds, x: Var) -> u32
+    ghost m: { Voyage }
+    requires kinds { kinds.now.list ≡ all_kinds m }
+    requires kind { x.kind < length (all_kinds m) }
+    ensures { pos result ≡ bit (is_rehandled m x) }
+{
+    let kind = kind_at(kinds, x.kind);
+    if x.lifted.0 < kind.dest.0 { 1 } else { 0 }
 }
