@@ -2,3 +2,4 @@ pub mod Program
 pub mod Variables
 pub mod Rows
 pub mod Ranges
+pub mod Listed

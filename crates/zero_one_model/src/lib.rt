@@ -3,8 +3,10 @@
 
 mod boxes;
 mod coefficients;
+mod laws;
 mod lookups;
 mod program;
 
 pub use boxes::Box01;
+pub use laws::variables_stand_once;
 pub use program::{Raise, RaiseList, Row, RowList, Var, VarList};
