@@ -6,6 +6,8 @@ mod coefficients;
 mod laws;
 mod lookups;
 mod program;
+#[cfg(test)]
+mod tests;
 
 pub use boxes::Box01;
 pub use laws::variables_stand_once;
