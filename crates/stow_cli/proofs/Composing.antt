@@ -55,9 +55,9 @@ group_written ship cargo bookings plan n c container list front out new count so
     let before = flat_map group_segments (groups_below ship cargo bookings plan n) in
     record {
       text = written_ ∙ ap (λ (z : List Segment). out ++ flat_map text_of z) made ∙ ap (λ (z : List ℕ). z ++ flat_map text_of (group_segments g)) so_far.text
-        ∙ append_assoc front (flat_map text_of before) (flat_map text_of (group_segments g))
-        ∙ ap (λ (z : List ℕ). front ++ z) (sym (flat_map-append text_of before (group_segments g)))
-        ∙ ap (λ (z : List Segment). front ++ flat_map text_of z) (flat_map_more group_segments [] (groups_below ship cargo bookings plan n) g ∙ ap (flat_map group_segments) (sym more));
+          ∙ append_assoc front (flat_map text_of before) (flat_map text_of (group_segments g))
+          ∙ ap (λ (z : List ℕ). front ++ z) (sym (flat_map-append text_of before (group_segments g)))
+          ∙ ap (λ (z : List Segment). front ++ flat_map text_of z) (flat_map_more group_segments [] (groups_below ship cargo bookings plan n) g ∙ ap (flat_map group_segments) (sym more));
       number = ap (λ (k : ℕ). k + 1) so_far.number ∙ sym (ap length more ∙ length-append (groups_below ship cargo bookings plan n) (g ∷ []));
     }
 

@@ -255,11 +255,7 @@ fn head(
     list.push(unh(alloc)?)?;
     list.push(bgm(alloc, call)?)?;
     list.push(dtm(alloc, b"137", bookings.date.bytes())?)?;
-    list.push(tdt(
-        alloc,
-        bookings.voyage.bytes(),
-        bookings.vessel.bytes(),
-    )?)?;
+    list.push(tdt(alloc, bookings.voyage.bytes(), bookings.vessel.bytes())?)?;
     list.push(loc(alloc, b"5", port_of(cargo, call).bytes())?)?;
     list.push(loc(alloc, b"61", port_of(cargo, call + 1).bytes())?)?;
     list.push(dtm(alloc, b"133", bookings.date.bytes())?)?;
@@ -284,11 +280,7 @@ fn group(
     list.push(cell_segment(alloc, bay, row, tier)?)?;
     list.push(mea(alloc, container.kg)?)?;
     list.push(loc(alloc, b"9", port_of(cargo, container.load.0).bytes())?)?;
-    list.push(loc(
-        alloc,
-        b"11",
-        port_of(cargo, container.dest.0).bytes(),
-    )?)?;
+    list.push(loc(alloc, b"11", port_of(cargo, container.dest.0).bytes())?)?;
     list.push(rff(alloc)?)?;
     let iso = iso_of(bookings, container.origin);
     list.push(eqd(alloc, container.id.bytes(), iso.bytes())?)?;

@@ -229,9 +229,13 @@ fn which_bookings_are_plain(rt: HostRuntime) -> Result<(), Fail> {
 /// Bookings of so many containers.
 fn long_bookings(alloc: Global, containers: u32) -> Result<String, Fail> {
     let mut text = String::new(alloc);
-    text.push_str("vessel=\"V\"\nvoyage=\"1\"\ndate=\"2611270105\"\nrotation=[\"AAAAA\",\"BBBBB\"]\n")?;
+    text.push_str(
+        "vessel=\"V\"\nvoyage=\"1\"\ndate=\"2611270105\"\nrotation=[\"AAAAA\",\"BBBBB\"]\n",
+    )?;
     for i in 0..containers {
-        text.push_str(format!(in alloc; "[[container]]\nid=\"ABCU{i}\"\nfrom=1\nto=2\ntype=\"42G1\"\nkg=1\n")?.as_str())?;
+        text.push_str(format!(in alloc;
+            "[[container]]\nid=\"ABCU{i}\"\nfrom=1\nto=2\ntype=\"42G1\"\nkg=1\n"
+        )?.as_str())?;
     }
     Ok(text)
 }

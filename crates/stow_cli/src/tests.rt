@@ -368,7 +368,9 @@ fn feeder_ship(alloc: Global) -> Result<String, NoMemory> {
     for stack in 0..16u32 {
         let bay = 2 + stack / 4 * 4;
         let row = stack % 4;
-        let entry = format!(in alloc; "[[stack]]\nbay = {bay}\nrow = {row}\ntiers = [82, 84, 86, 88, 90, 92]\nlengths = \"40\"\nlimit_kg = 1000000\n")?;
+        let entry = format!(in alloc;
+            "[[stack]]\nbay = {bay}\nrow = {row}\ntiers = [82, 84, 86, 88, 90, 92]\nlengths = \"40\"\nlimit_kg = 1000000\n"
+        )?;
         text.push_str(entry.as_str())?;
     }
     Ok(text)
@@ -382,7 +384,9 @@ fn feeder_cargo(alloc: Global) -> Result<String, NoMemory> {
     )?;
     for (from, to) in [(1u8, 6u8), (1, 4), (1, 2), (2, 3), (4, 5)] {
         for number in 10..34u8 {
-            let entry = format!(in alloc; "[[container]]\nid = \"AAAU{from}{to}{number}\"\nfrom = {from}\nto = {to}\ntype = \"42G1\"\nkg = 10000\n")?;
+            let entry = format!(in alloc;
+                "[[container]]\nid = \"AAAU{from}{to}{number}\"\nfrom = {from}\nto = {to}\ntype = \"42G1\"\nkg = 10000\n"
+            )?;
             text.push_str(entry.as_str())?;
         }
     }

@@ -9,14 +9,14 @@ use Rattle.stow_cli.proofs.departure_file.write_groups.Goals.{in-Some+in_ok-grou
 pub loop-number-preserved : goal.loop-number-preserved
 loop-number-preserved c = elim c.match-at.branch [
   | in-Some+in_ok-group+in_ok-write_all w ↦ record {
-      written = rw (w.out-is, w.count-is) (group_written c.args.ship.now c.args.cargo.now c.args.bookings.now c.args.plan.now c.loop-number.number w.in-Some.c w.container-container.result.now w.in_ok-group.group c.args.out.now c.loop-number.out w.write_all.new.out c.loop-number.count
+    written = rw (w.out-is, w.count-is) (group_written c.args.ship.now c.args.cargo.now c.args.bookings.now c.args.plan.now c.loop-number.number w.in-Some.c w.container-container.result.now w.in_ok-group.group c.args.out.now c.loop-number.out w.write_all.new.out c.loop-number.count
         c.loop-number.invariant.written (c.at.ensures ∙ ap (λ o. Some o) w.in-Some.is) w.container-container.ensures w.in_ok-group.ensures w.in_ok-write_all.ensures);
-      few = omega (arith, w.count-is, c.loop-number.invariant.few);
-    }
+    few = omega (arith, w.count-is, c.loop-number.invariant.few);
+  }
   | in_default w ↦ record {
-      written = rw (w.out-is, w.count-is) (none_written c.args.ship.now c.args.cargo.now c.args.bookings.now c.args.plan.now c.loop-number.number c.args.out.now c.loop-number.out c.loop-number.count c.loop-number.invariant.written w.in_default.ensures);
-      few = omega (arith, w.count-is, c.loop-number.invariant.few);
-    }
+    written = rw (w.out-is, w.count-is) (none_written c.args.ship.now c.args.cargo.now c.args.bookings.now c.args.plan.now c.loop-number.number c.args.out.now c.loop-number.out c.loop-number.count c.loop-number.invariant.written w.in_default.ensures);
+    few = omega (arith, w.count-is, c.loop-number.invariant.few);
+  }
 ]
 
 pub returns-clause-text : goal.returns-clause-text

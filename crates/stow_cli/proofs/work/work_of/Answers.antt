@@ -39,8 +39,8 @@ pub returns-clause-work : goal.returns-clause-work
 returns-clause-work c =
     let plans : load c.args.ship.now (plain_cargo c.args.ship.now c.args.bookings.now) ≡ Some c.in-Some.plans = ap (load c.args.ship.now) (sym c.in_ok-cargo.ensures.cargo) ∙ sym c.in_ok-load.ensures ∙ c.in-Some.is in
     let files : c.in_ok-files-in-Some.files ≡ files_of c.args.base.now c.args.ship.now (plain_cargo c.args.ship.now c.args.bookings.now) c.args.bookings.now 1 c.in-Some.plans =
-      c.in_ok-files-in-Some.ensures ∙ ap (λ (xs : List Stowage). files_of c.args.base.now c.args.ship.now c.in_ok-cargo.cargo c.args.bookings.now 1 xs) c.as_slice.ensures
-      ∙ ap (λ (cargo : Cargo). files_of c.args.base.now c.args.ship.now cargo c.args.bookings.now 1 c.in-Some.plans) c.in_ok-cargo.ensures.cargo in
+    c.in_ok-files-in-Some.ensures ∙ ap (λ (xs : List Stowage). files_of c.args.base.now c.args.ship.now c.in_ok-cargo.cargo c.args.bookings.now 1 xs) c.as_slice.ensures
+    ∙ ap (λ (cargo : Cargo). files_of c.args.base.now c.args.ship.now cargo c.args.bookings.now 1 c.in-Some.plans) c.in_ok-cargo.ensures.cargo in
     ap (λ (fs : List NamedFile). Some (record { files = fs; report = c.in_ok-report-in-Some.report })) files
     ∙ ap (λ r. Some (record { files = files_of c.args.base.now c.args.ship.now (plain_cargo c.args.ship.now c.args.bookings.now) c.args.bookings.now 1 c.in-Some.plans; report = r })) c.in_ok-report-in-Some.ensures
     ∙ sym (work_from c.args.base.now c.args.ship.now c.args.bookings.now c.in-Some.plans plans)
@@ -49,6 +49,6 @@ pub returns-clause-sails : goal.returns-clause-sails
 returns-clause-sails c =
     let plans : load c.args.ship.now (plain_cargo c.args.ship.now c.args.bookings.now) ≡ Some c.in-Some.plans = ap (load c.args.ship.now) (sym c.in_ok-cargo.ensures.cargo) ∙ sym c.in_ok-load.ensures ∙ c.in-Some.is in
     let files : c.in_ok-files-in-Some.files ≡ files_of c.args.base.now c.args.ship.now (plain_cargo c.args.ship.now c.args.bookings.now) c.args.bookings.now 1 c.in-Some.plans =
-      c.in_ok-files-in-Some.ensures ∙ ap (λ (xs : List Stowage). files_of c.args.base.now c.args.ship.now c.in_ok-cargo.cargo c.args.bookings.now 1 xs) c.as_slice.ensures
-      ∙ ap (λ (cargo : Cargo). files_of c.args.base.now c.args.ship.now cargo c.args.bookings.now 1 c.in-Some.plans) c.in_ok-cargo.ensures.cargo in
+    c.in_ok-files-in-Some.ensures ∙ ap (λ (xs : List Stowage). files_of c.args.base.now c.args.ship.now c.in_ok-cargo.cargo c.args.bookings.now 1 xs) c.as_slice.ensures
+    ∙ ap (λ (cargo : Cargo). files_of c.args.base.now c.args.ship.now cargo c.args.bookings.now 1 c.in-Some.plans) c.in_ok-cargo.ensures.cargo in
     sails_from c.args.base.now c.args.ship.now c.args.bookings.now c.in-Some.plans _ c.requires.plain_ship (subst (IsPlainCargo c.args.ship.now) c.in_ok-cargo.ensures.cargo c.in_ok-cargo.ensures.plain) plans files c.in_ok-report-in-Some.ensures
