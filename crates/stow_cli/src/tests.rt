@@ -11,7 +11,7 @@ use stow_io::{MemFolder, MemSink, NoGate};
 const PLAN: &[&str] = &["stow", "plan", "ship.toml", "cargo.toml", "X"];
 
 /// A stack of two tiers on deck.
-const SHIP: &str = "name = \"V\"
+const SHIP: &[u8] = b"name = \"V\"
 [[stack]]
 bay = 2
 row = 1
@@ -21,7 +21,7 @@ limit_kg = 1000000
 ";
 
 /// The first container leaves at call 2, the second at call 4 of four calls.
-const CARGO: &str = "vessel = \"V\"
+const CARGO: &[u8] = b"vessel = \"V\"
 voyage = \"1\"
 date = \"2601010000\"
 rotation = [\"AAAAA\", \"BBBBB\", \"CCCCC\", \"BBBBB\"]
@@ -39,7 +39,7 @@ type = \"42G1\"
 kg = 10000
 ";
 
-const FIRST: &str = "UNB+UNOA:2+STOW+STOW+260101:0000+1'
+const FIRST: &[u8] = b"UNB+UNOA:2+STOW+STOW+260101:0000+1'
 UNH+1+BAPLIE:D:95B:UN:SMDG22'
 BGM++1+9'
 DTM+137:2601010000:201'
@@ -63,7 +63,7 @@ UNT+20+1'
 UNZ+1+1'
 ";
 
-const SECOND: &str = "UNB+UNOA:2+STOW+STOW+260101:0000+2'
+const SECOND: &[u8] = b"UNB+UNOA:2+STOW+STOW+260101:0000+2'
 UNH+1+BAPLIE:D:95B:UN:SMDG22'
 BGM++2+9'
 DTM+137:2601010000:201'
@@ -81,7 +81,7 @@ UNT+14+1'
 UNZ+1+2'
 ";
 
-const THIRD: &str = "UNB+UNOA:2+STOW+STOW+260101:0000+3'
+const THIRD: &[u8] = b"UNB+UNOA:2+STOW+STOW+260101:0000+3'
 UNH+1+BAPLIE:D:95B:UN:SMDG22'
 BGM++3+9'
 DTM+137:2601010000:201'
@@ -100,7 +100,7 @@ UNZ+1+3'
 ";
 
 /// The second container stands on the first and leaves after it.
-const LATER_ON_EARLIER: &str = "vessel = \"V\"
+const LATER_ON_EARLIER: &[u8] = b"vessel = \"V\"
 voyage = \"1\"
 date = \"2601010000\"
 rotation = [\"AAAAA\", \"BBBBB\", \"CCCCC\", \"DDDDD\"]
@@ -111,13 +111,13 @@ container = [
 ";
 
 /// Two calls and no container.
-const EMPTY: &str = "vessel = \"V\"
+const EMPTY: &[u8] = b"vessel = \"V\"
 voyage = \"1\"
 date = \"2601010000\"
 rotation = [\"AAAAA\", \"BBBBB\"]
 ";
 
-const EMPTY_FIRST: &str = "UNB+UNOA:2+STOW+STOW+260101:0000+1'
+const EMPTY_FIRST: &[u8] = b"UNB+UNOA:2+STOW+STOW+260101:0000+1'
 UNH+1+BAPLIE:D:95B:UN:SMDG22'
 BGM++1+9'
 DTM+137:2601010000:201'
@@ -129,7 +129,7 @@ UNT+8+1'
 UNZ+1+1'
 ";
 
-const REPORT: &str = "outcome optimal
+const REPORT: &[u8] = b"outcome optimal
 rehandles 0
 bound 0
 nodes 1
@@ -154,15 +154,15 @@ struct Case {
 
 const FINE: Case = Case {
     words: PLAN,
-    profile: Some(SHIP.as_bytes()),
-    bookings: Some(CARGO.as_bytes()),
+    profile: Some(SHIP),
+    bookings: Some(CARGO),
     faults: &[],
     refused: &[],
     status: Status::Fine,
-    printed: REPORT.as_bytes(),
-    first: Some(FIRST.as_bytes()),
-    second: Some(SECOND.as_bytes()),
-    third: Some(THIRD.as_bytes()),
+    printed: REPORT,
+    first: Some(FIRST),
+    second: Some(SECOND),
+    third: Some(THIRD),
 };
 
 /// A run that writes nothing.
@@ -242,8 +242,8 @@ fn plans(rt: HostRuntime) -> Result<(), Fail> {
             ..FINE
         },
         Case {
-            bookings: Some(EMPTY.as_bytes()),
-            first: Some(EMPTY_FIRST.as_bytes()),
+            bookings: Some(EMPTY),
+            first: Some(EMPTY_FIRST),
             second: None,
             third: None,
             ..FINE
@@ -320,7 +320,7 @@ fn nothing_is_written(rt: HostRuntime) -> Result<(), Fail> {
             ..unbuilt
         },
         Case {
-            bookings: Some(LATER_ON_EARLIER.as_bytes()),
+            bookings: Some(LATER_ON_EARLIER),
             ..unbuilt
         },
         Case {
@@ -403,7 +403,7 @@ fn a_feeder_is_planned(rt: HostRuntime) -> Result<(), Fail> {
     let mut out = MemSink::new(alloc, 1000, numbers_of(alloc, &[])?)?;
     let status = stow(&rt, alloc, &words, &mut folder, &mut out, &NoGate);
     assert_eq!(rt; status, Status::Fine);
-    assert_eq!(rt; out.text().as_slice(), REPORT.as_bytes());
+    assert_eq!(rt; out.text().as_slice(), REPORT);
     // Six segments a group: 72, 72, 48, 48 and 24 containers are aboard after the calls.
     for (name, last) in [
         ("X-01.edi", "UNT+440+1'\nUNZ+1+1'\n"),
@@ -420,14 +420,14 @@ fn a_feeder_is_planned(rt: HostRuntime) -> Result<(), Fail> {
 }
 
 /// One container, from call 1 to call 3 of four.
-const ONE: &str = "vessel = \"V\"
+const ONE: &[u8] = b"vessel = \"V\"
 voyage = \"1\"
 date = \"2601010000\"
 rotation = [\"AAAAA\", \"BBBBB\", \"CCCCC\", \"DDDDD\"]
 container = [{ id = \"AAAU0000001\", from = 1, to = 3, type = \"42G1\", kg = 10000 }]
 ";
 
-const ONE_FIRST: &str = "UNB+UNOA:2+STOW+STOW+260101:0000+1'
+const ONE_FIRST: &[u8] = b"UNB+UNOA:2+STOW+STOW+260101:0000+1'
 UNH+1+BAPLIE:D:95B:UN:SMDG22'
 BGM++1+9'
 DTM+137:2601010000:201'
@@ -450,12 +450,12 @@ fn a_group_is_written_as_printed(rt: HostRuntime) -> Result<(), Fail> {
     let alloc = rt.alloc();
     let words = words_of(alloc, PLAN)?;
     let mut folder = MemFolder::new(alloc, numbers_of(alloc, &[])?);
-    folder.lay("ship.toml", SHIP.as_bytes())?;
-    folder.lay("cargo.toml", ONE.as_bytes())?;
+    folder.lay("ship.toml", SHIP)?;
+    folder.lay("cargo.toml", ONE)?;
     let mut out = MemSink::new(alloc, 1000, numbers_of(alloc, &[])?)?;
     let status = stow(&rt, alloc, &words, &mut folder, &mut out, &NoGate);
     assert_eq!(rt; status, Status::Fine);
     let file = folder.file("X-01.edi").ok_or("no file")?;
-    assert_eq!(rt; file.as_slice(), ONE_FIRST.as_bytes());
+    assert_eq!(rt; file.as_slice(), ONE_FIRST);
     Ok(())
 }
