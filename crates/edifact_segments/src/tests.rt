@@ -82,3 +82,30 @@ fn reads_the_segments_or_the_first_fault(rt: HostRuntime) -> Result<(), Fail> {
     }
     Ok(())
 }
+
+const BAY_PLAN: &[u8] = b"UNB+UNOA:2+LINE+SHIP+260131:0900+77'
+UNH+1+BAPLIE:D:95B:UN:SMDG22'
+BGM++PLAN1+9'
+DTM+137:2601310900:201'
+TDT+20+012W+++ABC:172:20+++XYZ1:103::FEEDER ONE'
+LOC+5+NLRTM:139:6'
+LOC+61+DEHAM:139:6'
+LOC+147+0020102::5'
+FTX+AAI+++O?'NEIL ?+ CO'
+MEA+VGM++KGM:21999.5'
+LOC+9+NLRTM:139:6'
+LOC+11+DEHAM:139:6'
+RFF+BM:1'
+EQD+CN+ABCU1234567+42G1+++5'
+UNT+14+1'
+UNZ+1+77'";
+
+#[test]
+fn a_cut_text_is_refused(rt: HostRuntime) {
+    let alloc = rt.alloc();
+    for cut in 0..BAY_PLAN.len() {
+        let read = rewritten(alloc, &BAY_PLAN[..cut]);
+        assert!(rt; read.is_err(), "cut at {cut}");
+    }
+    assert!(rt; rewritten(alloc, BAY_PLAN).is_ok());
+}
