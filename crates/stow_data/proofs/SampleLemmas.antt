@@ -1,11 +1,12 @@
 -- The ship of the tests obeys the rules of a profile.
 use Rattle.std.proofs.Common.{◌≡◌, ◌≢◌, ℕ, zero, suc, ◌<◌, ◌≤◌, ◌+◌, ◌-◌, ◌*◌, true, false, List, [], ◌∷◌, arith, refl, ap, inl, inr, length, Some}
-use Rattle.std.specs.Prelude.{slice_get, slice_index_or}
+use Rattle.std.specs.Prelude.{Option, slice_get, slice_index_or}
 use Rattle.stow_data.specs.declared.geometry.Stack.{Stack}
 use Rattle.stow_data.specs.declared.geometry.Lengths.TheVariants.{Forty, Twenty, Mixed}
 use Rattle.stow_data.specs.Ship.{places}
 use Rattle.stow_data.specs.Profile.{IsShip, IsStack, SharesCell, IsCover, IsSeparation, SamePair}
-use Rattle.stow_data.specs.Sample.{sample, sample_stack, sample_stacks, sample_cover, sample_separation}
+use Rattle.stow_data.specs.Shipment.{IsCargo, IsShipped}
+use Rattle.stow_data.specs.Sample.{sample, sample_stack, sample_stacks, sample_cover, sample_separation, sample_container, sample_containers, sample_rotation}
 use Rattle.stow_data.proofs.Members.{Member}
 use Rattle.stow_data.proofs.CoverLemmas.{contains_member}
 use Rattle.stow_data.proofs.Distinct.{Each}
@@ -92,3 +93,18 @@ sample_rules = record {
   few_covers = omega arith;
   few_separations = omega arith;
 }
+
+one_byte : (a b : ℕ) → (a ≡ b → ⊥) → a ∷ [] ≡ b ∷ [] → ⊥
+one_byte a b ne e = ne (ap (λ (xs : List ℕ). slice_index_or xs 0 0) e)
+
+pub sample_cargo_rules : (arrival : List (Option ℕ)) → IsCargo (record { rotation = sample_rotation; containers = sample_containers; arrival = arrival })
+sample_cargo_rules arrival = record {
+  calls_from = omega arith;
+  calls_to = omega arith;
+  few_containers = omega arith;
+  ids_differ = pairs_from (λ c d. c.id ≢ d.id) sample_containers ((one_byte 65 66 (λ (e : 65 ≡ 66). omega arith), (one_byte 65 67 (λ (e : 65 ≡ 67). omega arith), (one_byte 65 68 (λ (e : 65 ≡ 68). omega arith), tt))), ((one_byte 66 67 (λ (e : 66 ≡ 67). omega arith), (one_byte 66 68 (λ (e : 66 ≡ 68). omega arith), tt)), ((one_byte 67 68 (λ (e : 67 ≡ 68). omega arith), tt), (tt, tt))));
+  each_shipped = all_from (IsShipped 3) sample_containers (shipped 65 1 1500 (omega arith) (omega arith), (shipped 66 1 1999 (omega arith) (omega arith), (shipped 67 2 2001 (omega arith) (omega arith), (shipped 68 0 1501 (omega arith) (omega arith), tt))));
+}
+  where
+    shipped : (id load kg : ℕ) → load < 3 → kg ≤ 99999 → IsShipped 3 (sample_container id load kg)
+    shipped id load kg l k = record { later = l; in_rotation = omega arith; kg_to = k }

@@ -1,10 +1,13 @@
--- The ship of the tests: a stack of each offer of lengths, a hatch cover and a separation.
-use Rattle.std.specs.Prelude.{ℕ, Bool, true, false, List, [], ◌∷◌, replicate, slice_set}
+-- The ship of the tests: a stack of each offer of lengths, a hatch cover and a separation. And a small cargo.
+use Rattle.std.specs.Prelude.{ℕ, Bool, true, false, List, [], ◌∷◌, replicate, slice_set, None}
 use Rattle.stow_data.specs.declared.geometry.Stack.{Stack}
 use Rattle.stow_data.specs.declared.geometry.Cover.{Cover}
 use Rattle.stow_data.specs.declared.geometry.Separation.{Separation}
 use Rattle.stow_data.specs.declared.geometry.Lengths.{Lengths}
 use Rattle.stow_data.specs.declared.geometry.Lengths.TheVariants.{Forty, Twenty, Mixed, ForeOnly, AftOnly}
+use Rattle.stow_data.specs.declared.geometry.Length.TheVariants as of_length
+use Rattle.stow_data.specs.declared.shipments.Container.{Container}
+use Rattle.stow_data.specs.declared.shipments.Origin.TheVariants.{Booked}
 use Rattle.stow_data.specs.Ship.{Ship}
 
 -- a stack whose lowest tier has a reefer plug or none
@@ -24,3 +27,14 @@ sample_separation = record { a = 49 ∷ 46 ∷ 49 ∷ []; b = 51 ∷ []; level =
 -- its name is MV
 abbrev pub sample : Ship
 sample = record { name = 77 ∷ 86 ∷ []; weight_step = 1000; stacks = sample_stacks; covers = sample_cover ∷ []; separations = sample_separation ∷ [] }
+
+-- a 40-foot container without class, bound for call 3
+abbrev pub sample_container : ℕ → ℕ → ℕ → Container
+sample_container id load kg = record { id = id ∷ []; load = load; dest = 3; long = of_length.Forty; kg = kg; reefer = false; class = None; origin = Booked 0 }
+
+-- two of one kind at call 1, a heavier one at call 2, and one more of the first kind at arrival
+abbrev pub sample_containers : List Container
+sample_containers = sample_container 65 1 1500 ∷ sample_container 66 1 1999 ∷ sample_container 67 2 2001 ∷ sample_container 68 0 1501 ∷ []
+
+abbrev pub sample_rotation : List (List ℕ)
+sample_rotation = (80 ∷ []) ∷ (81 ∷ []) ∷ (80 ∷ []) ∷ []

@@ -1,10 +1,11 @@
 //! A small ship with a stack of each offer of lengths, whose numbers were worked out by hand.
 ghost use Rattle.std.specs.Prelude.{◌≡◌, ◌<◌, ◌∷◌, [], IfOk};
-ghost use Rattle.stow_data.specs.Sample.{sample, sample_stack, sample_stacks, sample_cover, sample_separation};
+ghost use Rattle.stow_data.specs.Sample.{sample, sample_stack, sample_stacks, sample_cover, sample_separation, sample_container, sample_containers, sample_rotation};
 
 use crate::{
-    Cover, CoverList, CoverNo, Half, HalfNo, Length, Lengths, Name, NoMemory, Place, PlaceNo,
-    Separation, SeparationList, Seq, Ship, Span, Stack, StackNo, Stacks,
+    CallNo, Cargo, Container, ContainerList, Cover, CoverList, CoverNo, Half, HalfNo, KindNo,
+    Kinds, Length, Lengths, Name, NameList, NoMemory, Origin, Place, PlaceNo, Plan, Separation,
+    SeparationList, Seq, Ship, Span, Stack, StackNo, Stacks, kinds,
 };
 use std::alloc::Global;
 use std::test::Fail;
@@ -276,5 +277,85 @@ fn tells_cells(rt: HostRuntime) -> Result<(), Fail> {
         aft: true,
     };
     assert!(rt; is_half(&ship, 7, half));
+    Ok(())
+}
+
+fn container(id: u8, load: u32, kg: u32) -> Container
+    ensures { result ≡ sample_container id load kg }
+{
+    Container {
+        id: Name::of(&[id]),
+        load: CallNo(load),
+        dest: CallNo(3),
+        long: Length::Forty,
+        kg,
+        reefer: false,
+        class: None,
+        origin: Origin::Booked(0),
+    }
+}
+
+fn containers(alloc: Global) -> Result<ContainerList, NoMemory>
+    ensures { IfOk result (λ list. list ≡ sample_containers) }
+{
+    let mut list = Seq::new(alloc);
+    list.push(container(65, 1, 1500))?;
+    list.push(container(66, 1, 1999))?;
+    list.push(container(67, 2, 2001))?;
+    list.push(container(68, 0, 1501))?;
+    Ok(list)
+}
+
+fn rotation(alloc: Global) -> Result<NameList, NoMemory>
+    ensures { IfOk result (λ list. list ≡ sample_rotation) }
+{
+    let mut list = Seq::new(alloc);
+    list.push(Name::of(b"P"))?;
+    list.push(Name::of(b"Q"))?;
+    list.push(Name::of(b"P"))?;
+    Ok(list)
+}
+
+fn cargo(alloc: Global, ship: &Ship) -> Result<Cargo, NoMemory> {
+    let rotation = rotation(alloc)?;
+    let containers = containers(alloc)?;
+    let arrival = Plan::empty(alloc, ship)?;
+    Ok(Cargo::new(rotation, containers, arrival))
+}
+
+/// Whether the kind has this weight and first load, and so many containers load at a call.
+fn is_kind(kinds: &Kinds, g: u32, kg: u32, first: u32) -> bool {
+    if g >= kinds.len() {
+        return false;
+    }
+    let kind = kinds.kind(KindNo(g));
+    kind.kg == kg && kind.first == CallNo(first)
+}
+
+fn loads(kinds: &Kinds, call: u32, g: u32) -> Option<u32> {
+    if g >= kinds.len() {
+        return None;
+    }
+    Some(kinds.count(CallNo(call), KindNo(g)))
+}
+
+fn has_loads(kinds: &Kinds) -> bool {
+    for (call, g, count) in [(0, 0, 1), (1, 0, 2), (2, 0, 0), (2, 1, 1), (5, 0, 0)] {
+        if loads(kinds, call, g) != Some(count) {
+            return false;
+        }
+    }
+    true
+}
+
+#[test]
+fn sorts_by_kind(rt: HostRuntime) -> Result<(), Fail> {
+    let alloc = rt.alloc();
+    let ship = ship(alloc)?;
+    let cargo = cargo(alloc, &ship)?;
+    let kinds = kinds(alloc, &ship, &cargo)?;
+    assert!(rt; kinds.len() == 2);
+    assert!(rt; is_kind(&kinds, 0, 2000, 0) && is_kind(&kinds, 1, 3000, 2));
+    assert!(rt; has_loads(&kinds));
     Ok(())
 }

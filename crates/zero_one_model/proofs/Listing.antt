@@ -1,6 +1,6 @@
 -- The list of variables has each variable once.
-use Rattle.std.proofs.Common.{◌≡◌, ℕ, zero, suc, ◌<◌, ◌≤◌, ◌+◌, Bool, true, false, cond, List, [], ◌∷◌, ◌++◌, arith, refl, sym, ◌∙◌, ap, inl, inr, subst, length, Some}
-use Rattle.std.specs.Prelude.{slice_index_or, slice_get, filter, flat_map, map}
+use Rattle.std.proofs.Common.{◌≡◌, ℕ, zero, suc, ◌<◌, ◌≤◌, ◌+◌, Bool, true, false, cond, List, [], ◌∷◌, arith, refl, sym, ◌∙◌, ap, inl, inr, subst, length, Some}
+use Rattle.std.specs.Prelude.{slice_index_or, filter}
 use Rattle.std.specs.List.{range_with_len}
 use Rattle.std.proofs.lemmas.Bool.{both_ways}
 use Rattle.std.proofs.lemmas.Option.{slice_get-get_or}
@@ -9,7 +9,7 @@ use Rattle.stow_data.proofs.Members.{Member, flat_at, flat_from, map_at, map_fro
 use Rattle.stow_data.proofs.Distinct.{Each, Distinct, each_at, each_from, distinct_flat, distinct_map, distinct_range, distinct_get}
 use Rattle.zero_one_model.specs.declared.program.Var.{Var}
 use Rattle.zero_one_model.specs.Variables.{Voyage, calls, all_kinds, is_var, variables, var, no_var}
-use Rattle.zero_one_model.specs.Listed.{IsNamed, ListsVariables, ListsEach, ListsOnce}
+use Rattle.zero_one_model.specs.Listed.{ListsVariables, ListsEach, ListsOnce}
 
 filter_at : {X : Type 0} (t : X → Bool) (xs : List X) (y : X) → Member y (filter t xs) → Member y xs × (t y ≡ true)
 filter_at t [] y h = absurd h

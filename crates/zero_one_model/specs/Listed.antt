@@ -1,5 +1,5 @@
 -- Each variable stands in the list of variables, and once.
-use Rattle.std.specs.Prelude.{◌≡◌, ℕ, ◌+◌, ◌<◌, ◌≤◌, true, length}
+use Rattle.std.specs.Prelude.{◌≡◌, ℕ, ◌<◌, ◌≤◌, true, length}
 use Rattle.stow_data.specs.Ship.{places}
 use Rattle.zero_one_model.specs.declared.program.Var.{Var}
 use Rattle.zero_one_model.specs.Variables.{Voyage, calls, all_kinds, is_var, variables, var}
