@@ -39,15 +39,17 @@ bookings() { # ports, then for each lot: from to number
 
 measure() { # name
     python3 - "$program" "$1" <<'PY'
-import os, resource, subprocess, sys, time
+import os, subprocess, sys, time
 program, name = sys.argv[1:]
-runs = []
+runs, peak = [], 0
 for _ in range(5):
     begin = time.perf_counter()
-    done = subprocess.run([program, "plan", name + ".ship", name + ".cargo", name], capture_output=True, text=True)
+    child = subprocess.Popen([program, "plan", name + ".ship", name + ".cargo", name], stdout=subprocess.PIPE, text=True)
+    said = child.stdout.read()
+    _, status, usage = os.wait4(child.pid, 0)
     runs.append(time.perf_counter() - begin)
-peak = resource.getrusage(resource.RUSAGE_CHILDREN).ru_maxrss / 1024
-print(f"{name}: status {done.returncode}, {' '.join(done.stdout.split())}; least {min(runs) * 1000:.0f} ms of 5, peak {peak:.0f} MB")
+    peak = max(peak, usage.ru_maxrss)
+print(f"{name}: status {os.waitstatus_to_exitcode(status)}, {' '.join(said.split())}; least {min(runs) * 1000:.0f} ms of 5, peak {peak / 1024:.0f} MB")
 PY
 }
 
