@@ -1,9 +1,8 @@
 -- Where a place and a half-cell come from.
-use Rattle.std.proofs.Common.{◌≡◌, ◌≤◌, ◌*◌, ℕ, zero, suc, ◌<◌, ◌+◌, Bool, true, false, List, [], ◌∷◌, ◌++◌, arith, refl, sym, ◌∙◌, ap, inl, inr, subst, length, Some, length-append}
-use Rattle.std.specs.Prelude.{slice_get, slice_index_or, flat_map, map}
+use Rattle.std.proofs.Common.{◌≡◌, ◌≤◌, ◌*◌, ℕ, ◌<◌, Bool, false, List, [], ◌∷◌, arith, sym, ◌∙◌, ap, subst, length, Some, length-append}
+use Rattle.std.specs.Prelude.{slice_get, slice_index_or, flat_map}
 use Rattle.std.specs.List.{range_with_len, enumerate_from}
 use Rattle.std.proofs.lemmas.List.{length-map}
-use Rattle.std.proofs.lemmas.Option.{slice_get_within}
 use Rattle.stow_data.specs.declared.geometry.Stack.{Stack}
 use Rattle.stow_data.specs.declared.geometry.Span.{Span}
 use Rattle.stow_data.specs.declared.geometry.Lengths.{Lengths}
@@ -11,7 +10,7 @@ use Rattle.stow_data.specs.declared.geometry.Lengths.TheVariants.{Forty, Twenty,
 use Rattle.stow_data.specs.declared.geometry.Place.{Place}
 use Rattle.stow_data.specs.declared.geometry.Half.{Half}
 use Rattle.stow_data.specs.Ship.{Ship, places, halves, spans, sides, stack_places, stack_halves, tier_places, tier_halves}
-use Rattle.stow_data.proofs.Members.{Member, flat_at, flat_from, map_at, map_from, range_at, range_from, member_of, index_of, numbered, listed}
+use Rattle.stow_data.proofs.Members.{Member, flat_at, map_at, range_at, member_of, numbered}
 
 -- a place is one of its stack's
 pub record IsOf (ship : Ship) (p : Place) : Type 0 where

@@ -1,15 +1,14 @@
 -- Tables made tier by tier and stack by stack, and the bounds of a place's number.
-use Rattle.std.proofs.Common.{◌≡◌, ◌≤◌, ◌*◌, ◌^◌, ℕ, zero, suc, ◌<◌, ◌+◌, ◌-◌, List, [], ◌∷◌, ◌++◌, arith, refl, sym, ◌∙◌, ap, ◌⊎◌, inl, inr, ⊎_elim, subst, length, Some, get_or, take}
-use Rattle.std.specs.Prelude.{slice_get, slice_index_or, flat_map, map, All}
+use Rattle.std.proofs.Common.{◌≡◌, ◌≤◌, ◌*◌, ℕ, ◌<◌, ◌+◌, ◌-◌, List, [], ◌∷◌, ◌++◌, arith, sym, ◌∙◌, ap, ◌⊎◌, inl, inr, subst, length, Some, get_or, take}
+use Rattle.std.specs.Prelude.{slice_get, flat_map}
 use Rattle.std.specs.List.{range_with_len, enumerate_from}
 use Rattle.std.proofs.lemmas.List.{take_more, flat_map_more, length-take}
-use Rattle.std.proofs.lemmas.List.Concat.{flat_map-append}
-use Rattle.std.proofs.lemmas.List.{append-nil}
 use Rattle.std.proofs.lemmas.Option.{same_Some, slice_get_within, get_or_from_slice_get}
 use Rattle.stow_data.specs.declared.geometry.Stack.{Stack}
 use Rattle.stow_data.specs.declared.geometry.Place.{Place}
 use Rattle.stow_data.specs.Ship.{Ship, places}
 use Rattle.stow_data.specs.Profile.{IsShip, IsStack, IsInHold, IsOnDeck}
+use Rattle.stow_data.specs.CellTable.{IsBounded}
 use Rattle.stow_data.proofs.Members.{range-more, enumerate-more}
 use Rattle.stow_data.proofs.Listed.{place_from}
 
@@ -24,12 +23,6 @@ stack_more {X} f xs table new i n x lt is same e made =
     let more : enumerate_from 0 (take (i + 1) xs) ≡ enumerate_from 0 (take i xs) ++ (n, x) ∷ [] =
     ap (enumerate_from 0) (take_more xs i x lt ∙ ap (λ (z : X). take i xs ++ z ∷ []) (sym is)) ∙ enumerate-more (take i xs) 0 x ∙ ap (λ (k : ℕ). enumerate_from 0 (take i xs) ++ (k, x) ∷ []) long in
     made ∙ ap (λ z. z ++ f (n, x)) e ∙ flat_map_more f [] (enumerate_from 0 (take i xs)) (n, x) ∙ ap (flat_map f) (sym more)
-
--- what bounds the number of a place
-pub record IsBounded (stack : Stack) (place : Place) : Type 0 where
-  pub bay_from : 2 ≤ stack.bay
-  pub bay_to : stack.bay ≤ 998
-  pub tier_to : stack.lowest + 2 * place.tier ≤ 98
 
 highest_to : (s : Stack) → IsInHold s ⊎ IsOnDeck s → s.lowest + 2 * (s.tiers - 1) ≤ 98
 highest_to s (inl h) = omega (arith, h.1)

@@ -1,5 +1,10 @@
 pub mod Ship
 pub mod Profile
+pub mod CellTable
+pub mod CoverTable
 pub mod Tables
 pub mod Shipment
 pub mod Cargoes
+pub mod Kinds
+pub mod KindFields
+pub mod Sample

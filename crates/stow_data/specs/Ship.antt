@@ -1,5 +1,5 @@
 -- A ship: stacks, half-cells, places, columns and covers (ISO 9711).
-use Rattle.std.specs.Prelude.{◌≡◌, ℕ, ◌+◌, ◌-◌, ◌*◌, ◌<◌, ◌≤◌, Bool, true, false, List, [], ◌∷◌, Option, Some, None, slice_get, slice_index_or, length, flat_map, map, Contains, IsTrue}
+use Rattle.std.specs.Prelude.{◌≡◌, ℕ, ◌+◌, ◌-◌, ◌*◌, Bool, true, false, List, [], ◌∷◌, Some, slice_get, slice_index_or, flat_map, map, Contains, IsTrue}
 use Rattle.std.specs.List.{enumerate_from, range_with_len}
 use Rattle.stow_data.specs.declared.geometry.Stack.{Stack}
 use Rattle.stow_data.specs.declared.geometry.Cover.{Cover}
@@ -83,6 +83,14 @@ pub record IsDirectlyAbove (upper lower : Half) : Type 0 where
   pub same_stack : upper.stack ≡ lower.stack
   pub same_side : upper.aft ≡ lower.aft
   pub next_tier : upper.tier ≡ lower.tier + 1
+
+-- half-cell u is directly above half-cell h
+pub record IsAbove (ship : Ship) (u h : ℕ) : Type 0 where
+  pub upper : Half
+  pub is_upper : slice_get (halves ship) u ≡ Some upper
+  pub lower : Half
+  pub is_lower : slice_get (halves ship) h ≡ Some lower
+  pub directly : IsDirectlyAbove upper lower
 
 -- a container of this length, a reefer or not, fits the place
 abbrev pub HasLength : Span → Length → Type 0

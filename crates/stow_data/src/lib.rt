@@ -1,7 +1,11 @@
 //! What every crate speaks of: lists, names, the ship's geometry, plans and the cargo.
 #![tactic(auto)]
 
+mod cells;
 mod geometry;
+mod hatches;
+mod kind_finder;
+mod kind_list;
 mod limits;
 mod list;
 mod names;
@@ -9,6 +13,8 @@ mod numbers;
 mod shipments;
 mod stowage;
 mod tables;
+#[cfg(test)]
+mod tests;
 mod vessel;
 mod words;
 
@@ -16,6 +22,8 @@ pub use geometry::{
     Cover, CoverList, Half, Length, Lengths, Place, Separation, SeparationList, Span, Stack,
     StackList, Stacks,
 };
+pub use kind_finder::kinds;
+pub use kind_list::{Kind, Kinds};
 pub use limits::Limit;
 pub use list::{Bytes, FlagList, NoMemory, NumberList, Seq};
 pub use names::{Name, NameList};

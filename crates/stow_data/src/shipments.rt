@@ -94,6 +94,13 @@ impl Cargo {
         self.containers.at(c.0 as usize)
     }
 
+    /// The containers.
+    pub(crate) fn containers(&self) -> &[Container]
+        ensures { result.now ≡ self.now.containers }
+    {
+        self.containers.as_slice()
+    }
+
     /// The number of containers.
     pub fn len(&self) -> u32
         ensures { result ≡ length self.now.containers }

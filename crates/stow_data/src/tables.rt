@@ -22,7 +22,7 @@ fn spans_of(lengths: Lengths) -> &'static [Span]
 }
 
 /// The sides of a stack's half-cells: fore is false, aft is true.
-fn sides_of(lengths: Lengths) -> &'static [bool]
+pub fn sides_of(lengths: Lengths) -> &'static [bool]
     ensures { result.now ≡ sides lengths }
 {
     match lengths {

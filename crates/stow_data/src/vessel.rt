@@ -1,14 +1,17 @@
 //! The ship, with its places and half-cells in tables.
-ghost use Rattle.std.specs.Prelude.{◌≡◌, ◌<◌, ◌≤◌, ◌↔◌, IfOk, IsTrue, Some, length, slice_get};
+ghost use Rattle.std.specs.Prelude.{◌≡◌, ◌<◌, ◌≤◌, ◌↔◌, ℕ, IfOk, IsTrue, MatchOption, Some, length, slice_get};
 
+use crate::cells::{CellNumber, cell_table, number_on};
 use crate::geometry::{
     Cover, CoverList, Half, Length, Place, Separation, SeparationList, Span, Stack, Stacks,
 };
+use crate::hatches::{Naming, cover_table};
 use crate::list::{NoMemory, Seq};
 use crate::names::Name;
 use crate::numbers::{CoverNo, HalfNo, PlaceNo, StackNo};
-use crate::tables::{half_table, place_table};
+use crate::tables::{half_table, place_table, sides_of};
 use std::alloc::Global;
+use std::collections::BTreeMap;
 use std::marker::Model;
 
 /// A ship as its profile gives it. Contracts see the five parts that `new` takes, and the rules that they obey.
@@ -21,6 +24,9 @@ pub struct Ship {
     separations: SeparationList,
     place_table: Seq<Place>,
     half_table: Seq<Half>,
+    over_table: Seq<Option<CoverNo>>,
+    under_table: Seq<Option<CoverNo>>,
+    cell_table: BTreeMap<CellNumber, PlaceNo>,
 }
 
 impl Model for Ship {
@@ -37,7 +43,7 @@ impl Model for Ship {
 }
 
 impl Ship {
-    ghost use Rattle.stow_data.specs.Ship.{places, halves, FitsAt, HasNumber};
+    ghost use Rattle.stow_data.specs.Ship.{places, halves, FitsAt, HasNumber, IsAbove, LiesUnder, StandsOn};
     ghost use Rattle.stow_data.specs.Profile.{IsShip};
 
     /// A ship of these parts, which obey the rules of a profile.
@@ -54,6 +60,9 @@ impl Ship {
     {
         let place_table = place_table(alloc, stacks.as_slice())?;
         let half_table = half_table(alloc, stacks.as_slice())?;
+        let over_table = cover_table(alloc, stacks.len(), covers.as_slice(), Naming::Under)?;
+        let under_table = cover_table(alloc, stacks.len(), covers.as_slice(), Naming::On)?;
+        let cell_table = cell_table(alloc, stacks.as_slice(), place_table.as_slice())?;
         Ok(Ship {
             name,
             weight_step,
@@ -62,6 +71,9 @@ impl Ship {
             separations,
             place_table,
             half_table,
+            over_table,
+            under_table,
+            cell_table,
         })
     }
 
@@ -162,13 +174,67 @@ impl Ship {
     {
         let _places = self.places();
         let place = self.place(p);
-        let stack = self.stack(place.stack);
-        let bay = match place.span {
-            Span::Fore => stack.bay - 1,
-            Span::Aft => stack.bay + 1,
-            Span::Both => stack.bay,
-        };
-        (bay, stack.row, stack.lowest + 2 * place.tier)
+        let number = number_on(self.stack(place.stack), place);
+        (number.bay, number.row, number.tier)
+    }
+
+    /// The place of this bay, row and tier number (ISO 9711); None exactly where no place has it.
+    pub fn place_of_number(&self, bay: u32, row: u32, tier: u32) -> Option<PlaceNo>
+        ensures has { MatchOption result ((p : ℕ) → HasNumber self.now p (bay, row, tier) → ⊥) (λ p. HasNumber self.now p (bay, row, tier)) }
+        ensures back { (p : ℕ) → HasNumber self.now p (bay, row, tier) → result ≡ Some p }
+    {
+        let number = CellNumber { bay, row, tier };
+        self.cell_table.get(&number).copied()
+    }
+
+    /// The half-cell directly above; None exactly where the column has no such tier.
+    pub fn above(&self, h: HalfNo) -> Option<HalfNo>
+        requires { h < length (halves self.now) }
+        ensures { MatchOption result ((u : ℕ) → IsAbove self.now u h → ⊥) (λ u. IsAbove self.now u h) }
+    {
+        let _halves = self.halves();
+        let half = self.half(h);
+        let stack = self.stack(half.stack);
+        let tiers = stack.tiers;
+        if half.tier + 1 == tiers {
+            return None;
+        }
+        Some(HalfNo(h.0 + sides_of(stack.lengths).len() as u32))
+    }
+
+    /// The half-cell directly below; None exactly where the column has no such tier.
+    pub fn below(&self, h: HalfNo) -> Option<HalfNo>
+        requires { h < length (halves self.now) }
+        ensures { MatchOption result ((b : ℕ) → IsAbove self.now h b → ⊥) (λ b. IsAbove self.now h b) }
+    {
+        let half = self.half(h);
+        if half.tier == 0 {
+            return None;
+        }
+        let stack = self.stack(half.stack);
+        Some(HalfNo(h.0 - sides_of(stack.lengths).len() as u32))
+    }
+
+    /// The hatch cover over a stack; None exactly where the stack lies under none.
+    pub fn cover_over(&self, s: StackNo) -> Option<CoverNo>
+        ensures { MatchOption result ((k : ℕ) → LiesUnder self.now s k → ⊥) (λ k. LiesUnder self.now s k) }
+    {
+        let stack = s.0 as usize;
+        if stack >= self.over_table.len() {
+            return None;
+        }
+        *self.over_table.at(stack)
+    }
+
+    /// The hatch cover under a stack; None exactly where the stack stands on none.
+    pub fn cover_under(&self, s: StackNo) -> Option<CoverNo>
+        ensures { MatchOption result ((k : ℕ) → StandsOn self.now s k → ⊥) (λ k. StandsOn self.now s k) }
+    {
+        let stack = s.0 as usize;
+        if stack >= self.under_table.len() {
+            return None;
+        }
+        *self.under_table.at(stack)
     }
 
     /// Whether a container of this length, a reefer or not, fits the place.

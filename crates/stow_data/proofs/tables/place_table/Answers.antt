@@ -1,4 +1,4 @@
-use Rattle.std.proofs.Common.{◌≡◌, ◌+◌, ◌++◌, ap, sym, ◌∙◌, arith}
+use Rattle.std.proofs.Common.{◌≡◌, ◌+◌, ap, ◌∙◌, arith}
 use Rattle.stow_data.specs.Ship.{stack_places}
 use Rattle.stow_data.proofs.Made.{stack_more}
 use Rattle.stow_data.proofs.tables.place_table.Goals as goal

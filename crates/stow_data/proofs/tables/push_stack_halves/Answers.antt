@@ -1,4 +1,4 @@
-use Rattle.std.proofs.Common.{◌≡◌, ◌++◌, ap, ◌∙◌, arith}
+use Rattle.std.proofs.Common.{◌≡◌, ◌++◌, arith}
 use Rattle.stow_data.specs.Ship.{tier_halves}
 use Rattle.stow_data.proofs.Made.{tier_more}
 use Rattle.stow_data.proofs.tables.push_stack_halves.Goals as goal

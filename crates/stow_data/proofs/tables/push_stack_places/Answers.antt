@@ -1,9 +1,8 @@
-use Rattle.std.proofs.Common.{◌≡◌, ◌++◌, Bool, false, ap, sym, ◌∙◌, arith}
+use Rattle.std.proofs.Common.{◌≡◌, ◌++◌, Bool, false, ap, sym, ◌∙◌}
 use Rattle.std.specs.Prelude.{slice_index_or, map}
 use Rattle.std.proofs.lemmas.Option.{get_or_from_slice_get}
 use Rattle.stow_data.specs.Ship.{tier_places, spans}
 use Rattle.stow_data.specs.declared.geometry.Span.{Span}
-use Rattle.stow_data.specs.declared.geometry.Place.{Place}
 use Rattle.stow_data.proofs.Made.{tier_more}
 use Rattle.stow_data.proofs.tables.push_stack_places.Goals as goal
 

@@ -1,5 +1,4 @@
-use Rattle.std.proofs.Common.{◌≡◌, ◌≤◌, ◌*◌, ◌<◌, ◌^◌, length, ap, arith, Fits}
-use Rattle.stow_data.specs.Ship.{places, halves}
+use Rattle.std.proofs.Common.{length, ap, arith}
 use Rattle.stow_data.specs.Tables.{ship_of}
 use Rattle.stow_data.proofs.Listed.{halves_few}
 use Rattle.stow_data.proofs.vessel.Ship.halves.Goals as goal

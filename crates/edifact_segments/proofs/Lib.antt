@@ -1,0 +1,10 @@
+pub mod PieceLemmas
+pub mod CanonicalLemmas
+pub mod WrittenLemmas
+pub mod Determined
+pub mod DraftLemmas
+pub mod ScanLemmas
+pub mod GrammarLemmas
+pub mod OneReading
+pub mod EachText
+pub mod ReadBackLemmas

@@ -1,0 +1,9 @@
+pub mod Pieces
+pub mod Elements
+pub mod Canonical
+pub mod Written
+pub mod Characters
+pub mod Grammar
+pub mod Scanning
+pub mod Drafts
+pub mod ReadBack

@@ -1,0 +1,211 @@
+//! Interchanges as they are read.
+ghost use Rattle.std.specs.Prelude.{◌≡◌, ◌≢◌, ◌⊎◌, ℕ, ◌+◌, ◌<◌, ◌≤◌, ◌^◌, false, List, [], ◌∷◌, ◌++◌, length, drop, IfErr, IfOk, IsTrue, OnOk};
+ghost use Rattle.edifact_segments.specs.Characters.{Character, Plain};
+ghost use Rattle.edifact_segments.specs.Drafts.{Drafts, Finds, Reads};
+ghost use Rattle.edifact_segments.specs.Grammar.{HasFault, HasUna, IsHeaded, IsInterchange, Starts, unb, unz};
+ghost use Rattle.edifact_segments.specs.ReadBack.{AreWritable, IsWritable};
+ghost use Rattle.edifact_segments.specs.Written.{written};
+ghost use Rattle.std.specs.List.{flat_map};
+ghost use Rattle.edifact_segments.specs.Scanning.{skip};
+ghost use Rattle.edifact_segments.specs.declared.faults.SegFault.{SegFault};
+ghost use Rattle.edifact_segments.specs.declared.segments.Segment.{Segment};
+
+use crate::draft::Draft;
+use crate::faults::SegFault;
+use crate::segments::{Segment, SegmentList};
+use crate::service::{Service, default_characters, is_control_byte, is_line_end};
+use std::alloc::Global;
+use stow_data::NoMemory;
+
+/// Reads an interchange (ISO 9735): its segments from UNB to UNZ, each in canonical form, or its first
+/// fault from the left.
+pub fn read_interchange(alloc: Global, bytes: &[u8]) -> Result<SegmentList, SegFault>
+    requires { length bytes.now ≤ 2 ^ 29 }
+    ensures read { IfOk result (λ segments. IsInterchange bytes.now segments) }
+    ensures fault { IfErr result (λ e. (e ≡ SegFault.NoMemory) ⊎ HasFault bytes.now e) }
+{
+    let (service, start) = read_advice(bytes)?;
+    let mut segments = SegmentList::new(alloc);
+    let mut at = skip_gap(bytes, start);
+    while at < bytes.len() {
+        let number = segments.len() as u32 + 1;
+        let (segment, next) = next_segment(alloc, &service, bytes, at, number)?;
+        if !is_headed(&segments, &segment) {
+            return Err(SegFault::NoHeader);
+        }
+        let closes = is_trailer(&segment);
+        segments.push(segment)?;
+        at = skip_gap(bytes, next);
+        if closes {
+            if at < bytes.len() {
+                return Err(SegFault::Trailing { at: at as u64 });
+            }
+            return Ok(segments);
+        }
+    }
+    if segments.is_empty() {
+        return Err(SegFault::NoHeader);
+    }
+    Err(SegFault::NoTrailer {
+        segments: segments.len() as u32,
+    })
+}
+
+/// Whether the first segment is UNB, once this one is read.
+fn is_headed(segments: &SegmentList, segment: &Segment) -> bool
+    ensures yes { IsTrue result → segments.now ≡ [] → segment.now.tag ≡ unb }
+    ensures no { result ≡ false → (segments.now ≡ []) × (segment.now.tag ≢ unb) }
+{
+    !segments.is_empty() || segment.tag == *b"UNB"
+}
+
+/// Whether the segment is UNZ.
+fn is_trailer(segment: &Segment) -> bool
+    ensures yes { IsTrue result → segment.now.tag ≡ unz }
+    ensures no { result ≡ false → segment.now.tag ≢ unz }
+{
+    segment.tag == *b"UNZ"
+}
+
+/// The service characters, and where the text begins.
+fn read_advice(bytes: &[u8]) -> Result<(Service, usize), SegFault>
+    ensures starts { IfOk result (λ x. Starts bytes.now x.0 (drop x.1 bytes.now)) }
+    ensures within { IfOk result (λ x. x.1 ≤ length bytes.now) }
+    ensures fault { IfErr result (λ e. HasFault bytes.now e) }
+{
+    if !has_una(bytes) {
+        return Ok((default_characters(), 0));
+    }
+    if bytes.len() < 9 {
+        return Err(SegFault::BadUna);
+    }
+    let service = Service {
+        component: bytes[3],
+        element: bytes[4],
+        release: bytes[6],
+        terminator: bytes[8],
+    };
+    if !service.serves() {
+        return Err(SegFault::BadUna);
+    }
+    Ok((service, 9))
+}
+
+/// Whether the bytes begin with UNA.
+fn has_una(bytes: &[u8]) -> bool
+    ensures yes { IsTrue result → HasUna bytes.now }
+    ensures no { result ≡ false → HasUna bytes.now → ⊥ }
+{
+    bytes.len() >= 3 && bytes[0] == b'U' && bytes[1] == b'N' && bytes[2] == b'A'
+}
+
+/// The segment that begins at a place, which has this number, and the place behind its terminator.
+fn next_segment(
+    alloc: Global,
+    service: &Service,
+    bytes: &[u8],
+    from: usize,
+    number: u32,
+) -> Result<(Segment, usize), SegFault>
+    requires within { from ≤ length bytes.now }
+    requires small { length bytes.now ≤ 2 ^ 29 }
+    ensures { Finds service.now bytes.now from number result }
+{
+    let (draft, next) = read_segment(alloc, service, bytes, from)?;
+    let tag = match draft.tag {
+        Some(tag) => tag,
+        None => return Err(SegFault::BadTag { segment: number }),
+    };
+    let elements = draft.elements;
+    Ok((Segment { tag, elements }, next))
+}
+
+/// Where the next byte other than CR and LF stands, or the end.
+fn skip_gap(bytes: &[u8], from: usize) -> usize
+    requires { from ≤ length bytes.now }
+    ensures least { from ≤ result }
+    ensures within { result ≤ length bytes.now }
+    ensures skipped { drop result bytes.now ≡ skip (drop from bytes.now) }
+{
+    let mut at = from;
+    while at < bytes.len() && is_line_end(bytes[at]) {
+        at += 1;
+    }
+    at
+}
+
+/// The segment that begins at a place, and the place behind its terminator.
+fn read_segment(
+    alloc: Global,
+    service: &Service,
+    bytes: &[u8],
+    from: usize,
+) -> Result<(Draft, usize), SegFault>
+    requires within { from ≤ length bytes.now }
+    requires small { length bytes.now ≤ 2 ^ 29 }
+    ensures { Reads service.now bytes.now from result }
+{
+    let mut draft = Draft::new(alloc);
+    let mut at = from;
+    while at < bytes.len() {
+        let byte = bytes[at];
+        if is_control_byte(byte) {
+            return Err(SegFault::ControlByte { at: at as u64 });
+        }
+        if service.releases(byte) {
+            if at + 1 == bytes.len() {
+                return Err(SegFault::Unterminated { at: from as u64 });
+            }
+            let next = bytes[at + 1];
+            if is_control_byte(next) {
+                return Err(SegFault::ControlByte { at: at as u64 + 1 });
+            }
+            draft.text.push(next)?;
+            at += 2;
+        } else if byte == service.terminator {
+            draft.end_element()?;
+            return Ok((draft, at + 1));
+        } else {
+            take_plain(&mut draft, service, byte)?;
+            at += 1;
+        }
+    }
+    Err(SegFault::Unterminated { at: from as u64 })
+}
+
+/// A byte that isn't released and no terminator.
+fn take_plain(draft: &mut Draft, service: &Service, byte: u8) -> Result<(), NoMemory>
+    requires element { draft.old.element < 2 ^ 63 }
+    requires component { draft.old.component < 2 ^ 63 }
+    ensures draft { (cs : List Character) → Drafts service.now draft.old cs → OnOk result (Drafts service.now draft.new (cs ++ Plain byte ∷ [])) }
+    ensures element { OnOk result (draft.new.element ≤ draft.old.element + 1) }
+    ensures component { OnOk result (draft.new.component ≤ draft.old.component + 1) }
+{
+    if byte == service.element {
+        draft.end_element()
+    } else if byte == service.component {
+        draft.end_component()
+    } else {
+        draft.text.push(byte)?;
+        Ok(())
+    }
+}
+
+/// A text has one reading: one list of segments, or one fault.
+pub fn one_reading()
+    ensures segments { (bytes : List ℕ) (s t : List Segment) → IsInterchange bytes s → IsInterchange bytes t → s ≡ t }
+    ensures fault { (bytes : List ℕ) (f g : SegFault) → HasFault bytes f → HasFault bytes g → f ≡ g }
+    ensures apart { (bytes : List ℕ) (s : List Segment) (f : SegFault) → IsInterchange bytes s → HasFault bytes f → ⊥ }
+{}
+
+/// Each text has a reading: it is an interchange, or has a fault.
+pub fn each_text()
+    ensures { (bytes : List ℕ) → ((s : List Segment) × IsInterchange bytes s) ⊎ ((f : SegFault) × HasFault bytes f) }
+{}
+
+/// What is written reads back: segments in canonical form with tags and without control bytes, the first
+/// UNB and the last alone UNZ.
+pub fn reads_back()
+    ensures { (before : List Segment) (last : Segment) → AreWritable before → IsWritable last → last.tag ≡ unz
+        → IsHeaded (before ++ last ∷ []) → IsInterchange (flat_map written (before ++ last ∷ [])) (before ++ last ∷ []) }
+{}

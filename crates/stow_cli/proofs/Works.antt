@@ -1,0 +1,88 @@
+-- The files of a voyage, made one after the other.
+use Rattle.std.proofs.Common.{◌≡◌, ℕ, zero, suc, ◌+◌, ◌<◌, ◌≤◌, List, [], ◌∷◌, ◌++◌, length, get_or, drop, refl, sym, ◌∙◌, ap, arith, append_assoc, Some, None}
+use Rattle.std.specs.Prelude.{codes, slice_get, slice_index_or, All, IsTrue, nat_le, ◌&&◌}
+use Rattle.std.proofs.lemmas.Fmt.{decimal_digit}
+use Rattle.std.proofs.lemmas.Bool.{and_parts, leb-true}
+use Rattle.std.proofs.lemmas.List.{append-nil, drop_all, drop_more}
+use Rattle.std.proofs.lemmas.Option.{slice_get_within}
+use Rattle.stow_data.specs.Ship.{Ship, places}
+use Rattle.stow_data.specs.Shipment.{Cargo}
+use Rattle.voyage_specs.specs.Departure.{AreDepartures}
+use Rattle.stow_cli.specs.declared.plain_bookings.Bookings.{Bookings}
+use Rattle.stow_cli.specs.declared.writing.NamedFile.{NamedFile}
+use Rattle.stow_cli.specs.Loader.{Stowage, load}
+use Rattle.stow_cli.specs.Keys.{is_between}
+use Rattle.stow_cli.specs.PlainBookings.{is_date, is_digit}
+use Rattle.stow_cli.specs.DepartureFile.{IsKnown}
+use Rattle.stow_cli.specs.Work.{file_of, files_of, work_of_plans, work_for, report}
+use Rattle.stow_cli.specs.declared.work.Work.{Work}
+use Rattle.stow_cli.specs.Plain.{IsPlainShip, IsPlainCargo}
+use Rattle.stow_cli.specs.PlainBookings.{plain_cargo}
+use Rattle.stow_cli.specs.Voyages.{Sails, report_of}
+use Rattle.stow_cli.proofs.Sailing.{load_is_legal, load_has_count}
+use Rattle.stow_cli.proofs.Showing.{groups_legal}
+
+pub files_more : (base : List ℕ) (ship : Ship) (cargo : Cargo) (bookings : Bookings) (call : ℕ) (front total : List NamedFile) (plans : List Stowage) (i : ℕ) (plan : Stowage) → i < length plans → plan ≡ get_or plans i plan
+    → front ++ files_of base ship cargo bookings call (drop i plans) ≡ total → (front ++ file_of base ship cargo bookings call plan ∷ []) ++ files_of base ship cargo bookings (call + 1) (drop (i + 1) plans) ≡ total
+unfolding files_of
+files_more base ship cargo bookings call front total plans i plan l is e =
+    let s : drop i plans ≡ plan ∷ drop (i + 1) plans = drop_more plans i plan l ∙ ap (λ (z : Stowage). z ∷ drop (i + 1) plans) (sym is) in
+    append_assoc front (file_of base ship cargo bookings call plan ∷ []) (files_of base ship cargo bookings (call + 1) (drop (i + 1) plans))
+    ∙ ap (λ (z : List Stowage). front ++ files_of base ship cargo bookings call z) (sym s) ∙ e
+
+pub files_done : (base : List ℕ) (ship : Ship) (cargo : Cargo) (bookings : Bookings) (call : ℕ) (front total : List NamedFile) (plans : List Stowage) (i : ℕ) → length plans ≤ i
+    → front ++ files_of base ship cargo bookings call (drop i plans) ≡ total → front ≡ total
+unfolding files_of
+files_done base ship cargo bookings call front total plans i l e = sym (append-nil front) ∙ ap (λ (z : List Stowage). front ++ files_of base ship cargo bookings call z) (sym (drop_all i plans l)) ∙ e
+
+pub departures_whole : (ship : Ship) (cargo : Cargo) (call : ℕ) (plans : List Stowage) → AreDepartures ship cargo call plans → All (λ plan. length plan ≡ length (places ship)) plans
+departures_whole ship cargo call [] h k d l = absurd (omega arith)
+departures_whole ship cargo call (plan ∷ plans) h zero d l = h.0.stowed.well_formed.each_place
+departures_whole ship cargo call (plan ∷ plans) h (suc k) d l = departures_whole ship cargo (suc call) plans h.1 k d (omega arith)
+
+pub departures_known : (ship : Ship) (cargo : Cargo) (call : ℕ) (plans : List Stowage) → AreDepartures ship cargo call plans → All (IsKnown cargo) plans
+departures_known ship cargo call [] h k d l = absurd (omega arith)
+departures_known ship cargo call (plan ∷ plans) h zero d l = λ p c holds. let known = h.0.stowed.well_formed.known p c holds in slice_get_within cargo.containers c known.0 known.1
+departures_known ship cargo call (plan ∷ plans) h (suc k) d l = departures_known ship cargo (suc call) plans h.1 k d (omega arith)
+
+pub date_long : (date : List ℕ) → IsTrue (is_date date) → length date ≡ 10
+date_long date h =
+    let b = and_parts (is_between 10 10 date) _ h in
+    let c = and_parts (nat_le 10 (length date)) (nat_le (length date) 10) b.0 in
+    let low : 10 ≤ length date = leb-true 10 (length date) c.0 in
+    let high : length date ≤ 10 = leb-true (length date) 10 c.1 in
+    omega arith
+
+-- what the loader's plans are for the work
+pub record IsPlanned (ship : Ship) (cargo : Cargo) (plans : List Stowage) : Type 0 where
+  pub departs : length plans < length cargo.rotation
+  pub whole : All (λ plan. length plan ≡ length (places ship)) plans
+  pub known : All (IsKnown cargo) plans
+
+pub are_planned : (ship : Ship) (cargo : Cargo) (plans : List Stowage) → IsPlainShip ship → IsPlainCargo ship cargo → load ship cargo ≡ Some plans → IsPlanned ship cargo plans
+are_planned ship cargo plans plain_ship plain h =
+    let legal = load_is_legal ship cargo plans plain_ship plain h in
+    let each = legal.2 in
+    record { departs = omega arith; whole = departures_whole ship cargo 1 plans legal.0; known = departures_known ship cargo 1 plans legal.0 }
+
+pub sails_from : (base : List ℕ) (ship : Ship) (booked : Bookings) (plans : List Stowage) (work : Work) → IsPlainShip ship → IsPlainCargo ship (plain_cargo ship booked) → load ship (plain_cargo ship booked) ≡ Some plans
+    → work.files ≡ files_of base ship (plain_cargo ship booked) booked 1 plans → work.report ≡ report → Sails base ship booked work
+sails_from base ship booked plans work plain_ship plain h files reported =
+    let legal = load_is_legal ship (plain_cargo ship booked) plans plain_ship plain h in
+    record {
+      departures = plans;
+      files = files;
+      shown = groups_legal ship (plain_cargo ship booked) booked plans plain_ship.rules plain.rules legal.2 legal.0;
+      rehandles = 0;
+      count = load_has_count ship (plain_cargo ship booked) plans plain_ship plain h;
+      none = refl;
+      report = reported ∙ sym (ap (λ (d : List ℕ). codes "outcome optimal\nrehandles " ++ d ++ codes "\nbound 0\nnodes 1\n") (decimal_digit 0 (omega arith)));
+    }
+
+pub work_from : (base : List ℕ) (ship : Ship) (booked : Bookings) (plans : List Stowage) → load ship (plain_cargo ship booked) ≡ Some plans → work_for base ship booked ≡ Some (work_of_plans base ship (plain_cargo ship booked) booked plans)
+unfolding work_for
+work_from base ship booked plans h = rw h
+
+pub work_none : (base : List ℕ) (ship : Ship) (booked : Bookings) → load ship (plain_cargo ship booked) ≡ None → work_for base ship booked ≡ None
+unfolding work_for
+work_none base ship booked h = rw h

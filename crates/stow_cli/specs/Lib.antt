@@ -1,0 +1,12 @@
+pub mod Loader
+pub mod Plain
+pub mod DepartureFile
+pub mod Keys
+pub mod PlainProfile
+pub mod PlainBookings
+pub mod Work
+pub mod Voyages
+pub mod Planned
+pub mod Named
+pub mod Writing
+pub mod Ends

@@ -1,0 +1,461 @@
+//! Whole runs over a folder and a sink in memory.
+use super::*;
+use std::alloc::Global;
+use std::process::Abort;
+use std::sync::Wait;
+use std::test::Fail;
+use std::thread::Threads;
+use stow_data::{NoMemory, NumberList, Word, WordList};
+use stow_io::{MemFolder, MemSink, NoGate};
+
+const PLAN: &[&str] = &["stow", "plan", "ship.toml", "cargo.toml", "X"];
+
+/// A stack of two tiers on deck.
+const SHIP: &[u8] = b"name = \"V\"
+[[stack]]
+bay = 2
+row = 1
+tiers = [82, 84]
+lengths = \"40\"
+limit_kg = 1000000
+";
+
+/// The first container leaves at call 2, the second at call 4 of four calls.
+const CARGO: &[u8] = b"vessel = \"V\"
+voyage = \"1\"
+date = \"2601010000\"
+rotation = [\"AAAAA\", \"BBBBB\", \"CCCCC\", \"BBBBB\"]
+[[container]]
+id = \"AAAU0000001\"
+from = 1
+to = 2
+type = \"42G1\"
+kg = 10000
+[[container]]
+id = \"AAAU0000002\"
+from = 1
+to = 4
+type = \"42G1\"
+kg = 10000
+";
+
+const FIRST: &[u8] = b"UNB+UNOA:2+STOW+STOW+260101:0000+1'
+UNH+1+BAPLIE:D:95B:UN:SMDG22'
+BGM++1+9'
+DTM+137:2601010000:201'
+TDT+20+1++++++:::V'
+LOC+5+AAAAA:139:6'
+LOC+61+BBBBB:139:6'
+DTM+133:2601010000:201'
+LOC+147+0020182::5'
+MEA+WT++KGM:10000'
+LOC+9+AAAAA:139:6'
+LOC+11+BBBBB:139:6'
+RFF+BM:1'
+EQD+CN+AAAU0000002+42G1+++5'
+LOC+147+0020184::5'
+MEA+WT++KGM:10000'
+LOC+9+AAAAA:139:6'
+LOC+11+BBBBB:139:6'
+RFF+BM:1'
+EQD+CN+AAAU0000001+42G1+++5'
+UNT+20+1'
+UNZ+1+1'
+";
+
+const SECOND: &[u8] = b"UNB+UNOA:2+STOW+STOW+260101:0000+2'
+UNH+1+BAPLIE:D:95B:UN:SMDG22'
+BGM++2+9'
+DTM+137:2601010000:201'
+TDT+20+1++++++:::V'
+LOC+5+BBBBB:139:6'
+LOC+61+CCCCC:139:6'
+DTM+133:2601010000:201'
+LOC+147+0020182::5'
+MEA+WT++KGM:10000'
+LOC+9+AAAAA:139:6'
+LOC+11+BBBBB:139:6'
+RFF+BM:1'
+EQD+CN+AAAU0000002+42G1+++5'
+UNT+14+1'
+UNZ+1+2'
+";
+
+const THIRD: &[u8] = b"UNB+UNOA:2+STOW+STOW+260101:0000+3'
+UNH+1+BAPLIE:D:95B:UN:SMDG22'
+BGM++3+9'
+DTM+137:2601010000:201'
+TDT+20+1++++++:::V'
+LOC+5+CCCCC:139:6'
+LOC+61+BBBBB:139:6'
+DTM+133:2601010000:201'
+LOC+147+0020182::5'
+MEA+WT++KGM:10000'
+LOC+9+AAAAA:139:6'
+LOC+11+BBBBB:139:6'
+RFF+BM:1'
+EQD+CN+AAAU0000002+42G1+++5'
+UNT+14+1'
+UNZ+1+3'
+";
+
+/// The second container stands on the first and leaves after it.
+const LATER_ON_EARLIER: &[u8] = b"vessel = \"V\"
+voyage = \"1\"
+date = \"2601010000\"
+rotation = [\"AAAAA\", \"BBBBB\", \"CCCCC\", \"DDDDD\"]
+container = [
+  { id = \"AAAU0000001\", from = 1, to = 3, type = \"42G1\", kg = 10000 },
+  { id = \"AAAU0000002\", from = 2, to = 4, type = \"42G1\", kg = 10000 },
+]
+";
+
+/// Two calls and no container.
+const EMPTY: &[u8] = b"vessel = \"V\"
+voyage = \"1\"
+date = \"2601010000\"
+rotation = [\"AAAAA\", \"BBBBB\"]
+";
+
+const EMPTY_FIRST: &[u8] = b"UNB+UNOA:2+STOW+STOW+260101:0000+1'
+UNH+1+BAPLIE:D:95B:UN:SMDG22'
+BGM++1+9'
+DTM+137:2601010000:201'
+TDT+20+1++++++:::V'
+LOC+5+AAAAA:139:6'
+LOC+61+BBBBB:139:6'
+DTM+133:2601010000:201'
+UNT+8+1'
+UNZ+1+1'
+";
+
+const REPORT: &[u8] = b"outcome optimal
+rehandles 0
+bound 0
+nodes 1
+";
+
+/// What lies in the folder and what fails, and what a run must leave.
+#[derive(Clone, Copy)]
+struct Case {
+    words: &'static [&'static str],
+    profile: Option<&'static [u8]>,
+    bookings: Option<&'static [u8]>,
+    /// The numbers of the folder's calls that fail.
+    faults: &'static [u32],
+    /// The numbers of the sink's puts that fail.
+    refused: &'static [u32],
+    status: Status,
+    printed: &'static [u8],
+    first: Option<&'static [u8]>,
+    second: Option<&'static [u8]>,
+    third: Option<&'static [u8]>,
+}
+
+const FINE: Case = Case {
+    words: PLAN,
+    profile: Some(SHIP),
+    bookings: Some(CARGO),
+    faults: &[],
+    refused: &[],
+    status: Status::Fine,
+    printed: REPORT,
+    first: Some(FIRST),
+    second: Some(SECOND),
+    third: Some(THIRD),
+};
+
+/// A run that writes nothing.
+const UNWRITTEN: Case = Case {
+    first: None,
+    second: None,
+    third: None,
+    ..FINE
+};
+
+fn words_of(alloc: Global, texts: &[&str]) -> Result<WordList, NoMemory> {
+    let mut words = WordList::new(alloc);
+    for text in texts {
+        words.push(Word::of(alloc, *text)?)?;
+    }
+    Ok(words)
+}
+
+fn numbers_of(alloc: Global, list: &[u32]) -> Result<NumberList, NoMemory> {
+    let mut numbers = NumberList::new(alloc);
+    for number in list {
+        numbers.push(*number)?;
+    }
+    Ok(numbers)
+}
+
+fn holds(folder: &MemFolder, name: &str, bytes: Option<&[u8]>) -> bool {
+    match (folder.file(name), bytes) {
+        (Some(found), Some(bytes)) => found.as_slice() == bytes,
+        (None, None) => true,
+        _ => false,
+    }
+}
+
+fn run<R: Threads + Wait + Sync + Abort>(
+    rt: &R,
+    alloc: Global,
+    case: &Case,
+) -> Result<(), NoMemory> {
+    let words = words_of(alloc, case.words)?;
+    let mut folder = MemFolder::new(alloc, numbers_of(alloc, case.faults)?);
+    if let Some(bytes) = case.profile {
+        folder.lay("ship.toml", bytes)?;
+    }
+    if let Some(bytes) = case.bookings {
+        folder.lay("cargo.toml", bytes)?;
+    }
+    let mut out = MemSink::new(alloc, 1000, numbers_of(alloc, case.refused)?)?;
+    let status = stow(rt, alloc, &words, &mut folder, &mut out, &NoGate);
+    if status == Status::Memory {
+        return Err(NoMemory);
+    }
+    assert_eq!(rt; status, case.status);
+    assert_eq!(rt; out.text().as_slice(), case.printed);
+    assert!(rt; holds(&folder, "X-01.edi", case.first));
+    assert!(rt; holds(&folder, "X-02.edi", case.second));
+    assert!(rt; holds(&folder, "X-03.edi", case.third));
+    Ok(())
+}
+
+#[test]
+fn plans(rt: HostRuntime) -> Result<(), Fail> {
+    let cases = [
+        FINE,
+        Case {
+            refused: &[1],
+            status: Status::Fault,
+            printed: b"",
+            ..FINE
+        },
+        Case {
+            faults: &[4],
+            status: Status::Fault,
+            printed: b"fault write X-02.edi\n",
+            second: None,
+            third: None,
+            ..FINE
+        },
+        Case {
+            bookings: Some(EMPTY),
+            first: Some(EMPTY_FIRST),
+            second: None,
+            third: None,
+            ..FINE
+        },
+    ];
+    for case in &cases {
+        run(&rt, rt.alloc(), case)?;
+    }
+    Ok(())
+}
+
+#[test]
+fn nothing_is_written(rt: HostRuntime) -> Result<(), Fail> {
+    let unbuilt = Case {
+        status: Status::Unbuilt,
+        printed: b"unbuilt\n",
+        ..UNWRITTEN
+    };
+    let no_ship = Case {
+        status: Status::Fault,
+        printed: b"fault read ship.toml\n",
+        ..UNWRITTEN
+    };
+    let no_cargo = Case {
+        status: Status::Fault,
+        printed: b"fault read cargo.toml\n",
+        ..UNWRITTEN
+    };
+    let unwritten = Case {
+        status: Status::Fault,
+        printed: b"fault write X-01.edi\n",
+        ..UNWRITTEN
+    };
+    let cases = [
+        Case {
+            words: &[],
+            ..unbuilt
+        },
+        Case {
+            words: &["stow", "plan", "ship.toml", "cargo.toml"],
+            ..unbuilt
+        },
+        Case {
+            words: &["stow", "plan", "ship.toml", "cargo.toml", "X", "Y"],
+            ..unbuilt
+        },
+        Case {
+            words: &["stow", "plans", "ship.toml", "cargo.toml", "X"],
+            ..unbuilt
+        },
+        Case {
+            words: &["stow", "plan", "ship.toml", "cargo.toml", "-X"],
+            ..unbuilt
+        },
+        Case {
+            words: &["stow", "plan", "-", "cargo.toml", "X"],
+            ..unbuilt
+        },
+        Case {
+            profile: Some(b""),
+            ..unbuilt
+        },
+        Case {
+            profile: Some(b""),
+            bookings: None,
+            ..unbuilt
+        },
+        Case {
+            profile: Some(b"name = \"\xff\""),
+            ..unbuilt
+        },
+        Case {
+            bookings: Some(b""),
+            ..unbuilt
+        },
+        Case {
+            bookings: Some(LATER_ON_EARLIER),
+            ..unbuilt
+        },
+        Case {
+            profile: Some(b""),
+            refused: &[1],
+            printed: b"",
+            ..unbuilt
+        },
+        Case {
+            profile: None,
+            ..no_ship
+        },
+        Case {
+            faults: &[1],
+            ..no_ship
+        },
+        Case {
+            faults: &[1],
+            refused: &[2],
+            printed: b"fault read ",
+            ..no_ship
+        },
+        Case {
+            bookings: None,
+            ..no_cargo
+        },
+        Case {
+            faults: &[2],
+            ..no_cargo
+        },
+        Case {
+            faults: &[3],
+            ..unwritten
+        },
+    ];
+    for case in &cases {
+        run(&rt, rt.alloc(), case)?;
+    }
+    Ok(())
+}
+
+/// Sixteen stacks of six tiers.
+fn feeder_ship(alloc: Global) -> Result<String, NoMemory> {
+    let mut text = String::from_str(alloc, "name = \"FEEDER\"\n")?;
+    for stack in 0..16u32 {
+        let bay = 2 + stack / 4 * 4;
+        let row = stack % 4;
+        let entry = format!(in alloc;
+            "[[stack]]\nbay = {bay}\nrow = {row}\ntiers = [82, 84, 86, 88, 90, 92]\nlengths = \"40\"\nlimit_kg = 1000000\n"
+        )?;
+        text.push_str(entry.as_str())?;
+    }
+    Ok(text)
+}
+
+/// 24 containers each for five pairs of calls.
+fn feeder_cargo(alloc: Global) -> Result<String, NoMemory> {
+    let mut text = String::from_str(
+        alloc,
+        "vessel = \"V\"\nvoyage = \"1\"\ndate = \"2601010000\"\nrotation = [\"AAAAA\", \"BBBBB\", \"CCCCC\", \"DDDDD\", \"EEEEE\", \"FFFFF\"]\n",
+    )?;
+    for (from, to) in [(1u8, 6u8), (1, 4), (1, 2), (2, 3), (4, 5)] {
+        for number in 10..34u8 {
+            let entry = format!(in alloc;
+                "[[container]]\nid = \"AAAU{from}{to}{number}\"\nfrom = {from}\nto = {to}\ntype = \"42G1\"\nkg = 10000\n"
+            )?;
+            text.push_str(entry.as_str())?;
+        }
+    }
+    Ok(text)
+}
+
+#[test]
+fn a_feeder_is_planned(rt: HostRuntime) -> Result<(), Fail> {
+    let alloc = rt.alloc();
+    let words = words_of(alloc, PLAN)?;
+    let mut folder = MemFolder::new(alloc, numbers_of(alloc, &[])?);
+    folder.lay("ship.toml", feeder_ship(alloc)?.as_bytes())?;
+    folder.lay("cargo.toml", feeder_cargo(alloc)?.as_bytes())?;
+    let mut out = MemSink::new(alloc, 1000, numbers_of(alloc, &[])?)?;
+    let status = stow(&rt, alloc, &words, &mut folder, &mut out, &NoGate);
+    assert_eq!(rt; status, Status::Fine);
+    assert_eq!(rt; out.text().as_slice(), REPORT);
+    // Six segments a group: 72, 72, 48, 48 and 24 containers are aboard after the calls.
+    for (name, last) in [
+        ("X-01.edi", "UNT+440+1'\nUNZ+1+1'\n"),
+        ("X-02.edi", "UNT+440+1'\nUNZ+1+2'\n"),
+        ("X-03.edi", "UNT+296+1'\nUNZ+1+3'\n"),
+        ("X-04.edi", "UNT+296+1'\nUNZ+1+4'\n"),
+        ("X-05.edi", "UNT+152+1'\nUNZ+1+5'\n"),
+    ] {
+        let file = folder.file(name).ok_or("no file")?;
+        assert!(rt; file.as_slice().ends_with(last.as_bytes()), "{name}");
+    }
+    assert!(rt; folder.file("X-06.edi").is_none());
+    Ok(())
+}
+
+/// One container, from call 1 to call 3 of four.
+const ONE: &[u8] = b"vessel = \"V\"
+voyage = \"1\"
+date = \"2601010000\"
+rotation = [\"AAAAA\", \"BBBBB\", \"CCCCC\", \"DDDDD\"]
+container = [{ id = \"AAAU0000001\", from = 1, to = 3, type = \"42G1\", kg = 10000 }]
+";
+
+const ONE_FIRST: &[u8] = b"UNB+UNOA:2+STOW+STOW+260101:0000+1'
+UNH+1+BAPLIE:D:95B:UN:SMDG22'
+BGM++1+9'
+DTM+137:2601010000:201'
+TDT+20+1++++++:::V'
+LOC+5+AAAAA:139:6'
+LOC+61+BBBBB:139:6'
+DTM+133:2601010000:201'
+LOC+147+0020182::5'
+MEA+WT++KGM:10000'
+LOC+9+AAAAA:139:6'
+LOC+11+CCCCC:139:6'
+RFF+BM:1'
+EQD+CN+AAAU0000001+42G1+++5'
+UNT+14+1'
+UNZ+1+1'
+";
+
+#[test]
+fn a_group_is_written_as_printed(rt: HostRuntime) -> Result<(), Fail> {
+    let alloc = rt.alloc();
+    let words = words_of(alloc, PLAN)?;
+    let mut folder = MemFolder::new(alloc, numbers_of(alloc, &[])?);
+    folder.lay("ship.toml", SHIP)?;
+    folder.lay("cargo.toml", ONE)?;
+    let mut out = MemSink::new(alloc, 1000, numbers_of(alloc, &[])?)?;
+    let status = stow(&rt, alloc, &words, &mut folder, &mut out, &NoGate);
+    assert_eq!(rt; status, Status::Fine);
+    let file = folder.file("X-01.edi").ok_or("no file")?;
+    assert_eq!(rt; file.as_slice(), ONE_FIRST);
+    Ok(())
+}

@@ -1,0 +1,102 @@
+//! What is written and printed for a ship and its bookings.
+ghost use Rattle.std.specs.Prelude.{◌≡◌, ◌<◌, ◌≤◌, ◌+◌, ◌++◌, IfOk, IfSome, length, All};
+ghost use Rattle.stow_data.specs.Ship.{places};
+ghost use Rattle.stow_cli.specs.DepartureFile.{IsKnown};
+ghost use Rattle.stow_cli.specs.Plain.{IsPlainShip};
+ghost use Rattle.stow_cli.specs.PlainBookings.{IsBookings};
+ghost use Rattle.stow_cli.specs.Voyages.{Sails};
+ghost use Rattle.stow_cli.specs.Work.{file_name, file_of, files_of, work_for};
+
+use crate::departure_file::departure_file;
+use crate::loader::load;
+use crate::plain_bookings::{Bookings, cargo_of};
+use crate::writing::{FileList, NamedFile};
+use std::alloc::Global;
+use stow_data::{Bytes, Cargo, NoMemory, Plan, Ship, Word};
+
+/// The files to be written, in their order, and the report to be printed after them.
+#[derive(Debug, Drop)]
+pub struct Work {
+    pub files: FileList,
+    pub report: Bytes,
+}
+
+/// The name of the departure file of a call, of which there are fewer than a hundred.
+fn file_name(alloc: Global, base: &str, call: u32) -> Result<Word, NoMemory>
+    ensures { IfOk result (λ name. name ≡ file_name base.now call) }
+{
+    let tens = call / 10;
+    let ones = call % 10;
+    let name = format!(in alloc; "{base}-{tens}{ones}.edi")?;
+    Ok(Word::of(alloc, name.as_str())?)
+}
+
+/// The departure file of a call, under its name.
+fn file_of(
+    alloc: Global,
+    base: &str,
+    ship: &Ship,
+    cargo: &Cargo,
+    bookings: &Bookings,
+    plan: &Plan,
+    call: u32,
+) -> Result<NamedFile, NoMemory>
+    requires date { length bookings.now.date ≡ 10 }
+    requires departs { call < length cargo.now.rotation }
+    requires whole { length plan.now ≡ length (places ship.now) }
+    requires known { IsKnown cargo.now plan.now }
+    ensures { IfOk result (λ file. file ≡ file_of base.now ship.now cargo.now bookings.now call plan.now) }
+{
+    Ok(NamedFile {
+        name: file_name(alloc, base, call)?,
+        bytes: departure_file(alloc, ship, cargo, bookings, plan, call)?,
+    })
+}
+
+/// The departure files of the plans, of which the first is that of call 1.
+fn files_of(
+    alloc: Global,
+    base: &str,
+    ship: &Ship,
+    cargo: &Cargo,
+    bookings: &Bookings,
+    plans: &[Plan],
+) -> Result<FileList, NoMemory>
+    requires date { length bookings.now.date ≡ 10 }
+    requires departs { length plans.now < length cargo.now.rotation }
+    requires whole { All (λ plan. length plan ≡ length (places ship.now)) plans.now }
+    requires known { All (IsKnown cargo.now) plans.now }
+    ensures { IfOk result (λ files. files ≡ files_of base.now ship.now cargo.now bookings.now 1 plans.now) }
+{
+    let _calls = cargo.calls();
+    let mut files = FileList::new(alloc);
+    let mut call: u32 = 1;
+    for plan in plans {
+        files.push(file_of(alloc, base, ship, cargo, bookings, plan, call)?)?;
+        call += 1;
+    }
+    Ok(files)
+}
+
+/// The files and the report, none where the loader's rule gives no plans.
+pub fn work_of(
+    alloc: Global,
+    base: &str,
+    ship: &Ship,
+    bookings: &Bookings,
+) -> Result<Option<Work>, NoMemory>
+    requires plain_ship { IsPlainShip ship.now }
+    requires plain_bookings { IsBookings bookings.now }
+    ensures work { IfOk result (λ work. work ≡ work_for base.now ship.now bookings.now) }
+    ensures sails { IfOk result (λ work. IfSome work (Sails base.now ship.now bookings.now)) }
+{
+    let cargo = cargo_of(alloc, ship, bookings)?;
+    match load(alloc, ship, &cargo)? {
+        None => Ok(None),
+        Some(plans) => {
+            let files = files_of(alloc, base, ship, &cargo, bookings, plans.as_slice())?;
+            let report = Bytes::of(alloc, b"outcome optimal\nrehandles 0\nbound 0\nnodes 1\n")?;
+            Ok(Some(Work { files, report }))
+        }
+    }
+}

@@ -1,0 +1,13 @@
+use Rattle.std.proofs.Common.{arith, ap, subst, length}
+use Rattle.stow_data.specs.Ship.{Ship}
+use Rattle.stow_data.specs.Profile.{IsShip}
+use Rattle.stow_data.proofs.CoverLemmas.{under_said, on_in}
+use Rattle.stow_data.proofs.vessel.Ship.cover_under.Goals as goal
+
+pub returns-then-stack-len : goal.returns-then-stack-len
+returns-then-stack-len c = λ k h.
+    let low = on_in c.args.self.now c.args.s k (subst IsShip c.self.view_is c.self.invariant.rules) h in
+    omega (arith, low, c.if-stack-len.true, c.len.ensures, c.self.invariant.under_each, c.s.view_is, ap (λ (z : Ship). length z.stacks) c.self.view_is)
+
+pub returns : goal.returns
+returns c = under_said c.args.self.now c.self.inside.covers c.args.s c.s.inside.0 c.at.result.now (ap (λ (z : Ship). z.covers) c.self.view_is) c.s.view_is (c.self.invariant.under_table.leads c.s.inside.0 c.at.result.now c.at.ensures)

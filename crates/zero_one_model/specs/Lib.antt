@@ -1,0 +1,5 @@
+pub mod Program
+pub mod Variables
+pub mod Rows
+pub mod Ranges
+pub mod Listed
