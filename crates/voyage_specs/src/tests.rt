@@ -1,16 +1,16 @@
 //! A small ship with a hatch cover, both lengths, a plug, a weight limit and a separation.
-ghost use Rattle.std.specs.Prelude.{◌≡◌, IfOk, length, [], ◌∷◌};
+ghost use Rattle.std.specs.Prelude.{◌≡◌, IfOk, All, length, [], ◌∷◌};
 ghost use Rattle.stow_data.specs.Ship.{places};
 ghost use Rattle.voyage_specs.specs.Samples as samples;
 
 use super::*;
-use stow_data::{
-    CallNo, Cargo, Container, ContainerList, ContainerNo, Cover, CoverList, CoverNo, FlagList, Length,
-    Lengths, Name, NameList, NoMemory, Origin, PlaceNo, Plan, Separation, SeparationList, Seq, Ship,
-    Stack, StackNo, Stacks,
-};
 use std::alloc::Global;
 use std::test::Fail;
+use stow_data::{
+    CallNo, Cargo, Container, ContainerList, ContainerNo, Cover, CoverList, CoverNo, FlagList,
+    Length, Lengths, Name, NameList, NoMemory, Origin, PlaceNo, Plan, PlanList, Separation,
+    SeparationList, Seq, Ship, Stack, StackNo, Stacks,
+};
 
 fn hold(alloc: Global) -> Result<Stack, NoMemory>
     ensures { IfOk result (λ s. s ≡ samples.hold) }
@@ -54,35 +54,55 @@ fn stacks(alloc: Global) -> Result<Stacks, NoMemory>
     Ok(stacks)
 }
 
-fn covers(alloc: Global) -> Result<CoverList, NoMemory>
-    ensures { IfOk result (λ s. s ≡ samples.covers) }
+fn cover(alloc: Global) -> Result<Cover, NoMemory>
+    ensures { IfOk result (λ c. c ≡ samples.cover) }
 {
     let mut under = Seq::new(alloc);
     under.push(StackNo(0))?;
     let mut on = Seq::new(alloc);
     on.push(StackNo(1))?;
+    Ok(Cover { under, on })
+}
+
+fn covers(alloc: Global) -> Result<CoverList, NoMemory>
+    ensures { IfOk result (λ list. list ≡ samples.cover ∷ []) }
+{
     let mut covers = Seq::new(alloc);
-    covers.push(Cover { under, on })?;
+    covers.push(cover(alloc)?)?;
     Ok(covers)
 }
 
-fn separations(alloc: Global) -> Result<SeparationList, NoMemory>
-    ensures { IfOk result (λ s. s ≡ samples.separations) }
+fn separation() -> Separation
+    ensures { result ≡ samples.separation }
 {
-    let mut separations = Seq::new(alloc);
-    separations.push(Separation {
+    Separation {
         a: Name::of(b"3"),
         b: Name::of(b"8"),
         level: 2,
-    })?;
+    }
+}
+
+fn separations(alloc: Global) -> Result<SeparationList, NoMemory>
+    ensures { IfOk result (λ list. list ≡ samples.separation ∷ []) }
+{
+    let mut separations = Seq::new(alloc);
+    separations.push(separation())?;
     Ok(separations)
 }
 
-fn small_ship(alloc: Global) -> Result<Ship, NoMemory> {
+fn name() -> Name
+    ensures { result ≡ 65 ∷ [] }
+{
+    Name::of(b"A")
+}
+
+fn small_ship(alloc: Global) -> Result<Ship, NoMemory>
+    ensures { IfOk result (λ s. s ≡ samples.ship) }
+{
     let stacks = stacks(alloc)?;
     let covers = covers(alloc)?;
     let separations = separations(alloc)?;
-    Ship::new(alloc, Name::of(b"A"), 1000, stacks, covers, separations)
+    Ship::new(alloc, name(), 1000, stacks, covers, separations)
 }
 
 fn rotation(alloc: Global) -> Result<NameList, NoMemory>
@@ -95,11 +115,10 @@ fn rotation(alloc: Global) -> Result<NameList, NoMemory>
     Ok(rotation)
 }
 
-fn containers(alloc: Global) -> Result<ContainerList, NoMemory>
-    ensures { IfOk result (λ s. s ≡ samples.containers) }
+fn reefer() -> Container
+    ensures { result ≡ samples.reefer }
 {
-    let mut containers = Seq::new(alloc);
-    containers.push(Container {
+    Container {
         id: Name::of(b"A"),
         load: CallNo(1),
         dest: CallNo(2),
@@ -108,8 +127,13 @@ fn containers(alloc: Global) -> Result<ContainerList, NoMemory>
         reefer: true,
         class: None,
         origin: Origin::Booked(0),
-    })?;
-    containers.push(Container {
+    }
+}
+
+fn plain() -> Container
+    ensures { result ≡ samples.plain }
+{
+    Container {
         id: Name::of(b"B"),
         load: CallNo(1),
         dest: CallNo(3),
@@ -118,8 +142,13 @@ fn containers(alloc: Global) -> Result<ContainerList, NoMemory>
         reefer: false,
         class: None,
         origin: Origin::Booked(1),
-    })?;
-    containers.push(Container {
+    }
+}
+
+fn first_class() -> Container
+    ensures { result ≡ samples.first_class }
+{
+    Container {
         id: Name::of(b"C"),
         load: CallNo(2),
         dest: CallNo(3),
@@ -128,8 +157,13 @@ fn containers(alloc: Global) -> Result<ContainerList, NoMemory>
         reefer: false,
         class: Some(Name::of(b"3")),
         origin: Origin::Booked(2),
-    })?;
-    containers.push(Container {
+    }
+}
+
+fn second_class() -> Container
+    ensures { result ≡ samples.second_class }
+{
+    Container {
         id: Name::of(b"D"),
         load: CallNo(0),
         dest: CallNo(1),
@@ -138,145 +172,230 @@ fn containers(alloc: Global) -> Result<ContainerList, NoMemory>
         reefer: false,
         class: Some(Name::of(b"8")),
         origin: Origin::Booked(3),
-    })?;
+    }
+}
+
+fn containers(alloc: Global) -> Result<ContainerList, NoMemory>
+    ensures { IfOk result (λ list. list ≡ samples.containers) }
+{
+    let mut containers = Seq::new(alloc);
+    containers.push(reefer())?;
+    containers.push(plain())?;
+    containers.push(first_class())?;
+    containers.push(second_class())?;
     Ok(containers)
 }
 
 fn small_cargo(alloc: Global, ship: &Ship) -> Result<Cargo, NoMemory> {
     let rotation = rotation(alloc)?;
     let containers = containers(alloc)?;
-    Ok(Cargo::new(rotation, containers, Plan::empty(alloc, ship)?))
+    let arrival = Plan::empty(alloc, ship)?;
+    Ok(Cargo::new(rotation, containers, arrival))
 }
 
-/// The plan with these containers at the first places.
-fn plan_of(alloc: Global, ship: &Ship, entries: &[Option<u32>]) -> Result<Plan, NoMemory>
+/// Puts a container at a place, or empties it; a place that the ship lacks is passed over.
+fn fill(plan: &mut Plan, ship: &Ship, p: u32, entry: Option<u32>)
+    requires { length plan.old ≡ length (places ship.now) }
+    ensures { length plan.new ≡ length (places ship.now) }
+{
+    if p < ship.places() {
+        plan.set(PlaceNo(p), entry.map(|c| ContainerNo(c)));
+    }
+}
+
+/// What stands at each place of the ship, from the first.
+type Entries = [Option<u32>; 7];
+
+/// The plan with these containers.
+fn plan_of(alloc: Global, ship: &Ship, entries: &Entries) -> Result<Plan, NoMemory>
     ensures { IfOk result (λ plan. length plan ≡ length (places ship.now)) }
 {
     let mut plan = Plan::empty(alloc, ship)?;
-    let mut p: u32 = 0;
-    for entry in entries {
-        if p < ship.places() {
-            plan.set(PlaceNo(p), entry.map(|c| ContainerNo(c)));
-            p += 1;
-        }
+    for p in 0..7 {
+        fill(&mut plan, ship, p, entries[p as usize]);
     }
     Ok(plan)
 }
 
-#[test]
-fn first_broken_rules(rt: HostRuntime) -> Result<(), Fail> {
-    let alloc = rt.alloc();
+/// The first rule that the plan with these containers breaks.
+fn first_broken(alloc: Global, entries: &Entries) -> Result<Option<Rule>, NoMemory> {
     let ship = small_ship(alloc)?;
     let cargo = small_cargo(alloc, &ship)?;
+    let plan = plan_of(alloc, &ship, entries)?;
+    Ok(broken_rule(&ship, &cargo, &plan))
+}
+
+#[test]
+fn first_broken_rules(rt: HostRuntime) -> Result<(), Fail> {
     for (entries, broken) in [
         ([None, None, Some(0), None, None, None, Some(1)], None),
-        ([None, None, None, None, None, Some(1), None], Some(Rule::Support)),
-        ([Some(2), None, None, None, None, Some(1), None], Some(Rule::Support)),
-        ([None, None, Some(1), Some(2), None, None, None], Some(Rule::TwentyOnForty)),
-        ([None, None, Some(1), None, None, Some(0), None], Some(Rule::NoPlug)),
-        ([None, None, Some(0), None, None, Some(1), None], Some(Rule::StackWeight)),
-        ([Some(2), Some(3), None, None, None, None, None], Some(Rule::Separation(0))),
+        (
+            [None, None, None, None, None, Some(1), None],
+            Some(Rule::Support),
+        ),
+        (
+            [Some(2), None, None, None, None, Some(1), None],
+            Some(Rule::Support),
+        ),
+        (
+            [None, None, Some(1), Some(2), None, None, None],
+            Some(Rule::TwentyOnForty),
+        ),
+        (
+            [None, None, Some(1), None, None, Some(0), None],
+            Some(Rule::NoPlug),
+        ),
+        (
+            [None, None, Some(0), None, None, Some(1), None],
+            Some(Rule::StackWeight),
+        ),
+        (
+            [Some(2), Some(3), None, None, None, None, None],
+            Some(Rule::Separation(0)),
+        ),
     ] {
-        let plan = plan_of(alloc, &ship, entries.as_slice())?;
-        assert_eq!(rt; broken_rule(&ship, &cargo, &plan), broken);
+        assert_eq!(rt; first_broken(rt.alloc(), &entries)?, broken);
     }
     Ok(())
 }
 
 const ON_DECK: PlaceNo = PlaceNo(6);
+
 const PLAIN: ContainerNo = ContainerNo(1);
+
 const TWENTY: ContainerNo = ContainerNo(2);
+
 const COVER: CoverNo = CoverNo(0);
+
+/// What the ship has aboard after call 1, and after call 2.
+const FIRST: Entries = [None, None, Some(0), None, None, None, Some(1)];
+
+const SECOND: Entries = [Some(2), None, None, None, None, None, Some(1)];
+
+/// The moves of call 1, and of call 2.
+const LOADING: [Move; 4] = [
+    Move::OffCover(COVER),
+    Move::Put(ContainerNo(0), PlaceNo(2)),
+    Move::OnCover(COVER),
+    Move::Put(PLAIN, ON_DECK),
+];
+
+const TURNING: [Move; 6] = [
+    Move::Lift(ON_DECK),
+    Move::OffCover(COVER),
+    Move::Lift(PlaceNo(2)),
+    Move::Put(TWENTY, PlaceNo(0)),
+    Move::OnCover(COVER),
+    Move::Put(PLAIN, ON_DECK),
+];
+
+/// What a run of the moves answers at call 2.
+fn run_second(alloc: Global, moves: &[Move]) -> Result<Result<u64, usize>, NoMemory> {
+    let ship = small_ship(alloc)?;
+    let cargo = small_cargo(alloc, &ship)?;
+    let before = plan_of(alloc, &ship, &FIRST)?;
+    let mut state = State::arrive(alloc, &ship, &cargo, before, CallNo(2))?;
+    Ok(run(&mut state, &ship, &cargo, CallNo(2), moves))
+}
 
 #[test]
 fn moves_at_the_second_call(rt: HostRuntime) -> Result<(), Fail> {
-    let alloc = rt.alloc();
+    let lift = Move::Lift(ON_DECK);
+    let open = Move::OffCover(COVER);
+    for (third, fourth, want) in [
+        (Move::Lift(PlaceNo(2)), Move::Put(TWENTY, PlaceNo(0)), Ok(1)),
+        (Move::OffCover(COVER), Move::Lift(PlaceNo(2)), Err(2)),
+        (Move::Lift(PlaceNo(0)), Move::OnCover(COVER), Err(2)),
+        (
+            Move::Put(ContainerNo(0), PlaceNo(5)),
+            Move::OnCover(COVER),
+            Err(2),
+        ),
+        (Move::Put(PLAIN, ON_DECK), Move::OnCover(COVER), Err(2)),
+        (Move::Put(TWENTY, PlaceNo(3)), Move::OnCover(COVER), Err(2)),
+        (Move::Put(TWENTY, PlaceNo(5)), Move::OnCover(COVER), Err(2)),
+        (Move::Put(PLAIN, PlaceNo(2)), Move::OnCover(COVER), Err(2)),
+        (Move::Put(PLAIN, PlaceNo(5)), Move::Lift(PlaceNo(2)), Err(3)),
+        (
+            Move::Lift(PlaceNo(2)),
+            Move::Put(TWENTY, PlaceNo(3)),
+            Err(3),
+        ),
+        (Move::OnCover(COVER), Move::OnCover(COVER), Err(3)),
+        (Move::OnCover(COVER), Move::Lift(PlaceNo(2)), Err(3)),
+    ] {
+        assert_eq!(rt; run_second(rt.alloc(), &[lift, open, third, fourth])?, want);
+    }
+    assert_eq!(rt; run_second(rt.alloc(), &[open])?, Err(0));
+    Ok(())
+}
+
+/// Whether the plan with these containers is a departure of the call.
+fn departs(alloc: Global, entries: &Entries, call: CallNo) -> Result<bool, NoMemory> {
     let ship = small_ship(alloc)?;
     let cargo = small_cargo(alloc, &ship)?;
-    let before = plan_of(alloc, &ship, &[None, None, Some(0), None, None, None, Some(1)])?;
-    let lift = [Move::Lift(ON_DECK), Move::OffCover(COVER)];
-    for (rest, want) in [
-        ([Move::Lift(PlaceNo(2)), Move::Put(TWENTY, PlaceNo(0))], Ok(1)),
-        ([Move::OffCover(COVER), Move::Lift(PlaceNo(2))], Err(2)),
-        ([Move::Lift(PlaceNo(0)), Move::OnCover(COVER)], Err(2)),
-        ([Move::Put(ContainerNo(0), PlaceNo(5)), Move::OnCover(COVER)], Err(2)),
-        ([Move::Put(PLAIN, ON_DECK), Move::OnCover(COVER)], Err(2)),
-        ([Move::Put(TWENTY, PlaceNo(3)), Move::OnCover(COVER)], Err(2)),
-        ([Move::Put(TWENTY, PlaceNo(5)), Move::OnCover(COVER)], Err(2)),
-        ([Move::Put(PLAIN, PlaceNo(2)), Move::OnCover(COVER)], Err(2)),
-        ([Move::Put(PLAIN, PlaceNo(5)), Move::Lift(PlaceNo(2))], Err(3)),
-        ([Move::Lift(PlaceNo(2)), Move::Put(TWENTY, PlaceNo(3))], Err(3)),
-        ([Move::OnCover(COVER), Move::OnCover(COVER)], Err(3)),
-        ([Move::OnCover(COVER), Move::Lift(PlaceNo(2))], Err(3)),
-    ] {
-        let mut state = State::arrive(alloc, &ship, &cargo, before.copy(alloc)?, CallNo(2))?;
-        let mut moves = Seq::new(alloc);
-        for m in lift.iter().chain(rest.iter()) {
-            moves.push(*m)?;
-        }
-        assert_eq!(rt; run(&mut state, &ship, &cargo, CallNo(2), moves.as_slice()), want);
+    let plan = plan_of(alloc, &ship, entries)?;
+    Ok(is_departure(&ship, &cargo, &plan, call))
+}
+
+/// The rehandles of call 2 by these moves.
+fn count_second(alloc: Global, moves: &[Move]) -> Result<Option<u64>, NoMemory> {
+    let ship = small_ship(alloc)?;
+    let cargo = small_cargo(alloc, &ship)?;
+    let first = plan_of(alloc, &ship, &FIRST)?;
+    let second = plan_of(alloc, &ship, &SECOND)?;
+    count_call(alloc, &ship, &cargo, CallNo(2), &first, moves, &second)
+}
+
+fn list_of(alloc: Global, moves: &[Move]) -> Result<MoveList, NoMemory> {
+    let mut list = Seq::new(alloc);
+    for m in moves {
+        list.push(*m)?;
     }
-    let mut state = State::arrive(alloc, &ship, &cargo, before, CallNo(2))?;
-    assert_eq!(rt; run(&mut state, &ship, &cargo, CallNo(2), &[Move::OffCover(COVER)]), Err(0));
-    Ok(())
+    Ok(list)
+}
+
+fn lists(alloc: Global) -> Result<Seq<MoveList>, NoMemory> {
+    let mut lists = Seq::new(alloc);
+    lists.push(list_of(alloc, &LOADING)?)?;
+    lists.push(list_of(alloc, &TURNING)?)?;
+    Ok(lists)
+}
+
+fn departures(alloc: Global, ship: &Ship) -> Result<PlanList, NoMemory>
+    ensures { IfOk result (λ list. All (λ p. length p ≡ length (places ship.now)) list) }
+{
+    let mut list = Seq::new(alloc);
+    list.push(plan_of(alloc, ship, &FIRST)?)?;
+    list.push(plan_of(alloc, ship, &SECOND)?)?;
+    Ok(list)
+}
+
+/// The rehandles of the voyage.
+fn count_all(alloc: Global) -> Result<Option<u64>, NoMemory> {
+    let ship = small_ship(alloc)?;
+    let cargo = small_cargo(alloc, &ship)?;
+    let empty = Plan::empty(alloc, &ship)?;
+    let lists = lists(alloc)?;
+    let departures = departures(alloc, &ship)?;
+    count_voyage(
+        alloc,
+        &ship,
+        &cargo,
+        CallNo(1),
+        &empty,
+        lists.as_slice(),
+        departures.as_slice(),
+    )
 }
 
 #[test]
 fn a_cover_costs_a_rehandle(rt: HostRuntime) -> Result<(), Fail> {
     let alloc = rt.alloc();
-    let ship = small_ship(alloc)?;
-    let cargo = small_cargo(alloc, &ship)?;
-    let first = plan_of(alloc, &ship, &[None, None, Some(0), None, None, None, Some(1)])?;
-    let second = plan_of(alloc, &ship, &[Some(2), None, None, None, None, None, Some(1)])?;
-    let moves = [
-        Move::Lift(ON_DECK),
-        Move::OffCover(COVER),
-        Move::Lift(PlaceNo(2)),
-        Move::Put(TWENTY, PlaceNo(0)),
-        Move::OnCover(COVER),
-        Move::Put(PLAIN, ON_DECK),
-    ];
-    assert_eq!(rt; is_departure(&ship, &cargo, &first, CallNo(1)), true);
-    assert_eq!(rt; is_departure(&ship, &cargo, &first, CallNo(2)), false);
-    assert_eq!(rt;
-        count_call(alloc, &ship, &cargo, CallNo(2), &first, moves.as_slice(), &second)?,
-        Some(1)
-    );
-    assert_eq!(rt;
-        count_call(alloc, &ship, &cargo, CallNo(2), &first, &moves[..5], &second)?,
-        None
-    );
-    let mut lists: Seq<MoveList> = Seq::new(alloc);
-    let mut loading = Seq::new(alloc);
-    for m in [
-        Move::OffCover(COVER),
-        Move::Put(ContainerNo(0), PlaceNo(2)),
-        Move::OnCover(COVER),
-        Move::Put(PLAIN, ON_DECK),
-    ] {
-        loading.push(m)?;
-    }
-    lists.push(loading)?;
-    let mut turning = Seq::new(alloc);
-    for m in moves {
-        turning.push(m)?;
-    }
-    lists.push(turning)?;
-    let mut departures = Seq::new(alloc);
-    departures.push(first)?;
-    departures.push(second)?;
-    let empty = Plan::empty(alloc, &ship)?;
-    assert_eq!(rt;
-        count_voyage(
-            alloc,
-            &ship,
-            &cargo,
-            CallNo(1),
-            &empty,
-            lists.as_slice(),
-            departures.as_slice()
-        )?,
-        Some(1)
-    );
+    assert!(rt; departs(alloc, &FIRST, CallNo(1))?);
+    assert!(rt; !departs(alloc, &FIRST, CallNo(2))?);
+    assert_eq!(rt; count_second(alloc, &TURNING)?, Some(1));
+    assert_eq!(rt; count_second(alloc, &TURNING[..5])?, None);
+    assert_eq!(rt; count_all(alloc)?, Some(1));
     Ok(())
 }
