@@ -15,3 +15,4 @@ pub mod PlansHold
 pub mod MovesHold
 pub mod RunsHold
 pub mod Rows
+pub mod SampleRules

@@ -5,3 +5,4 @@ pub mod Voyage
 pub mod Least
 pub mod Shown
 pub mod Places
+pub mod Samples

@@ -8,6 +8,8 @@ mod moves;
 mod rules;
 mod separation;
 mod states;
+#[cfg(test)]
+mod tests;
 
 pub use crane::{MoveList, count_call, count_voyage, run};
 pub use departures::{holds_aboard, is_aboard, is_departure, is_stowed, is_well_formed};

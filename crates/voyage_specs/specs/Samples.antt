@@ -1,0 +1,55 @@
+-- A small ship and its cargo, for the tests.
+use Rattle.std.specs.Prelude.{ℕ, true, false, List, Option, [], ◌∷◌, Some, None}
+use Rattle.stow_data.specs.declared.geometry.Stack.{Stack}
+use Rattle.stow_data.specs.declared.geometry.Cover.{Cover}
+use Rattle.stow_data.specs.declared.geometry.Separation.{Separation}
+use Rattle.stow_data.specs.declared.geometry.Lengths.TheVariants as offers
+use Rattle.stow_data.specs.declared.geometry.Length.TheVariants as long
+use Rattle.stow_data.specs.declared.shipments.Container.{Container}
+use Rattle.stow_data.specs.declared.shipments.Origin.TheVariants as origin
+use Rattle.stow_data.specs.Ship.{Ship}
+use Rattle.stow_data.specs.Shipment.{Cargo}
+
+-- two tiers in the hold for both lengths, with a plug in the lower one, under a cover that carries one tier for 40 foot
+abbrev pub hold : Stack
+hold = record { bay = 2; row = 1; lowest = 2; tiers = 2; lengths = offers.Mixed; limit_kg = 40000; plugs = true ∷ false ∷ [] }
+
+abbrev pub deck : Stack
+deck = record { bay = 2; row = 1; lowest = 82; tiers = 1; lengths = offers.Forty; limit_kg = 50000; plugs = false ∷ [] }
+
+abbrev pub stacks : List Stack
+stacks = hold ∷ deck ∷ []
+
+abbrev pub cover : Cover
+cover = record { under = 0 ∷ []; on = 1 ∷ [] }
+
+-- classes 3 and 8 don't share a stack
+abbrev pub separation : Separation
+separation = record { a = 51 ∷ []; b = 56 ∷ []; level = 2 }
+
+-- its name is A
+abbrev pub ship : Ship
+ship = record { name = 65 ∷ []; weight_step = 1000; stacks = stacks; covers = cover ∷ []; separations = separation ∷ [] }
+
+-- the ports A, B and C
+abbrev pub rotation : List (List ℕ)
+rotation = (65 ∷ []) ∷ (66 ∷ []) ∷ (67 ∷ []) ∷ []
+
+-- a reefer, a plain 40-foot container, and 20-foot ones of the two classes
+abbrev pub reefer : Container
+reefer = record { id = 65 ∷ []; load = 1; dest = 2; long = long.Forty; kg = 20500; reefer = true; class = None; origin = origin.Booked 0 }
+
+abbrev pub plain : Container
+plain = record { id = 66 ∷ []; load = 1; dest = 3; long = long.Forty; kg = 19001; reefer = false; class = None; origin = origin.Booked 1 }
+
+abbrev pub first_class : Container
+first_class = record { id = 67 ∷ []; load = 2; dest = 3; long = long.Twenty; kg = 19001; reefer = false; class = Some (51 ∷ []); origin = origin.Booked 2 }
+
+abbrev pub second_class : Container
+second_class = record { id = 68 ∷ []; load = 0; dest = 1; long = long.Twenty; kg = 1000; reefer = false; class = Some (56 ∷ []); origin = origin.Booked 3 }
+
+abbrev pub containers : List Container
+containers = reefer ∷ plain ∷ first_class ∷ second_class ∷ []
+
+abbrev pub cargo : List (Option ℕ) → Cargo
+cargo arrival = record { rotation = rotation; containers = containers; arrival = arrival }
