@@ -1,1 +1,6 @@
 pub mod Texts
+pub mod Scanned
+pub mod Tokens
+pub mod Digits
+pub mod Keys
+pub mod Lists

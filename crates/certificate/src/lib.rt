@@ -1,10 +1,16 @@
 //! Certificates of a bound: a proof tree with its head, and their text.
 #![tactic(auto)]
 
+mod faults;
 mod lines;
+mod parsing;
+
+mod scanning;
 mod tree;
+mod words;
 mod writing;
 
+pub use faults::CertFault;
 pub use lines::Line;
 pub use tree::{End, Head, Outcome, Record, Tree};
 pub use writing::write_cert;

@@ -1,0 +1,174 @@
+-- What the reader knows a line by: its words. No public clause cites this module.
+use Rattle.std.specs.Prelude.{◌≡◌, ◌≢◌, ◌<◌, ◌≤◌, ◌^◌, ℕ, ◌+◌, ◌%◌, Bool, true, false, ◌||◌, ◌&&◌, ◌==◌, nat_le, nat_lt, List, [], ◌∷◌, ◌++◌, codes, map, All, length, slice_index, ℤ, pos, negsuc, Option, Some, None, if◌then◌else◌}
+use Rattle.std.specs.Fmt.{decimal}
+use Rattle.zero_one_model.specs.declared.program.Row.{Row}
+use Rattle.zero_one_model.specs.declared.program.Row.TheVariants as row
+use Rattle.certificate.specs.declared.tree.End.TheVariants as end
+use Rattle.certificate.specs.declared.tree.Outcome.{Outcome}
+use Rattle.certificate.specs.declared.tree.Outcome.TheVariants as outcome
+use Rattle.certificate.specs.declared.lines.Line.{Line}
+use Rattle.certificate.specs.declared.lines.Line.TheVariants as line
+use Rattle.certificate.specs.declared.words.Key.{Key}
+use Rattle.certificate.specs.declared.words.Key.TheVariants as key
+use Rattle.certificate.specs.declared.words.Token.{Token}
+use Rattle.certificate.specs.declared.words.Token.TheVariants.{Word, Number, Minus}
+use Rattle.certificate.specs.Text.{numbers_of}
+use Rattle.certificate.specs.Grammar.{IsRow, IsRaise, IsEnd, IsOutcome}
+
+-- ## Words
+
+abbrev pub key_text : Key → List ℕ
+key_text key.Step = codes "s"
+key_text key.Raise = codes "r"
+key_text key.Node = codes "n"
+key_text key.Leaf = codes "l"
+key_text key.Branch = codes "b"
+key_text key.Left = codes "o"
+key_text key.Cross = codes "cross"
+key_text key.Block = codes "block"
+key_text key.Support = codes "support"
+key_text key.Cell = codes "cell"
+key_text key.Flow = codes "flow"
+key_text key.Weight = codes "weight"
+key_text key.Hatch = codes "hatch"
+key_text key.Twenty = codes "twenty"
+key_text key.Apart = codes "apart"
+key_text key.Start = codes "start"
+key_text key.Title = codes "stow-cert"
+key_text key.Outcome = codes "outcome"
+key_text key.Rehandles = codes "rehandles"
+key_text key.Bound = codes "bound"
+key_text key.Nodes = codes "nodes"
+key_text key.End = codes "end"
+key_text key.None = codes "none"
+key_text key.Optimal = codes "optimal"
+key_text key.Gap = codes "gap"
+key_text key.NoPlan = codes "no-plan"
+key_text key.Undecided = codes "undecided"
+
+abbrev pub token_text : Token → List ℕ
+token_text (Word k) = key_text k
+token_text (Number n) = decimal n
+token_text (Minus n) = 45 ∷ decimal n
+
+abbrev pub IsToken : Token → Type 0
+IsToken (Word k) = Unit {0}
+IsToken (Number n) = n < 2 ^ 63
+IsToken (Minus n) = (0 < n) × (n < 2 ^ 63)
+
+-- ## Lines of words
+
+-- a space or a line feed
+abbrev pub is_break : ℕ → Bool
+is_break b = b == 32 || b == 10
+
+-- words, each behind a space, and a line feed
+abbrev pub tail_text : List Token → List ℕ
+tail_text [] = 10 ∷ []
+tail_text (t ∷ ts) = 32 ∷ (token_text t ++ tail_text ts)
+
+-- the words of a line, and its line feed
+abbrev pub closed : List Token → List ℕ
+closed [] = []
+closed (t ∷ ts) = token_text t ++ tail_text ts
+
+-- the text begins with no line of at most 18 words
+abbrev pub IsNoLine : List ℕ → Type 0
+IsNoLine text = (t : Token) (ts : List Token) (more : List ℕ) → All IsToken (t ∷ ts) → length (t ∷ ts) ≤ 18 → text ≡ closed (t ∷ ts) ++ more → ⊥
+
+-- ## The words of each line
+
+abbrev pub family_key : Row → Key
+family_key (row.Flow q i g) = key.Flow
+family_key (row.Start q p) = key.Start
+family_key (row.Cell i h) = key.Cell
+family_key (row.Support i h) = key.Support
+family_key (row.Twenty i h) = key.Twenty
+family_key (row.Block j h) = key.Block
+family_key (row.Hatch w j h d) = key.Hatch
+family_key (row.Weight i k) = key.Weight
+family_key (row.Apart i e p q) = key.Apart
+family_key (row.Cross l p chain) = key.Cross
+
+abbrev pub row_words : Row → List Token
+row_words r = Word (family_key r) ∷ map Number (numbers_of r)
+
+abbrev pub amount_word : ℤ → Token
+amount_word (pos n) = Number n
+amount_word (negsuc n) = Minus (n + 1)
+
+abbrev pub outcome_key : Outcome → Key
+outcome_key outcome.Optimal = key.Optimal
+outcome_key outcome.Gap = key.Gap
+outcome_key outcome.NoPlan = key.NoPlan
+outcome_key outcome.Undecided = key.Undecided
+
+-- the first word of a line
+abbrev pub line_key : Line → Key
+line_key line.Title = key.Title
+line_key (line.Outcome o) = key.Outcome
+line_key (line.Rehandles r) = key.Rehandles
+line_key (line.Bound n) = key.Bound
+line_key (line.Nodes n) = key.Nodes
+line_key (line.Node z) = key.Node
+line_key (line.Step r) = key.Step
+line_key (line.Change r) = key.Raise
+line_key (line.Ends end.Leaf) = key.Leaf
+line_key (line.Ends end.Left) = key.Left
+line_key (line.Ends (end.Branch x)) = key.Branch
+line_key line.Close = key.End
+
+-- the other words of a line
+abbrev pub line_rest : Line → List Token
+line_rest line.Title = Number 1 ∷ []
+line_rest (line.Outcome o) = Word (outcome_key o) ∷ []
+line_rest (line.Rehandles None) = Word key.None ∷ []
+line_rest (line.Rehandles (Some n)) = Number n ∷ []
+line_rest (line.Bound n) = Number n ∷ []
+line_rest (line.Nodes n) = Number n ∷ []
+line_rest (line.Node false) = Number 0 ∷ []
+line_rest (line.Node true) = Number 1 ∷ []
+line_rest (line.Step r) = row_words r
+line_rest (line.Change r) = amount_word r.amount ∷ row_words r.row
+line_rest (line.Ends end.Leaf) = []
+line_rest (line.Ends end.Left) = []
+line_rest (line.Ends (end.Branch x)) = map Number (x.put ∷ x.kind ∷ x.lifted ∷ x.place ∷ [])
+line_rest line.Close = []
+
+-- the numbers of a line are in range
+abbrev pub IsLine : Line → Type 0
+IsLine line.Title = Unit {0}
+IsLine (line.Outcome o) = Unit {0}
+IsLine (line.Rehandles None) = Unit {0}
+IsLine (line.Rehandles (Some n)) = n < 2 ^ 63
+IsLine (line.Bound n) = n < 2 ^ 63
+IsLine (line.Nodes n) = n < 2 ^ 63
+IsLine (line.Node z) = Unit {0}
+IsLine (line.Step r) = IsRow r
+IsLine (line.Change r) = IsRaise r
+IsLine (line.Ends e) = IsEnd e
+IsLine line.Close = Unit {0}
+
+-- ## The line of words
+
+abbrev pub row_of_two : Key → ℕ → ℕ → Option Row
+row_of_two key.Start a b = Some (row.Start a b)
+row_of_two key.Cell a b = Some (row.Cell a b)
+row_of_two key.Support a b = Some (row.Support a b)
+row_of_two key.Twenty a b = Some (row.Twenty a b)
+row_of_two key.Block a b = Some (row.Block a b)
+row_of_two key.Weight a b = Some (row.Weight a b)
+row_of_two _ a b = None
+
+abbrev pub row_of_three : Key → ℕ → ℕ → ℕ → Option Row
+row_of_three key.Flow a b c = Some (row.Flow a b c)
+row_of_three _ a b c = None
+
+abbrev pub row_of_four : Key → ℕ → ℕ → ℕ → ℕ → Option Row
+row_of_four key.Hatch a b c d = Some (row.Hatch a b c d)
+row_of_four key.Apart a b c d = Some (row.Apart a b c d)
+row_of_four _ a b c d = None
+
+abbrev pub row_of_chain : Key → ℕ → ℕ → List ℕ → Option Row
+row_of_chain key.Cross l p chain = if nat_le 4 (length chain) && (nat_le (length chain) 12 && (length chain % 2 == 0)) then Some (row.Cross l p chain) else None
+row_of_chain _ l p chain = None
