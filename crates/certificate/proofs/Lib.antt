@@ -4,3 +4,4 @@ pub mod Tokens
 pub mod Digits
 pub mod Keys
 pub mod Lists
+pub mod Parsed

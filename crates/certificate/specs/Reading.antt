@@ -3,6 +3,8 @@ use Rattle.std.specs.Prelude.{◌≡◌, ◌≢◌, ◌<◌, ◌≤◌, ◌^◌,
 use Rattle.std.specs.Fmt.{decimal}
 use Rattle.zero_one_model.specs.declared.program.Row.{Row}
 use Rattle.zero_one_model.specs.declared.program.Row.TheVariants as row
+use Rattle.zero_one_model.specs.declared.program.Raise.{Raise}
+use Rattle.zero_one_model.specs.declared.program.Var.{Var}
 use Rattle.certificate.specs.declared.tree.End.TheVariants as end
 use Rattle.certificate.specs.declared.tree.Outcome.{Outcome}
 use Rattle.certificate.specs.declared.tree.Outcome.TheVariants as outcome
@@ -172,3 +174,53 @@ row_of_four _ a b c d = None
 abbrev pub row_of_chain : Key → ℕ → ℕ → List ℕ → Option Row
 row_of_chain key.Cross l p chain = if nat_le 4 (length chain) && (nat_le (length chain) 12 && (length chain % 2 == 0)) then Some (row.Cross l p chain) else None
 row_of_chain _ l p chain = None
+
+-- a line of a key alone, of a key and a number, and of two keys
+abbrev pub bare_line : Key → Option Line
+bare_line key.Leaf = Some (line.Ends end.Leaf)
+bare_line key.Left = Some (line.Ends end.Left)
+bare_line key.End = Some line.Close
+bare_line _ = None
+
+abbrev pub number_line : Key → ℕ → Option Line
+number_line key.Title n = if n == 1 then Some line.Title else None
+number_line key.Rehandles n = Some (line.Rehandles (Some n))
+number_line key.Bound n = Some (line.Bound n)
+number_line key.Nodes n = Some (line.Nodes n)
+number_line key.Node n = if n == 0 then Some (line.Node false) else (if n == 1 then Some (line.Node true) else None)
+number_line _ n = None
+
+abbrev pub outcome_line : Key → Option Line
+outcome_line key.Optimal = Some (line.Outcome outcome.Optimal)
+outcome_line key.Gap = Some (line.Outcome outcome.Gap)
+outcome_line key.NoPlan = Some (line.Outcome outcome.NoPlan)
+outcome_line key.Undecided = Some (line.Outcome outcome.Undecided)
+outcome_line _ = None
+
+abbrev pub count_line : Key → Option Line
+count_line key.None = Some (line.Rehandles None)
+count_line _ = None
+
+abbrev pub word_line : Key → Key → Option Line
+word_line key.Outcome k = outcome_line k
+word_line key.Rehandles k = count_line k
+word_line _ k = None
+
+abbrev pub branch_words : Var → List Token
+branch_words x = map Number (x.put ∷ x.kind ∷ x.lifted ∷ x.place ∷ [])
+
+abbrev pub change_words : Raise → List Token
+change_words r = amount_word r.amount ∷ row_words r.row
+
+-- the row of a line is in range
+abbrev pub HasRanges : Line → Type 0
+HasRanges line.Title = Unit {0}
+HasRanges (line.Outcome o) = Unit {0}
+HasRanges (line.Rehandles r) = Unit {0}
+HasRanges (line.Bound n) = Unit {0}
+HasRanges (line.Nodes n) = Unit {0}
+HasRanges (line.Node z) = Unit {0}
+HasRanges (line.Step r) = IsRow r
+HasRanges (line.Change r) = IsRaise r
+HasRanges (line.Ends e) = IsEnd e
+HasRanges line.Close = Unit {0}

@@ -2,6 +2,7 @@
 #![tactic(auto)]
 
 mod faults;
+mod joining;
 mod lines;
 mod parsing;
 
