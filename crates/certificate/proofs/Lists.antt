@@ -14,3 +14,6 @@ module _ {X : Type 0} (P : X → Type 0) where
 
   pub one_all : (x : X) → P x → All P (x ∷ [])
   one_all x p = λ k d l. elim k as (λ (n : ℕ). n < 1 → P (get_or (x ∷ []) n d)) [ zero ↦ λ m. p | suc n ↦ λ m. absurd (omega arith) ] l
+
+  pub both_all : (x : X) (xs : List X) → P x → All P xs → All P (x ∷ xs)
+  both_all x xs p h = λ k d l. elim k as (λ (n : ℕ). n < suc (length xs) → P (get_or (x ∷ xs) n d)) [ zero ↦ λ m. p | suc n ↦ λ m. h n d (omega arith) ] l

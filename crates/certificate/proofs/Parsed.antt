@@ -23,7 +23,7 @@ number_at [] i d l = absurd (omega arith)
 number_at (n ∷ ns) zero d l = refl
 number_at (n ∷ ns) (suc i) d l = number_at ns i d (omega arith)
 
-length_numbers : (ns : List ℕ) → length (map Number ns) ≡ length ns
+pub length_numbers : (ns : List ℕ) → length (map Number ns) ≡ length ns
 length_numbers [] = refl
 length_numbers (n ∷ ns) = ap suc (length_numbers ns)
 

@@ -157,3 +157,31 @@ module _ (bytes : List ℕ) (from at : ℕ) (ts : List Token) (text : drop from 
         ∙ ap (λ (x : List ℕ). spelled ts ++ x) (sym (append_assoc (token_text t) (32 ∷ []) (drop (end + 1) bytes)))
         ∙ sym (append_assoc (spelled ts) (token_text t ++ 32 ∷ []) (drop (end + 1) bytes))
         ∙ ap (λ (x : List ℕ). x ++ drop (end + 1) bytes) (flat_map_more_one ts t)
+
+-- ## One line at the front
+
+pub record SameLine (t : Token) (ts : List Token) (u : Token) (us : List Token) (r s : List ℕ) : Type 0 where
+  pub first : t ≡ u
+  pub others : ts ≡ us
+  pub rest : r ≡ s
+
+pub same_closed : (t : Token) (ts : List Token) (u : Token) (us : List Token) (r s : List ℕ) → All IsToken (t ∷ ts) → All IsToken (u ∷ us) → closed (t ∷ ts) ++ r ≡ closed (u ∷ us) ++ s → SameLine t ts u us r s
+same_closed t [] u [] r s p q e =
+    let k = one_front (token_text t) (token_text u) 10 10 r s (token_word t (first_all IsToken t [] p)) (token_word u (first_all IsToken u [] q)) refl refl
+        (sym (append_assoc (token_text t) (10 ∷ []) r) ∙ e ∙ append_assoc (token_text u) (10 ∷ []) s) in
+    record { first = same_token t u (first_all IsToken t [] p) (first_all IsToken u [] q) k.word; others = refl; rest = k.rest }
+same_closed t [] u (y ∷ us) r s p q e =
+    let k = one_front (token_text t) (token_text u) 10 32 r (closed (y ∷ us) ++ s) (token_word t (first_all IsToken t [] p)) (token_word u (first_all IsToken u (y ∷ us) q)) refl refl
+        (sym (append_assoc (token_text t) (10 ∷ []) r) ∙ e ∙ append_assoc (token_text u) (32 ∷ closed (y ∷ us)) s) in
+    absurd (omega (arith, k.separator))
+same_closed t (x ∷ ts) u [] r s p q e =
+    let k = one_front (token_text t) (token_text u) 32 10 (closed (x ∷ ts) ++ r) s (token_word t (first_all IsToken t (x ∷ ts) p)) (token_word u (first_all IsToken u [] q)) refl refl
+        (sym (append_assoc (token_text t) (32 ∷ closed (x ∷ ts)) r) ∙ e ∙ append_assoc (token_text u) (10 ∷ []) s) in
+    absurd (omega (arith, k.separator))
+same_closed t (x ∷ ts) u (y ∷ us) r s p q e =
+    let k = one_front (token_text t) (token_text u) 32 32 (closed (x ∷ ts) ++ r) (closed (y ∷ us) ++ s) (token_word t (first_all IsToken t (x ∷ ts) p)) (token_word u (first_all IsToken u (y ∷ us) q)) refl refl
+        (sym (append_assoc (token_text t) (32 ∷ closed (x ∷ ts)) r) ∙ e ∙ append_assoc (token_text u) (32 ∷ closed (y ∷ us)) s) in
+    let w = same_closed x ts y us r s (rest_all IsToken t (x ∷ ts) p) (rest_all IsToken u (y ∷ us) q) k.rest in
+    let f = w.first in
+    let o = w.others in
+    record { first = same_token t u (first_all IsToken t (x ∷ ts) p) (first_all IsToken u (y ∷ us) q) k.word; others = λ i. f i ∷ o i; rest = w.rest }

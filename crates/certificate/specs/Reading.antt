@@ -14,7 +14,7 @@ use Rattle.certificate.specs.declared.words.Key.{Key}
 use Rattle.certificate.specs.declared.words.Key.TheVariants as key
 use Rattle.certificate.specs.declared.words.Token.{Token}
 use Rattle.certificate.specs.declared.words.Token.TheVariants.{Word, Number, Minus}
-use Rattle.certificate.specs.Text.{numbers_of}
+use Rattle.certificate.specs.Text.{numbers_of, whole}
 use Rattle.certificate.specs.Grammar.{IsRow, IsRaise, IsEnd, IsOutcome}
 
 -- ## Words
@@ -224,3 +224,7 @@ HasRanges (line.Step r) = IsRow r
 HasRanges (line.Change r) = IsRaise r
 HasRanges (line.Ends e) = IsEnd e
 HasRanges line.Close = Unit {0}
+
+-- the text begins with no line
+abbrev pub HasNoLine : List ℕ → Type 0
+HasNoLine text = (l : Line) (more : List ℕ) → IsLine l → text ≡ whole l ++ more → ⊥

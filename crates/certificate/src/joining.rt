@@ -8,10 +8,12 @@ ghost use Rattle.certificate.specs.declared.words.Key.{Key};
 ghost use Rattle.certificate.specs.declared.words.Key.TheVariants as key;
 ghost use Rattle.certificate.specs.declared.words.Token.TheVariants.{Word, Number};
 ghost use Rattle.certificate.specs.Grammar.{IsEnd, IsRaise, IsRow};
-ghost use Rattle.certificate.specs.Reading.{amount_word, bare_line, number_line, word_line, branch_words, change_words, row_words, line_key, line_rest, HasRanges};
+ghost use Rattle.certificate.specs.Reading.{amount_word, bare_line, number_line, word_line, branch_words, change_words, row_words, line_key, line_rest, HasRanges, HasNoLine, IsLine};
+ghost use Rattle.certificate.specs.Text.{whole};
 
 use crate::lines::Line;
 use crate::parsing::{read_numbers, read_row};
+use crate::scanning::read_words;
 use crate::tree::{End, Outcome};
 use crate::words::{Key, Token};
 use stow_data::{CallNo, KindNo, PlaceNo};
@@ -121,4 +123,55 @@ fn read_change(rest: &[Token]) -> Option<Raise>
         return None;
     };
     Some(Raise { row, amount })
+}
+
+/// The line of a key and the words behind it.
+fn line_of(key: Key, rest: &[Token]) -> Option<Line>
+    requires { length rest.now ≤ 18 }
+    ensures { MatchOption result ((l : Line) → HasRanges l → line_key l ≡ key → line_rest l ≢ rest.now) (λ l. (line_key l ≡ key) × (line_rest l ≡ rest.now) × HasRanges l) }
+{
+    match key {
+        Key::Step => {
+            let Some(row) = read_row(rest) else {
+                return None;
+            };
+            Some(Line::Step(row))
+        }
+        Key::Raise => {
+            let Some(raise) = read_change(rest) else {
+                return None;
+            };
+            Some(Line::Change(raise))
+        }
+        Key::Branch => {
+            let Some(x) = read_branch(rest) else {
+                return None;
+            };
+            Some(Line::Ends(End::Branch(x)))
+        }
+        _ => short_line(key, rest),
+    }
+}
+
+/// The line that begins at a place, and the place behind its line feed.
+pub(crate) fn read_line(bytes: &[u8], from: usize) -> Option<(Line, usize)>
+    requires { from ≤ length bytes.now }
+    ensures none { result ≡ None → HasNoLine (drop from bytes.now) }
+    ensures text { MatchOption result ⊤ (λ x. drop from bytes.now ≡ whole x.0 ++ drop x.1 bytes.now) }
+    ensures line { MatchOption result ⊤ (λ x. IsLine x.0) }
+    ensures next { MatchOption result ⊤ (λ x. (from < x.1) × (x.1 ≤ length bytes.now)) }
+{
+    let Some((words, next)) = read_words(bytes, from) else {
+        return None;
+    };
+    let Some((first, rest)) = words.as_slice().split_first() else {
+        return None;
+    };
+    let Token::Word(key) = *first else {
+        return None;
+    };
+    let Some(line) = line_of(key, rest) else {
+        return None;
+    };
+    Some((line, next))
 }
