@@ -1,4 +1,5 @@
 pub mod Texts
+pub mod Records
 pub mod Scanned
 pub mod Tokens
 pub mod Digits

@@ -14,7 +14,10 @@ use Rattle.certificate.specs.declared.words.Key.{Key}
 use Rattle.certificate.specs.declared.words.Key.TheVariants as key
 use Rattle.certificate.specs.declared.words.Token.{Token}
 use Rattle.certificate.specs.declared.words.Token.TheVariants.{Word, Number, Minus}
-use Rattle.certificate.specs.Text.{numbers_of, whole}
+use Rattle.certificate.specs.declared.tree.Record.{Record}
+use Rattle.certificate.specs.declared.faults.CertFault.{CertFault}
+use Rattle.certificate.specs.declared.faults.CertFault.TheVariants.{NotCert, BadHead, BadLine, NoEnd, NoMemory}
+use Rattle.certificate.specs.Text.{numbers_of, whole, text_of, record_lines}
 use Rattle.certificate.specs.Grammar.{IsRow, IsRaise, IsEnd, IsOutcome}
 
 -- ## Words
@@ -228,3 +231,60 @@ HasRanges line.Close = Unit {0}
 -- the text begins with no line
 abbrev pub HasNoLine : List ℕ → Type 0
 HasNoLine text = (l : Line) (more : List ℕ) → IsLine l → text ≡ whole l ++ more → ⊥
+
+-- ## The order of the lines of records
+
+-- where a reader stands: between records, among the steps or the raises of one, or behind the end
+pub data Place : Type 0 where
+  Between : Place
+  InSteps : Place
+  InRaises : Place
+  Done : Place
+
+-- the place behind a line that begins with this key
+abbrev pub after_key : Place → Key → Option Place
+after_key Between key.Node = Some InSteps
+after_key Between key.End = Some Done
+after_key InSteps key.Step = Some InSteps
+after_key InSteps key.Raise = Some InRaises
+after_key InSteps key.Leaf = Some Between
+after_key InSteps key.Left = Some Between
+after_key InSteps key.Branch = Some Between
+after_key InRaises key.Raise = Some InRaises
+after_key InRaises key.Leaf = Some Between
+after_key InRaises key.Left = Some Between
+after_key InRaises key.Branch = Some Between
+after_key _ _ = None
+
+abbrev pub after_some : Option Place → Key → Option Place
+after_some (Some p) k = after_key p k
+after_some None k = None
+
+-- the place behind these lines
+abbrev pub run : Option Place → List Line → Option Place
+run p [] = p
+run p (l ∷ ls) = run (after_some p (line_key l)) ls
+
+-- The text is these lines, in order from a place on, and a rest with no line that goes on.
+pub record Halts (text : List ℕ) (start : Place) (ls : List Line) (rest : List ℕ) : Type 0 where
+  pub text_is : text ≡ text_of ls ++ rest
+  pub are_lines : All IsLine ls
+  pub place : Place
+  pub ran : run (Some start) ls ≡ Some place
+  pub stuck : (l : Line) (more : List ℕ) → IsLine l → rest ≡ whole l ++ more → after_key place (line_key l) ≡ None
+
+-- the fault of a text of records' lines, behind so many lines
+abbrev pub Fails : List ℕ → Place → ℕ → CertFault → Type 0
+Fails text start before (BadLine n) = (ls : List Line) × (rest : List ℕ) × Halts text start ls rest × (rest ≢ []) × (n ≡ before + length ls + 1)
+Fails text start before NoEnd = (ls : List Line) × Halts text start ls []
+Fails text start before NoMemory = Unit {0}
+Fails text start before NotCert = ⊥
+Fails text start before (BadHead n) = ⊥
+
+-- the steps and the raises of a record
+abbrev pub body_so_far : List Row → List Raise → List Line
+body_so_far steps raises = map line.Step steps ++ map line.Change raises
+
+-- the lines of a record behind its first
+abbrev pub body_lines : Record → List Line
+body_lines r = map line.Step r.steps ++ (map line.Change r.raises ++ line.Ends r.end ∷ [])
