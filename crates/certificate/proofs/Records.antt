@@ -54,7 +54,7 @@ run_changes : (rs : List Raise) → run (Some InSteps) (map line.Change rs) ≡ 
 run_changes [] = refl
 run_changes (r ∷ rs) = run_raises rs
 
-run_body : (steps : List Row) (raises : List Raise) → run (Some InSteps) (body_so_far steps raises) ≡ Some (place_for raises)
+pub run_body : (steps : List Row) (raises : List Raise) → run (Some InSteps) (body_so_far steps raises) ≡ Some (place_for raises)
 run_body [] raises = run_changes raises
 run_body (s ∷ ss) raises = run_body ss raises
 
