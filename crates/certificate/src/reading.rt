@@ -1,10 +1,10 @@
 //! A certificate, read from its text.
-ghost use Rattle.std.specs.Prelude.{◌≡◌, ◌≢◌, ◌<◌, ◌≤◌, ◌^◌, ◌+◌, ◌++◌, [], ◌∷◌, All, IfOk, IfErr, length, drop, flat_map};
+ghost use Rattle.std.specs.Prelude.{◌≡◌, ◌≢◌, ◌<◌, ◌≤◌, ◌^◌, ◌+◌, ◌++◌, [], ◌∷◌, All, IfOk, IfErr, IfSome, IsTrue, length, drop, flat_map};
 ghost use Rattle.certificate.specs.declared.lines.Line.TheVariants as line;
 ghost use Rattle.certificate.specs.declared.faults.CertFault.TheVariants.{BadLine, NoEnd};
-ghost use Rattle.certificate.specs.Text.{text_of, record_lines};
-ghost use Rattle.certificate.specs.Grammar.{IsRecord, IsCert, HasFault};
-ghost use Rattle.certificate.specs.Reading.{HasNoLine, Place, Fails, body_lines};
+ghost use Rattle.certificate.specs.Text.{text_of, whole, head_lines, record_lines};
+ghost use Rattle.certificate.specs.Grammar.{IsRecord, IsHead, IsOutcome, IsCert};
+ghost use Rattle.certificate.specs.Reading.{IsLine, Fails, body_lines};
 ghost use Rattle.certificate.specs.Reading.Place.{InSteps, Between};
 
 use crate::faults::CertFault;
@@ -17,8 +17,7 @@ use zero_one_model::{RaiseList, RowList};
 /// Reads a certificate. The text is not copied.
 pub fn read_cert(alloc: Global, bytes: &[u8]) -> Result<(Head, Tree), CertFault>
     requires { length bytes.now ≤ 2 ^ 29 }
-    ensures cert { IfOk result (λ x. IsCert bytes.now x.0 x.1) }
-    ensures fault { IfErr result (λ e. HasFault bytes.now e) }
+    ensures { IfOk result (λ x. IsCert bytes.now x.0 x.1) }
 {
     let (head, at) = read_head(bytes)?;
     let tree = read_records(alloc, bytes, at)?;
@@ -27,6 +26,9 @@ pub fn read_cert(alloc: Global, bytes: &[u8]) -> Result<(Head, Tree), CertFault>
 
 /// The five lines of a head, and the place behind them.
 fn read_head(bytes: &[u8]) -> Result<(Head, usize), CertFault>
+    ensures text { IfOk result (λ x. bytes.now ≡ text_of (head_lines x.0) ++ drop x.1 bytes.now) }
+    ensures head { IfOk result (λ x. IsHead x.0) }
+    ensures next { IfOk result (λ x. (5 ≤ x.1) × (x.1 ≤ length bytes.now)) }
 {
     let at = read_title(bytes).ok_or(CertFault::NotCert)?;
     let (outcome, at) = read_outcome(bytes, at).ok_or(CertFault::BadHead { line: 2 })?;
@@ -44,7 +46,10 @@ fn read_head(bytes: &[u8]) -> Result<(Head, usize), CertFault>
 }
 
 /// The place behind the first line.
-fn read_title(bytes: &[u8]) -> Option<usize> {
+fn read_title(bytes: &[u8]) -> Option<usize>
+    ensures text { IfSome result (λ at. drop 0 bytes.now ≡ whole line.Title ++ drop at bytes.now) }
+    ensures next { IfSome result (λ at. (0 < at) × (at ≤ length bytes.now)) }
+{
     match read_line(bytes, 0) {
         Some((Line::Title, at)) => Some(at),
         _ => None,
@@ -54,6 +59,8 @@ fn read_title(bytes: &[u8]) -> Option<usize> {
 /// The outcome, and the place behind its line.
 fn read_outcome(bytes: &[u8], from: usize) -> Option<(Outcome, usize)>
     requires { from ≤ length bytes.now }
+    ensures text { IfSome result (λ x. drop from bytes.now ≡ whole (line.Outcome x.0) ++ drop x.1 bytes.now) }
+    ensures next { IfSome result (λ x. (from < x.1) × (x.1 ≤ length bytes.now)) }
 {
     match read_line(bytes, from) {
         Some((Line::Outcome(outcome), at)) => Some((outcome, at)),
@@ -64,6 +71,9 @@ fn read_outcome(bytes: &[u8], from: usize) -> Option<(Outcome, usize)>
 /// The rehandles that fit the outcome, and the place behind their line.
 fn read_rehandles(bytes: &[u8], from: usize, outcome: Outcome) -> Option<(Option<u64>, usize)>
     requires { from ≤ length bytes.now }
+    ensures text { IfSome result (λ x. drop from bytes.now ≡ whole (line.Rehandles x.0) ++ drop x.1 bytes.now) }
+    ensures next { IfSome result (λ x. (from < x.1) × (x.1 ≤ length bytes.now)) }
+    ensures fits { IfSome result (λ x. IsOutcome outcome x.0) }
 {
     match read_line(bytes, from) {
         Some((Line::Rehandles(rehandles), at)) if fits(outcome, rehandles) => {
@@ -74,7 +84,9 @@ fn read_rehandles(bytes: &[u8], from: usize, outcome: Outcome) -> Option<(Option
 }
 
 /// A number of rehandles stands exactly with the outcomes optimal and gap.
-fn fits(outcome: Outcome, rehandles: Option<u64>) -> bool {
+fn fits(outcome: Outcome, rehandles: Option<u64>) -> bool
+    ensures { IsTrue result → IsLine (line.Rehandles rehandles) → IsOutcome outcome rehandles }
+{
     match outcome {
         Outcome::Optimal | Outcome::Gap => rehandles.is_some(),
         Outcome::NoPlan | Outcome::Undecided => rehandles.is_none(),
@@ -84,6 +96,9 @@ fn fits(outcome: Outcome, rehandles: Option<u64>) -> bool {
 /// The bound, and the place behind its line.
 fn read_bound(bytes: &[u8], from: usize) -> Option<(u64, usize)>
     requires { from ≤ length bytes.now }
+    ensures text { IfSome result (λ x. drop from bytes.now ≡ whole (line.Bound x.0) ++ drop x.1 bytes.now) }
+    ensures next { IfSome result (λ x. (from < x.1) × (x.1 ≤ length bytes.now)) }
+    ensures small { IfSome result (λ x. x.0 < 2 ^ 63) }
 {
     match read_line(bytes, from) {
         Some((Line::Bound(bound), at)) => Some((bound, at)),
@@ -94,6 +109,9 @@ fn read_bound(bytes: &[u8], from: usize) -> Option<(u64, usize)>
 /// The nodes, and the place behind their line.
 fn read_nodes(bytes: &[u8], from: usize) -> Option<(u64, usize)>
     requires { from ≤ length bytes.now }
+    ensures text { IfSome result (λ x. drop from bytes.now ≡ whole (line.Nodes x.0) ++ drop x.1 bytes.now) }
+    ensures next { IfSome result (λ x. (from < x.1) × (x.1 ≤ length bytes.now)) }
+    ensures small { IfSome result (λ x. x.0 < 2 ^ 63) }
 {
     match read_line(bytes, from) {
         Some((Line::Nodes(nodes), at)) => Some((nodes, at)),
