@@ -1,12 +1,11 @@
 -- Lines of words.
-use Rattle.std.proofs.Common.{◌≡◌, ◌≢◌, ◌<◌, ◌≤◌, ◌^◌, ◌+◌, ℕ, zero, suc, true, false, List, [], ◌∷◌, ◌++◌, length, map, pos, negsuc, Some, None, refl, sym, ◌∙◌, ap, subst, arith, append_assoc}
+use Rattle.std.proofs.Common.{◌≡◌, ◌≢◌, ◌<◌, ◌≤◌, ◌^◌, ◌+◌, ℕ, suc, true, false, List, [], ◌∷◌, ◌++◌, length, map, pos, negsuc, Some, None, refl, sym, ◌∙◌, ap, subst, arith, append_assoc}
 use Rattle.std.specs.Prelude.{Option, All, IfSome, MatchOption, codes, unsigned_abs, ℤ}
 use Rattle.std.specs.Fmt.{decimal, signed_decimal}
 use Rattle.std.proofs.lemmas.Fmt.{decimal_digit}
 use Rattle.zero_one_model.specs.declared.program.Row.{Row}
 use Rattle.zero_one_model.specs.declared.program.Row.TheVariants.{Flow, Start, Cell, Support, Twenty, Block, Hatch, Weight, Apart, Cross}
 use Rattle.zero_one_model.specs.declared.program.Raise.{Raise}
-use Rattle.zero_one_model.specs.declared.program.Var.{Var}
 use Rattle.certificate.specs.declared.tree.End.TheVariants as end
 use Rattle.certificate.specs.declared.tree.Outcome.TheVariants as outcome
 use Rattle.certificate.specs.declared.lines.Line.{Line}
@@ -14,10 +13,10 @@ use Rattle.certificate.specs.declared.lines.Line.TheVariants as line
 use Rattle.certificate.specs.declared.words.Key.{Key}
 use Rattle.certificate.specs.declared.words.Key.TheVariants as key
 use Rattle.certificate.specs.declared.words.Token.{Token}
-use Rattle.certificate.specs.declared.words.Token.TheVariants.{Word, Number, Minus}
+use Rattle.certificate.specs.declared.words.Token.TheVariants.{Word, Number}
 use Rattle.certificate.specs.Text.{whole, numbers, numbers_of, family, line_text}
-use Rattle.certificate.specs.Grammar.{IsRow, IsRaise, IsEnd, IsEven}
-use Rattle.certificate.specs.Reading.{key_text, token_text, tail_text, closed, IsToken, IsNoLine, family_key, row_words, change_words, branch_words, amount_word, outcome_key, bare_line, number_line, word_line, line_key, line_rest, IsLine, HasRanges, HasNoLine}
+use Rattle.certificate.specs.Grammar.{IsRow, IsEven}
+use Rattle.certificate.specs.Reading.{key_text, token_text, tail_text, closed, IsToken, IsNoLine, family_key, row_words, change_words, amount_word, outcome_key, bare_line, number_line, word_line, line_key, line_rest, IsLine, HasRanges, HasNoLine}
 use Rattle.certificate.proofs.Lists.{first_all, rest_all, none_all, one_all, both_all}
 use Rattle.certificate.proofs.Parsed.{length_numbers}
 use Rattle.certificate.proofs.Scanned.{SameLine, same_closed}

@@ -1,13 +1,12 @@
 -- Rows and lines of words.
-use Rattle.std.proofs.Common.{◌≡◌, ◌≢◌, ◌<◌, ◌≤◌, ◌^◌, ◌%◌, ℕ, zero, suc, Bool, true, false, List, [], ◌∷◌, length, get_or, map, Some, None, refl, sym, ◌∙◌, ap, subst, arith}
+use Rattle.std.proofs.Common.{◌≡◌, ◌≢◌, ◌<◌, ◌≤◌, ◌^◌, ◌%◌, ℕ, zero, suc, Bool, true, List, [], ◌∷◌, length, get_or, map, Some, None, refl, sym, ◌∙◌, ap, subst, arith}
 use Rattle.std.specs.Prelude.{Option, All, IfSome, MatchOption, ◌&&◌, ◌==◌, nat_le, if◌then◌else◌}
 use Rattle.zero_one_model.specs.declared.program.Row.{Row}
 use Rattle.zero_one_model.specs.declared.program.Row.TheVariants.{Flow, Start, Cell, Support, Twenty, Block, Hatch, Weight, Apart, Cross}
 use Rattle.std.proofs.lemmas.Bool.{le-leb, eq-eqb}
 use Rattle.certificate.specs.declared.words.Key.{Key}
-use Rattle.certificate.specs.declared.words.Key.TheVariants as key
 use Rattle.certificate.specs.declared.words.Token.{Token}
-use Rattle.certificate.specs.declared.words.Token.TheVariants.{Word, Number, Minus}
+use Rattle.certificate.specs.declared.words.Token.TheVariants.{Word, Number}
 use Rattle.certificate.specs.Text.{numbers_of}
 use Rattle.certificate.specs.Grammar.{IsRow, IsEven}
 use Rattle.certificate.specs.Reading.{row_of_two, row_of_three, row_of_four, row_of_chain, family_key, row_words}
@@ -85,6 +84,7 @@ row_answer k ns rest words None are is small m found = λ r row same.
     let m' : Makes (family_key r) (numbers_of r) None = subst (λ (z : Key). Makes z (numbers_of r) None) fam (subst (λ (z : List ℕ). Makes k z None) num m) in
     let e : None ≡ Some r = made r None row.even m' in
     absurd (subst IsNothing e tt)
-row_answer k ns rest words (Some r) are is small m found =
-    ((let a : Word (family_key r) ≡ Word k = ap Word found.0 in let b : map Number (numbers_of r) ≡ rest = ap (λ (z : List ℕ). map Number z) found.1 ∙ is in (λ i. a i ∷ b i) ∙ sym are),
-     record { small = subst (λ (z : List ℕ). All (λ n. n < 2 ^ 32) z) (sym found.1) small; even = found.2 })
+row_answer k ns rest words (Some r) are is small m found = (
+  (let a : Word (family_key r) ≡ Word k = ap Word found.0 in let b : map Number (numbers_of r) ≡ rest = ap (λ (z : List ℕ). map Number z) found.1 ∙ is in (λ i. a i ∷ b i) ∙ sym are),
+  record { small = subst (λ (z : List ℕ). All (λ n. n < 2 ^ 32) z) (sym found.1) small; even = found.2 },
+)

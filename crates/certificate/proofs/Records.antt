@@ -1,6 +1,6 @@
 -- The lines of a record, one by one.
-use Rattle.std.proofs.Common.{◌≡◌, ◌≢◌, ◌<◌, ◌≤◌, ◌+◌, ℕ, true, false, List, [], ◌∷◌, ◌++◌, length, drop, map, Some, None, refl, sym, ◌∙◌, ap, subst, arith, append_assoc, append-nil, length-append, length-drop, ⊎_elim}
-use Rattle.std.specs.Prelude.{Option, All}
+use Rattle.std.proofs.Common.{◌≡◌, ◌≢◌, ◌<◌, ◌≤◌, ◌+◌, ℕ, List, [], ◌∷◌, ◌++◌, length, drop, map, Some, None, refl, sym, ◌∙◌, ap, subst, arith, append_assoc, append-nil, length-drop, ⊎_elim}
+use Rattle.std.specs.Prelude.{All}
 use Rattle.std.proofs.lemmas.Bool.{cases_lt}
 use Rattle.std.proofs.lemmas.List.{map-append}
 use Rattle.std.proofs.lemmas.List.Elements.{All-append}
@@ -9,15 +9,13 @@ use Rattle.zero_one_model.specs.declared.program.Raise.{Raise}
 use Rattle.certificate.specs.declared.tree.End.{End}
 use Rattle.certificate.specs.declared.lines.Line.{Line}
 use Rattle.certificate.specs.declared.lines.Line.TheVariants as line
-use Rattle.certificate.specs.declared.words.Key.{Key}
-use Rattle.certificate.specs.declared.words.Token.{Token}
 use Rattle.certificate.specs.declared.words.Token.TheVariants.{Word}
 use Rattle.certificate.specs.declared.faults.CertFault.{CertFault}
 use Rattle.certificate.specs.declared.faults.CertFault.TheVariants.{BadLine, NoEnd}
 use Rattle.certificate.specs.Text.{whole, text_of}
 use Rattle.certificate.specs.Grammar.{IsRow, IsRaise}
-use Rattle.certificate.specs.Reading.{line_key, line_rest, closed, IsLine, HasNoLine, Place, after_key, run, Halts, Fails, body_so_far}
-use Rattle.certificate.specs.Reading.Place.{Between, InSteps, InRaises, Done}
+use Rattle.certificate.specs.Reading.{line_key, line_rest, IsLine, HasNoLine, Place, after_key, run, Halts, Fails, body_so_far}
+use Rattle.certificate.specs.Reading.Place.{InSteps, InRaises}
 use Rattle.certificate.proofs.Lists.{first_all, rest_all, none_all, both_all}
 use Rattle.certificate.proofs.Texts.{text-append}
 use Rattle.certificate.proofs.Joined.{line_closed, line_fits, has_words}
@@ -74,7 +72,6 @@ body_are_lines steps raises a b = All-append IsLine (map line.Step steps) (map l
 drop_all : (n : ℕ) (xs : List ℕ) → length xs ≤ n → drop n xs ≡ []
 drop_all n xs h = no_items (drop n xs) (omega (arith, length-drop n xs))
 
-
 -- the line at the front of a text is one, so far as its first word goes
 pub same_first : (text more more' : List ℕ) (l m : Line) → IsLine l → IsLine m → text ≡ whole l ++ more → text ≡ whole m ++ more' → line_key m ≡ line_key l
 same_first text more more' l m p q e f =
@@ -87,8 +84,13 @@ module _ (text : List ℕ) (start : Place) (ls : List Line) (here : Place) (are 
   halts_none rest e none = record { text_is = e; are_lines = are; place = here; ran = ran; stuck = λ l more is f. absurd (none l more is f) }
 
   pub halts_wrong : (rest next : List ℕ) (m : Line) → text ≡ text_of ls ++ rest → IsLine m → rest ≡ whole m ++ next → after_key here (line_key m) ≡ None → Halts text start ls rest
-  halts_wrong rest next m e q g wrong = record { text_is = e; are_lines = are; place = here; ran = ran;
-    stuck = λ l more is f. ap (after_key here) (same_first rest next more m l q is g f) ∙ wrong }
+  halts_wrong rest next m e q g wrong = record {
+    text_is = e;
+    are_lines = are;
+    place = here;
+    ran = ran;
+    stuck = λ l more is f. ap (after_key here) (same_first rest next more m l q is g f) ∙ wrong;
+  }
 
 nothing_left : (bytes : List ℕ) (at : ℕ) → drop at bytes ≡ [] → at < length bytes → ⊥
 nothing_left bytes at e low = omega (arith, ap length e, length-drop at bytes)

@@ -1,5 +1,5 @@
 -- Words that are read one by one.
-use Rattle.std.proofs.Common.{◌≡◌, ◌<◌, ◌≤◌, ◌+◌, ◌-◌, ℕ, suc, true, false, List, [], ◌∷◌, ◌++◌, length, take, drop, get_or, refl, sym, ◌∙◌, ap, subst, arith, append_assoc, length-append, drop-cons, length-take, length-drop, ⊎_elim, get_or-take, get_or-drop, add-one}
+use Rattle.std.proofs.Common.{◌≡◌, ◌<◌, ◌≤◌, ◌+◌, ◌-◌, ℕ, suc, true, false, List, [], ◌∷◌, ◌++◌, length, drop, get_or, refl, sym, ◌∙◌, ap, subst, arith, append_assoc, length-append, drop-cons, length-take, length-drop, ⊎_elim, get_or-take, get_or-drop}
 use Rattle.std.specs.Prelude.{flat_map, All, slice_range, ◌||◌, ◌==◌}
 use Rattle.std.proofs.lemmas.Bool.{false≢true, false_from_ne_true, eqb-true, cases_eq}
 use Rattle.std.proofs.lemmas.List.{flat_map_more}
@@ -63,12 +63,12 @@ pub goes_on : (ts : List Token) (rest : List ℕ) (u : Token) (us : List Token) 
 goes_on [] rest u us more p q e = record { next = u; others = us; words = refl; text = e }
 goes_on (x ∷ ts) rest u [] more p q e =
     let f : token_text x ++ 32 ∷ (spelled ts ++ rest) ≡ token_text u ++ 10 ∷ more =
-      sym (append_assoc (token_text x ++ 32 ∷ []) (spelled ts) rest ∙ append_assoc (token_text x) (32 ∷ []) (spelled ts ++ rest)) ∙ e ∙ append_assoc (token_text u) (10 ∷ []) more in
+    sym (append_assoc (token_text x ++ 32 ∷ []) (spelled ts) rest ∙ append_assoc (token_text x) (32 ∷ []) (spelled ts ++ rest)) ∙ e ∙ append_assoc (token_text u) (10 ∷ []) more in
     let k = one_front (token_text x) (token_text u) 32 10 (spelled ts ++ rest) more (token_word x (first_all IsToken x ts p)) (token_word u (first_all IsToken u [] q)) refl refl f in
     absurd (omega (arith, k.separator))
 goes_on (x ∷ ts) rest u (y ∷ ys) more p q e =
     let f : token_text x ++ 32 ∷ (spelled ts ++ rest) ≡ token_text u ++ 32 ∷ (closed (y ∷ ys) ++ more) =
-      sym (append_assoc (token_text x ++ 32 ∷ []) (spelled ts) rest ∙ append_assoc (token_text x) (32 ∷ []) (spelled ts ++ rest)) ∙ e ∙ append_assoc (token_text u) (32 ∷ closed (y ∷ ys)) more in
+    sym (append_assoc (token_text x ++ 32 ∷ []) (spelled ts) rest ∙ append_assoc (token_text x) (32 ∷ []) (spelled ts ++ rest)) ∙ e ∙ append_assoc (token_text u) (32 ∷ closed (y ∷ ys)) more in
     let k = one_front (token_text x) (token_text u) 32 32 (spelled ts ++ rest) (closed (y ∷ ys) ++ more) (token_word x (first_all IsToken x ts p)) (token_word u (first_all IsToken u (y ∷ ys) q)) refl refl f in
     let r = goes_on ts rest y ys more (rest_all IsToken x ts p) (rest_all IsToken u (y ∷ ys) q) k.rest in
     let same : u ≡ x = sym (same_token x u (first_all IsToken x ts p) (first_all IsToken u (y ∷ ys) q) k.word) in
@@ -132,7 +132,7 @@ module _ (bytes : List ℕ) (from at : ℕ) (ts : List Token) (text : drop from 
       let f = front_of g.next g.others more in
       let is = next_is t us more all e in
       let k = one_front (slice_range bytes at end) (token_text g.next) (get_or bytes end 0) f.separator (drop (end + 1) bytes) f.rest
-          (front_word bytes at end le (omega arith) none) (token_word g.next is) sep f.is (sym (front_split bytes at end le within) ∙ g.text ∙ f.text) in
+      (front_word bytes at end le (omega arith) none) (token_word g.next is) sep f.is (sym (front_split bytes at end le within) ∙ g.text ∙ f.text) in
       bad g.next is (sym k.word)
 
   pub no_line_full : 18 ≤ length ts → IsNoLine (drop from bytes)
@@ -168,19 +168,19 @@ pub record SameLine (t : Token) (ts : List Token) (u : Token) (us : List Token) 
 pub same_closed : (t : Token) (ts : List Token) (u : Token) (us : List Token) (r s : List ℕ) → All IsToken (t ∷ ts) → All IsToken (u ∷ us) → closed (t ∷ ts) ++ r ≡ closed (u ∷ us) ++ s → SameLine t ts u us r s
 same_closed t [] u [] r s p q e =
     let k = one_front (token_text t) (token_text u) 10 10 r s (token_word t (first_all IsToken t [] p)) (token_word u (first_all IsToken u [] q)) refl refl
-        (sym (append_assoc (token_text t) (10 ∷ []) r) ∙ e ∙ append_assoc (token_text u) (10 ∷ []) s) in
+    (sym (append_assoc (token_text t) (10 ∷ []) r) ∙ e ∙ append_assoc (token_text u) (10 ∷ []) s) in
     record { first = same_token t u (first_all IsToken t [] p) (first_all IsToken u [] q) k.word; others = refl; rest = k.rest }
 same_closed t [] u (y ∷ us) r s p q e =
     let k = one_front (token_text t) (token_text u) 10 32 r (closed (y ∷ us) ++ s) (token_word t (first_all IsToken t [] p)) (token_word u (first_all IsToken u (y ∷ us) q)) refl refl
-        (sym (append_assoc (token_text t) (10 ∷ []) r) ∙ e ∙ append_assoc (token_text u) (32 ∷ closed (y ∷ us)) s) in
+    (sym (append_assoc (token_text t) (10 ∷ []) r) ∙ e ∙ append_assoc (token_text u) (32 ∷ closed (y ∷ us)) s) in
     absurd (omega (arith, k.separator))
 same_closed t (x ∷ ts) u [] r s p q e =
     let k = one_front (token_text t) (token_text u) 32 10 (closed (x ∷ ts) ++ r) s (token_word t (first_all IsToken t (x ∷ ts) p)) (token_word u (first_all IsToken u [] q)) refl refl
-        (sym (append_assoc (token_text t) (32 ∷ closed (x ∷ ts)) r) ∙ e ∙ append_assoc (token_text u) (10 ∷ []) s) in
+    (sym (append_assoc (token_text t) (32 ∷ closed (x ∷ ts)) r) ∙ e ∙ append_assoc (token_text u) (10 ∷ []) s) in
     absurd (omega (arith, k.separator))
 same_closed t (x ∷ ts) u (y ∷ us) r s p q e =
     let k = one_front (token_text t) (token_text u) 32 32 (closed (x ∷ ts) ++ r) (closed (y ∷ us) ++ s) (token_word t (first_all IsToken t (x ∷ ts) p)) (token_word u (first_all IsToken u (y ∷ us) q)) refl refl
-        (sym (append_assoc (token_text t) (32 ∷ closed (x ∷ ts)) r) ∙ e ∙ append_assoc (token_text u) (32 ∷ closed (y ∷ us)) s) in
+    (sym (append_assoc (token_text t) (32 ∷ closed (x ∷ ts)) r) ∙ e ∙ append_assoc (token_text u) (32 ∷ closed (y ∷ us)) s) in
     let w = same_closed x ts y us r s (rest_all IsToken t (x ∷ ts) p) (rest_all IsToken u (y ∷ us) q) k.rest in
     let f = w.first in
     let o = w.others in

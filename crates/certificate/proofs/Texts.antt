@@ -9,7 +9,7 @@ use Rattle.certificate.specs.declared.tree.Record.{Record}
 use Rattle.certificate.specs.declared.tree.Head.{Head}
 use Rattle.certificate.specs.declared.lines.Line.{Line}
 use Rattle.certificate.specs.declared.lines.Line.TheVariants as line
-use Rattle.certificate.specs.Text.{whole, text_of, head_lines, record_lines, cert_lines, cert_text}
+use Rattle.certificate.specs.Text.{whole, text_of, head_lines, record_lines, cert_text}
 
 pub text-append : (xs ys : List Line) → text_of (xs ++ ys) ≡ text_of xs ++ text_of ys
 text-append xs ys = flat_map-append whole xs ys
@@ -25,9 +25,9 @@ pub record_written : (r : Record) → text_of (record_lines r) ≡ whole (line.N
 record_written r =
     ap (λ (x : List ℕ). whole (line.Node r.from_zero) ++ x)
     (text-append (map line.Step r.steps) (map line.Change r.raises ++ line.Ends r.end ∷ [])
-     ∙ ap (λ (x : List ℕ). x ++ text_of (map line.Change r.raises ++ line.Ends r.end ∷ [])) (steps_text r.steps)
-     ∙ ap (λ (x : List ℕ). flat_map (λ row. whole (line.Step row)) r.steps ++ x)
-     (text-append (map line.Change r.raises) (line.Ends r.end ∷ []) ∙ ap (λ (x : List ℕ). x ++ (whole (line.Ends r.end) ++ [])) (raises_text r.raises)))
+    ∙ ap (λ (x : List ℕ). x ++ text_of (map line.Change r.raises ++ line.Ends r.end ∷ [])) (steps_text r.steps)
+    ∙ ap (λ (x : List ℕ). flat_map (λ row. whole (line.Step row)) r.steps ++ x)
+    (text-append (map line.Change r.raises) (line.Ends r.end ∷ []) ∙ ap (λ (x : List ℕ). x ++ (whole (line.Ends r.end) ++ [])) (raises_text r.raises)))
 
 -- the lines of records
 pub records_text : (tree : List Record) → text_of (flat_map record_lines tree) ≡ flat_map (λ r. text_of (record_lines r)) tree

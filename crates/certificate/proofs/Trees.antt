@@ -1,5 +1,5 @@
 -- The lines of a tree, record by record.
-use Rattle.std.proofs.Common.{◌≡◌, ◌≢◌, ◌<◌, ◌≤◌, ◌+◌, ℕ, Bool, List, [], ◌∷◌, ◌++◌, length, drop, map, Some, None, refl, sym, ◌∙◌, ap, subst, arith, append_assoc, append-nil, length-append}
+use Rattle.std.proofs.Common.{◌≡◌, ◌+◌, ℕ, Bool, List, [], ◌∷◌, ◌++◌, length, map, Some, None, refl, sym, ◌∙◌, ap, subst, arith, append_assoc, length-append}
 use Rattle.std.specs.Prelude.{Option, All, IfErr, Result, Err, flat_map}
 use Rattle.std.proofs.lemmas.List.{flat_map_more}
 use Rattle.std.proofs.lemmas.List.Elements.{All-append}
@@ -13,9 +13,9 @@ use Rattle.certificate.specs.declared.words.Key.{Key}
 use Rattle.certificate.specs.declared.faults.CertFault.{CertFault}
 use Rattle.certificate.specs.declared.faults.CertFault.TheVariants.{NotCert, BadHead, BadLine, NoEnd, NoMemory}
 use Rattle.certificate.specs.Text.{whole, text_of, record_lines}
-use Rattle.certificate.specs.Grammar.{IsRecord, IsEnd}
+use Rattle.certificate.specs.Grammar.{IsRecord}
 use Rattle.certificate.specs.Reading.{line_key, IsLine, Place, after_key, run, Halts, Fails, body_so_far, body_lines}
-use Rattle.certificate.specs.Reading.Place.{Between, InSteps, InRaises, Done}
+use Rattle.certificate.specs.Reading.Place.{Between, InSteps, Done}
 use Rattle.certificate.proofs.Lists.{first_all, rest_all, none_all, one_all, both_all}
 use Rattle.certificate.proofs.Texts.{text-append}
 use Rattle.certificate.proofs.Records.{text_more, place_for, run_body, body_are_lines}
@@ -59,7 +59,7 @@ pub record_read : (text rest next behind : List ℕ) (tree : List Record) (r : R
     → text ≡ text_of (flat_map record_lines (tree ++ r ∷ [])) ++ behind
 record_read text rest next behind tree r z e f g h =
     e ∙ ap (λ (x : List ℕ). text_of (flat_map record_lines tree) ++ x)
-      (f ∙ ap (λ (b : Bool). whole (line.Node b) ++ next) (sym g) ∙ ap (λ (x : List ℕ). whole (line.Node r.from_zero) ++ x) h ∙ sym (append_assoc (whole (line.Node r.from_zero)) (text_of (body_lines r)) behind))
+    (f ∙ ap (λ (b : Bool). whole (line.Node b) ++ next) (sym g) ∙ ap (λ (x : List ℕ). whole (line.Node r.from_zero) ++ x) h ∙ sym (append_assoc (whole (line.Node r.from_zero)) (text_of (body_lines r)) behind))
     ∙ sym (append_assoc (text_of (flat_map record_lines tree)) (text_of (record_lines r)) behind)
     ∙ ap (λ (x : List ℕ). x ++ behind) (sym (text-append (flat_map record_lines tree) (record_lines r)) ∙ ap text_of (sym (more_records tree r)))
 

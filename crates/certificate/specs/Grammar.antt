@@ -1,5 +1,5 @@
--- Which texts are certificates, and the first fault of a text that is none.
-use Rattle.std.specs.Prelude.{◌≡◌, ◌≢◌, ◌<◌, ◌≤◌, ◌^◌, ◌%◌, ◌+◌, ℕ, List, [], ◌∷◌, ◌++◌, All, length, unsigned_abs, Option, Some, None}
+-- Which texts are certificates.
+use Rattle.std.specs.Prelude.{◌≡◌, ◌<◌, ◌≤◌, ◌^◌, ◌%◌, ℕ, List, All, length, unsigned_abs, Option, Some, None}
 use Rattle.zero_one_model.specs.declared.program.Row.{Row}
 use Rattle.zero_one_model.specs.declared.program.Row.TheVariants.{Flow, Start, Cell, Support, Twenty, Block, Hatch, Weight, Apart, Cross}
 use Rattle.zero_one_model.specs.declared.program.Raise.{Raise}
@@ -9,10 +9,7 @@ use Rattle.certificate.specs.declared.tree.Record.{Record}
 use Rattle.certificate.specs.declared.tree.Outcome.{Outcome}
 use Rattle.certificate.specs.declared.tree.Outcome.TheVariants.{Optimal, Gap, NoPlan, Undecided}
 use Rattle.certificate.specs.declared.tree.Head.{Head}
-use Rattle.certificate.specs.declared.lines.Line.{Line}
-use Rattle.certificate.specs.declared.faults.CertFault.{CertFault}
-use Rattle.certificate.specs.declared.faults.CertFault.TheVariants.{NotCert, BadHead, BadLine, NoEnd, NoMemory}
-use Rattle.certificate.specs.Text.{numbers_of, whole, text_of, cert_lines, cert_text}
+use Rattle.certificate.specs.Text.{numbers_of, cert_text}
 
 -- ## Numbers in range
 
@@ -70,40 +67,3 @@ pub record IsCert (bytes : List ℕ) (head : Head) (tree : List Record) : Type 0
   pub head_is : IsHead head
   pub tree_is : All IsRecord tree
   pub text : bytes ≡ cert_text head tree
-
--- some certificate begins with these lines
-pub record Begins (lines : List Line) : Type 0 where
-  pub head : Head
-  pub tree : List Record
-  pub more : List Line
-  pub head_is : IsHead head
-  pub tree_is : All IsRecord tree
-  pub lines_are : cert_lines head tree ≡ lines ++ more
-
--- ## Faults
-
--- The text is these lines, which begin a certificate, and a rest; no certificate goes on with a line of the rest.
-pub record Stops (bytes : List ℕ) (good : List Line) (rest : List ℕ) : Type 0 where
-  pub text : bytes ≡ text_of good ++ rest
-  pub begins : Begins good
-  pub bad : (line : Line) (more : List ℕ) → rest ≡ whole line ++ more → Begins (good ++ line ∷ []) → ⊥
-
--- the first line that is missing or at fault has this number, from 1
-abbrev pub FirstBad : List ℕ → ℕ → Type 0
-FirstBad bytes line = (good : List Line) × (rest : List ℕ) × Stops bytes good rest × (line ≡ length good + 1)
-
--- the first line at fault has this number
-abbrev pub FirstWrong : List ℕ → ℕ → Type 0
-FirstWrong bytes line = (good : List Line) × (rest : List ℕ) × Stops bytes good rest × (rest ≢ []) × (line ≡ length good + 1)
-
--- the text is lines that begin a certificate, the head among them, and is none itself
-abbrev pub LacksEnd : List ℕ → Type 0
-LacksEnd bytes = (good : List Line) × (bytes ≡ text_of good) × Begins good × (5 ≤ length good) × ((head : Head) (tree : List Record) → IsCert bytes head tree → ⊥)
-
--- which fault a text has
-abbrev pub HasFault : List ℕ → CertFault → Type 0
-HasFault bytes NotCert = FirstBad bytes 1
-HasFault bytes (BadHead line) = FirstBad bytes line × (2 ≤ line) × (line ≤ 5)
-HasFault bytes (BadLine line) = FirstWrong bytes line × (6 ≤ line)
-HasFault bytes NoEnd = LacksEnd bytes
-HasFault bytes NoMemory = Unit {0}

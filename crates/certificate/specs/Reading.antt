@@ -1,5 +1,5 @@
 -- What the reader knows a line by: its words. No public clause cites this module.
-use Rattle.std.specs.Prelude.{◌≡◌, ◌≢◌, ◌<◌, ◌≤◌, ◌^◌, ℕ, ◌+◌, ◌%◌, Bool, true, false, ◌||◌, ◌&&◌, ◌==◌, nat_le, nat_lt, List, [], ◌∷◌, ◌++◌, codes, map, All, length, slice_index, ℤ, pos, negsuc, Option, Some, None, if◌then◌else◌}
+use Rattle.std.specs.Prelude.{◌≡◌, ◌≢◌, ◌<◌, ◌≤◌, ◌^◌, ℕ, ◌+◌, ◌%◌, Bool, true, false, ◌||◌, ◌&&◌, ◌==◌, nat_le, List, [], ◌∷◌, ◌++◌, codes, map, All, length, ℤ, pos, negsuc, Option, Some, None, if◌then◌else◌}
 use Rattle.std.specs.Fmt.{decimal}
 use Rattle.zero_one_model.specs.declared.program.Row.{Row}
 use Rattle.zero_one_model.specs.declared.program.Row.TheVariants as row
@@ -17,8 +17,8 @@ use Rattle.certificate.specs.declared.words.Token.TheVariants.{Word, Number, Min
 use Rattle.certificate.specs.declared.tree.Record.{Record}
 use Rattle.certificate.specs.declared.faults.CertFault.{CertFault}
 use Rattle.certificate.specs.declared.faults.CertFault.TheVariants.{NotCert, BadHead, BadLine, NoEnd, NoMemory}
-use Rattle.certificate.specs.Text.{numbers_of, whole, text_of, record_lines}
-use Rattle.certificate.specs.Grammar.{IsRow, IsRaise, IsEnd, IsOutcome}
+use Rattle.certificate.specs.Text.{numbers_of, whole, text_of}
+use Rattle.certificate.specs.Grammar.{IsRow, IsRaise, IsEnd}
 
 -- ## Words
 

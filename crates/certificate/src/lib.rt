@@ -5,7 +5,6 @@ mod faults;
 mod joining;
 mod lines;
 mod parsing;
-
 mod reading;
 mod scanning;
 #[cfg(test)]

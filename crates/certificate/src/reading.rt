@@ -32,8 +32,7 @@ fn read_head(bytes: &[u8]) -> Result<(Head, usize), CertFault>
 {
     let at = read_title(bytes).ok_or(CertFault::NotCert)?;
     let (outcome, at) = read_outcome(bytes, at).ok_or(CertFault::BadHead { line: 2 })?;
-    let (rehandles, at) =
-        read_rehandles(bytes, at, outcome).ok_or(CertFault::BadHead { line: 3 })?;
+    let (rehandles, at) = read_rehandles(bytes, at, outcome).ok_or(CertFault::BadHead { line: 3 })?;
     let (bound, at) = read_bound(bytes, at).ok_or(CertFault::BadHead { line: 4 })?;
     let (nodes, at) = read_nodes(bytes, at).ok_or(CertFault::BadHead { line: 5 })?;
     let head = Head {

@@ -44,42 +44,150 @@ fn answers_the_first_line_at_fault(rt: HostRuntime) -> Result<(), Fail> {
         (b"\xef\xbb\xbfstow-cert 1\n", CertFault::NotCert),
         (b"stow-cert 1\n", CertFault::BadHead { line: 2 }),
         (b"stow-cert 1\noutcome gap", CertFault::BadHead { line: 2 }),
-        (b"stow-cert 1\noutcome Gap\n", CertFault::BadHead { line: 2 }),
-        (b"stow-cert 1\nrehandles 1\n", CertFault::BadHead { line: 2 }),
-        (b"stow-cert 1\noutcome gap\n", CertFault::BadHead { line: 3 }),
-        (b"stow-cert 1\noutcome gap\nrehandles none\n", CertFault::BadHead { line: 3 }),
-        (b"stow-cert 1\noutcome optimal\nrehandles none\n", CertFault::BadHead { line: 3 }),
-        (b"stow-cert 1\noutcome no-plan\nrehandles 1\n", CertFault::BadHead { line: 3 }),
-        (b"stow-cert 1\noutcome undecided\nrehandles 0\n", CertFault::BadHead { line: 3 }),
-        (b"stow-cert 1\noutcome gap\nrehandles 01\n", CertFault::BadHead { line: 3 }),
-        (b"stow-cert 1\noutcome gap\nrehandles +1\n", CertFault::BadHead { line: 3 }),
-        (b"stow-cert 1\noutcome gap\nrehandles -1\n", CertFault::BadHead { line: 3 }),
-        (b"stow-cert 1\noutcome gap\nrehandles 9223372036854775808\n", CertFault::BadHead { line: 3 }),
-        (b"stow-cert 1\noutcome gap\nrehandles 1\nbound 18446744073709551616\n", CertFault::BadHead { line: 4 }),
-        (b"stow-cert 1\noutcome gap\nrehandles 1\ncost 1\n", CertFault::BadHead { line: 4 }),
-        (b"stow-cert 1\noutcome gap\nrehandles 1\nbound 1\nnodes 1 \n", CertFault::BadHead { line: 5 }),
-        (b"stow-cert 1\noutcome gap\nrehandles 1\nbound 1\n", CertFault::BadHead { line: 5 }),
-        (b"stow-cert 1\noutcome gap\nrehandles 1\nbound 1\nnodes 1\n", CertFault::NoEnd),
-        (b"stow-cert 1\noutcome gap\nrehandles 1\nbound 1\nnodes 1\nn 0\n", CertFault::NoEnd),
-        (b"stow-cert 1\noutcome gap\nrehandles 1\nbound 1\nnodes 1\nn 0\nl\n", CertFault::NoEnd),
-        (b"stow-cert 1\noutcome gap\nrehandles 1\nbound 1\nnodes 1\nend", CertFault::BadLine { line: 6 }),
-        (b"stow-cert 1\noutcome gap\nrehandles 1\nbound 1\nnodes 1\nend\n\n", CertFault::BadLine { line: 7 }),
-        (b"stow-cert 1\noutcome gap\nrehandles 1\nbound 1\nnodes 1\nend\nend\n", CertFault::BadLine { line: 7 }),
-        (b"stow-cert 1\noutcome gap\nrehandles 1\nbound 1\nnodes 1\nl\n", CertFault::BadLine { line: 6 }),
-        (b"stow-cert 1\noutcome gap\nrehandles 1\nbound 1\nnodes 1\nn 2\n", CertFault::BadLine { line: 6 }),
-        (b"stow-cert 1\noutcome gap\nrehandles 1\nbound 1\nnodes 1\nn 0\nend\n", CertFault::BadLine { line: 7 }),
-        (b"stow-cert 1\noutcome gap\nrehandles 1\nbound 1\nnodes 1\nn 0\nn 0\n", CertFault::BadLine { line: 7 }),
-        (b"stow-cert 1\noutcome gap\nrehandles 1\nbound 1\nnodes 1\nn 0\nr 1 cell 1 1\ns cell 1 1\n", CertFault::BadLine { line: 8 }),
-        (b"stow-cert 1\noutcome gap\nrehandles 1\nbound 1\nnodes 1\nn 0\nr -0 cell 1 1\n", CertFault::BadLine { line: 7 }),
-        (b"stow-cert 1\noutcome gap\nrehandles 1\nbound 1\nnodes 1\nn 0\nr 1099511627777 cell 1 1\n", CertFault::BadLine { line: 7 }),
-        (b"stow-cert 1\noutcome gap\nrehandles 1\nbound 1\nnodes 1\nn 0\nr -1099511627777 cell 1 1\n", CertFault::BadLine { line: 7 }),
-        (b"stow-cert 1\noutcome gap\nrehandles 1\nbound 1\nnodes 1\nn 0\ns cell 4294967296 1\n", CertFault::BadLine { line: 7 }),
-        (b"stow-cert 1\noutcome gap\nrehandles 1\nbound 1\nnodes 1\nn 0\ns stack 1 1\n", CertFault::BadLine { line: 7 }),
-        (b"stow-cert 1\noutcome gap\nrehandles 1\nbound 1\nnodes 1\nn 0\ns cross 40 1 1 2\n", CertFault::BadLine { line: 7 }),
-        (b"stow-cert 1\noutcome gap\nrehandles 1\nbound 1\nnodes 1\nn 0\ns cross 40 1 1 2 3 4 5\n", CertFault::BadLine { line: 7 }),
-        (b"stow-cert 1\noutcome gap\nrehandles 1\nbound 1\nnodes 1\nn 0\ns cross 40 1 1 2 3 4 5 6 7 8 9 10 11 12 13 14\n", CertFault::BadLine { line: 7 }),
-        (b"stow-cert 1\noutcome gap\nrehandles 1\nbound 1\nnodes 1\nn 0\nb 1 2 3\n", CertFault::BadLine { line: 7 }),
-        (b"stow-cert 1\noutcome gap\nrehandles 1\nbound 1\nnodes 1\nn 0\nv 1 0 2 0 0\n", CertFault::BadLine { line: 7 }),
+        (
+            b"stow-cert 1\noutcome Gap\n",
+            CertFault::BadHead { line: 2 },
+        ),
+        (
+            b"stow-cert 1\nrehandles 1\n",
+            CertFault::BadHead { line: 2 },
+        ),
+        (
+            b"stow-cert 1\noutcome gap\n",
+            CertFault::BadHead { line: 3 },
+        ),
+        (
+            b"stow-cert 1\noutcome gap\nrehandles none\n",
+            CertFault::BadHead { line: 3 },
+        ),
+        (
+            b"stow-cert 1\noutcome optimal\nrehandles none\n",
+            CertFault::BadHead { line: 3 },
+        ),
+        (
+            b"stow-cert 1\noutcome no-plan\nrehandles 1\n",
+            CertFault::BadHead { line: 3 },
+        ),
+        (
+            b"stow-cert 1\noutcome undecided\nrehandles 0\n",
+            CertFault::BadHead { line: 3 },
+        ),
+        (
+            b"stow-cert 1\noutcome gap\nrehandles 01\n",
+            CertFault::BadHead { line: 3 },
+        ),
+        (
+            b"stow-cert 1\noutcome gap\nrehandles +1\n",
+            CertFault::BadHead { line: 3 },
+        ),
+        (
+            b"stow-cert 1\noutcome gap\nrehandles -1\n",
+            CertFault::BadHead { line: 3 },
+        ),
+        (
+            b"stow-cert 1\noutcome gap\nrehandles 9223372036854775808\n",
+            CertFault::BadHead { line: 3 },
+        ),
+        (
+            b"stow-cert 1\noutcome gap\nrehandles 1\nbound 18446744073709551616\n",
+            CertFault::BadHead { line: 4 },
+        ),
+        (
+            b"stow-cert 1\noutcome gap\nrehandles 1\ncost 1\n",
+            CertFault::BadHead { line: 4 },
+        ),
+        (
+            b"stow-cert 1\noutcome gap\nrehandles 1\nbound 1\nnodes 1 \n",
+            CertFault::BadHead { line: 5 },
+        ),
+        (
+            b"stow-cert 1\noutcome gap\nrehandles 1\nbound 1\n",
+            CertFault::BadHead { line: 5 },
+        ),
+        (
+            b"stow-cert 1\noutcome gap\nrehandles 1\nbound 1\nnodes 1\n",
+            CertFault::NoEnd,
+        ),
+        (
+            b"stow-cert 1\noutcome gap\nrehandles 1\nbound 1\nnodes 1\nn 0\n",
+            CertFault::NoEnd,
+        ),
+        (
+            b"stow-cert 1\noutcome gap\nrehandles 1\nbound 1\nnodes 1\nn 0\nl\n",
+            CertFault::NoEnd,
+        ),
+        (
+            b"stow-cert 1\noutcome gap\nrehandles 1\nbound 1\nnodes 1\nend",
+            CertFault::BadLine { line: 6 },
+        ),
+        (
+            b"stow-cert 1\noutcome gap\nrehandles 1\nbound 1\nnodes 1\nend\n\n",
+            CertFault::BadLine { line: 7 },
+        ),
+        (
+            b"stow-cert 1\noutcome gap\nrehandles 1\nbound 1\nnodes 1\nend\nend\n",
+            CertFault::BadLine { line: 7 },
+        ),
+        (
+            b"stow-cert 1\noutcome gap\nrehandles 1\nbound 1\nnodes 1\nl\n",
+            CertFault::BadLine { line: 6 },
+        ),
+        (
+            b"stow-cert 1\noutcome gap\nrehandles 1\nbound 1\nnodes 1\nn 2\n",
+            CertFault::BadLine { line: 6 },
+        ),
+        (
+            b"stow-cert 1\noutcome gap\nrehandles 1\nbound 1\nnodes 1\nn 0\nend\n",
+            CertFault::BadLine { line: 7 },
+        ),
+        (
+            b"stow-cert 1\noutcome gap\nrehandles 1\nbound 1\nnodes 1\nn 0\nn 0\n",
+            CertFault::BadLine { line: 7 },
+        ),
+        (
+            b"stow-cert 1\noutcome gap\nrehandles 1\nbound 1\nnodes 1\nn 0\nr 1 cell 1 1\ns cell 1 1\n",
+            CertFault::BadLine { line: 8 },
+        ),
+        (
+            b"stow-cert 1\noutcome gap\nrehandles 1\nbound 1\nnodes 1\nn 0\nr -0 cell 1 1\n",
+            CertFault::BadLine { line: 7 },
+        ),
+        (
+            b"stow-cert 1\noutcome gap\nrehandles 1\nbound 1\nnodes 1\nn 0\nr 1099511627777 cell 1 1\n",
+            CertFault::BadLine { line: 7 },
+        ),
+        (
+            b"stow-cert 1\noutcome gap\nrehandles 1\nbound 1\nnodes 1\nn 0\nr -1099511627777 cell 1 1\n",
+            CertFault::BadLine { line: 7 },
+        ),
+        (
+            b"stow-cert 1\noutcome gap\nrehandles 1\nbound 1\nnodes 1\nn 0\ns cell 4294967296 1\n",
+            CertFault::BadLine { line: 7 },
+        ),
+        (
+            b"stow-cert 1\noutcome gap\nrehandles 1\nbound 1\nnodes 1\nn 0\ns stack 1 1\n",
+            CertFault::BadLine { line: 7 },
+        ),
+        (
+            b"stow-cert 1\noutcome gap\nrehandles 1\nbound 1\nnodes 1\nn 0\ns cross 40 1 1 2\n",
+            CertFault::BadLine { line: 7 },
+        ),
+        (
+            b"stow-cert 1\noutcome gap\nrehandles 1\nbound 1\nnodes 1\nn 0\ns cross 40 1 1 2 3 4 5\n",
+            CertFault::BadLine { line: 7 },
+        ),
+        (
+            b"stow-cert 1\noutcome gap\nrehandles 1\nbound 1\nnodes 1\nn 0\ns cross 40 1 1 2 3 4 5 6 7 8 9 10 11 12 13 14\n",
+            CertFault::BadLine { line: 7 },
+        ),
+        (
+            b"stow-cert 1\noutcome gap\nrehandles 1\nbound 1\nnodes 1\nn 0\nb 1 2 3\n",
+            CertFault::BadLine { line: 7 },
+        ),
+        (
+            b"stow-cert 1\noutcome gap\nrehandles 1\nbound 1\nnodes 1\nn 0\nv 1 0 2 0 0\n",
+            CertFault::BadLine { line: 7 },
+        ),
     ];
     for (bytes, fault) in faults {
         match rewritten(alloc, bytes) {

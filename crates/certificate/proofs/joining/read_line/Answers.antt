@@ -1,4 +1,4 @@
-use Rattle.std.proofs.Common.{◌≡◌, ◌++◌, ◌∷◌, [], ℕ, List, drop, length, length-drop, refl, subst, sym, ap, ◌∙◌, arith}
+use Rattle.std.proofs.Common.{◌≡◌, ◌++◌, ◌∷◌, ℕ, List, drop, length, length-drop, refl, subst, sym, ap, ◌∙◌, arith}
 use Rattle.std.specs.Prelude.{All}
 use Rattle.certificate.specs.declared.words.Token.{Token}
 use Rattle.certificate.specs.declared.words.Token.TheVariants.{Word}
@@ -13,7 +13,7 @@ pub returns-in_default-split_first-clause-none : goal.returns-in_default-split_f
 returns-in_default-split_first-clause-none c = λ none.
     let z : length c.in-Some.words.items ≡ 0 = ap length (sym c.as_slice.ensures.value) ∙ c.in_default-split_first.ensures.cases in
     no_bare (drop c.args.from c.args.bytes.now) (drop c.in-Some.next c.args.bytes.now) (c.in-Some.ensures.text ∙ ap (λ (x : List ℕ). x ++ drop c.in-Some.next c.args.bytes.now) (closed_none c.in-Some.words.items z))
-      (omega (arith, length-drop c.in-Some.next c.args.bytes.now, length-drop c.args.from c.args.bytes.now, c.in-Some.ensures.next))
+    (omega (arith, length-drop c.in-Some.next c.args.bytes.now, length-drop c.args.from c.args.bytes.now, c.in-Some.ensures.next))
 
 pub returns-in_default-first : goal.returns-in_default-first
 returns-in_default-first c =

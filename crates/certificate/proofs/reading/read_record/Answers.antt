@@ -1,4 +1,4 @@
-use Rattle.std.proofs.Common.{◌≡◌, ◌≤◌, ◌+◌, ◌++◌, ◌∷◌, [], ℕ, List, drop, length, length-drop, length-append, refl, subst, sym, ap, ◌∙◌, arith}
+use Rattle.std.proofs.Common.{◌≡◌, ◌++◌, ◌∷◌, [], List, drop, length, length-drop, length-append, refl, subst, sym, ap, ◌∙◌, arith}
 use Rattle.std.specs.Prelude.{All}
 use Rattle.std.proofs.lemmas.Bool.{false≢true}
 use Rattle.std.proofs.lemmas.List.Elements.{All-append}
@@ -31,7 +31,7 @@ loop-line-preserved-then-is_empty c =
       low = omega (arith, c.in-Some.ensures.next, c.loop-line.invariant.low);
       count = omega (arith, c.loop-line.invariant.count, ap length b, length-append (body_so_far c.loop-line.steps c.loop-line.raises) (line.Step c.in-Step.row ∷ []));
       text = text_more (drop c.args.from c.args.bytes.now) (drop c.loop-line.at c.args.bytes.now) (drop c.in-Some.next c.args.bytes.now) (body_so_far c.loop-line.steps c.loop-line.raises) (line.Step c.in-Step.row) c.loop-line.invariant.text front
-        ∙ ap (λ (x : List Line). text_of x ++ drop c.in-Some.next c.args.bytes.now) (sym b);
+          ∙ ap (λ (x : List Line). text_of x ++ drop c.in-Some.next c.args.bytes.now) (sym b);
       are_rows = subst (All IsRow) (sym c.in_ok-push-in-Step.ensures) (All-append IsRow c.loop-line.steps (c.in-Step.row ∷ []) c.loop-line.invariant.are_rows (one_all IsRow c.in-Step.row il));
       are_raises = c.loop-line.invariant.are_raises;
     }
@@ -47,17 +47,20 @@ loop-line-preserved c =
       low = omega (arith, c.in-Some.ensures.next, c.loop-line.invariant.low);
       count = omega (arith, c.loop-line.invariant.count, ap length b, length-append (body_so_far c.loop-line.steps c.loop-line.raises) (line.Change c.in-Change.raise ∷ []));
       text = text_more (drop c.args.from c.args.bytes.now) (drop c.loop-line.at c.args.bytes.now) (drop c.in-Some.next c.args.bytes.now) (body_so_far c.loop-line.steps c.loop-line.raises) (line.Change c.in-Change.raise) c.loop-line.invariant.text front
-        ∙ ap (λ (x : List Line). text_of x ++ drop c.in-Some.next c.args.bytes.now) (sym b);
+          ∙ ap (λ (x : List Line). text_of x ++ drop c.in-Some.next c.args.bytes.now) (sym b);
       are_rows = c.loop-line.invariant.are_rows;
       are_raises = subst (All IsRaise) (sym c.in_ok-push-in-Change.ensures) (All-append IsRaise c.loop-line.raises (c.in-Change.raise ∷ []) c.loop-line.invariant.are_raises (one_all IsRaise c.in-Change.raise il));
     }
 
 pub returns-in_default-line-clause-fault : goal.returns-in_default-line-clause-fault
-returns-in_default-line-clause-fault c = (body_so_far c.loop-line.steps c.loop-line.raises, drop c.loop-line.at c.args.bytes.now,
-    body_wrong (drop c.args.from c.args.bytes.now) (drop c.loop-line.at c.args.bytes.now) (drop c.in-Some.next c.args.bytes.now) c.loop-line.steps c.loop-line.raises c.in-Some.line c.loop-line.invariant.text c.loop-line.invariant.are_rows c.loop-line.invariant.are_raises c.in-Some.ensures.line c.in-Some.ensures.text
+returns-in_default-line-clause-fault c = (
+  body_so_far c.loop-line.steps c.loop-line.raises,
+  drop c.loop-line.at c.args.bytes.now,
+  body_wrong (drop c.args.from c.args.bytes.now) (drop c.loop-line.at c.args.bytes.now) (drop c.in-Some.next c.args.bytes.now) c.loop-line.steps c.loop-line.raises c.in-Some.line c.loop-line.invariant.text c.loop-line.invariant.are_rows c.loop-line.invariant.are_raises c.in-Some.ensures.line c.in-Some.ensures.text
       (elim c.in_default-line.branch [
         | in_default-line-via-in-Step+else-is_empty w ↦ late_step c.loop-line.raises c.in-Some.line w.in-Step.row w.in-Step.is (λ e. false≢true (w.if-is_empty.ensures.1 e))
         | in_default-line-via-in_default-line w ↦ wrong_there c.loop-line.raises c.in-Some.line w.in_default-line.not-Step w.in_default-line.not-Change w.in_default-line.not-Ends
       ]),
-    something_left (drop c.loop-line.at c.args.bytes.now) (drop c.in-Some.next c.args.bytes.now) c.in-Some.line (omega (arith, c.in-Some.ensures.next, length-drop c.loop-line.at c.args.bytes.now, length-drop c.in-Some.next c.args.bytes.now)),
-    omega (arith, c.loop-line.invariant.count))
+  something_left (drop c.loop-line.at c.args.bytes.now) (drop c.in-Some.next c.args.bytes.now) c.in-Some.line (omega (arith, c.in-Some.ensures.next, length-drop c.loop-line.at c.args.bytes.now, length-drop c.in-Some.next c.args.bytes.now)),
+  omega (arith, c.loop-line.invariant.count),
+)

@@ -1,4 +1,4 @@
-use Rattle.std.proofs.Common.{◌≡◌, ◌≤◌, ◌<◌, ◌+◌, ◌++◌, ◌∷◌, [], ℕ, List, drop, length, get_or, refl, arith, subst, sym, ap, ◌∙◌}
+use Rattle.std.proofs.Common.{◌≡◌, ◌+◌, ◌++◌, ◌∷◌, [], List, drop, length, get_or, refl, arith, subst, sym, ap, ◌∙◌}
 use Rattle.std.specs.Prelude.{All}
 use Rattle.std.proofs.lemmas.Bool.{eqb-true}
 use Rattle.std.proofs.lemmas.List.Elements.{All-append}
@@ -31,7 +31,7 @@ loop-end-preserved c = record {
   after = omega (arith, c.in_ok-end.ensures.within);
   within = omega (arith, c.in_ok-end.ensures.within);
   text = word_read c.args.bytes.now c.args.from c.loop-end.at c.loop-end.words.items c.loop-end.invariant.text c.loop-end.invariant.are_tokens c.in_ok-end.end c.in_ok-end.ensures.within.0 c.in_ok-end.ensures.within.1 c.in_ok-word.word c.in_ok-word.ensures.1
-    (is_feed (get_or c.args.bytes.now c.in_ok-end.end 0) c.in_ok-end.ensures.separator c.if-bytes-end-eq10.false)
-    ∙ ap (λ (ts : List Token). spelled ts ++ drop (c.in_ok-end.end + 1) c.args.bytes.now) (sym c.push.ensures.items);
+      (is_feed (get_or c.args.bytes.now c.in_ok-end.end 0) c.in_ok-end.ensures.separator c.if-bytes-end-eq10.false)
+      ∙ ap (λ (ts : List Token). spelled ts ++ drop (c.in_ok-end.end + 1) c.args.bytes.now) (sym c.push.ensures.items);
   are_tokens = subst (All IsToken) (sym c.push.ensures.items) (All-append IsToken c.loop-end.words.items (c.in_ok-word.word ∷ []) c.loop-end.invariant.are_tokens (one_all IsToken c.in_ok-word.word c.in_ok-word.ensures.0));
 }

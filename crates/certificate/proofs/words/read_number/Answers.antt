@@ -1,4 +1,4 @@
-use Rattle.std.proofs.Common.{◌≡◌, ◌<◌, ◌≤◌, ◌+◌, ◌*◌, ℕ, length, get_or, arith, inl, inr, ap, subst, sym, ◌∙◌, take, take_all}
+use Rattle.std.proofs.Common.{◌+◌, ◌*◌, ℕ, length, arith, inl, inr, ap, ◌∙◌, take_all}
 use Rattle.std.specs.Str.Parse.{digits_value}
 use Rattle.certificate.proofs.Digits.{is_zero, is_positive, no_empty, no_long, no_leading, no_other, no_great, more_digits, more_value, few_digits, whole_number}
 use Rattle.certificate.proofs.words.read_number.Goals as goal
@@ -33,11 +33,14 @@ loop-digit-preserved c = record {
 }
 
 pub returns-then-value : goal.returns-then-value
-returns-then-value c = (c.if-value.true, whole_number c.args.word.now c.loop-digit.digit-index c.loop-digit.value c.loop-digit-test.false c.loop-digit.invariant.digits c.loop-digit.invariant.value_is (is_positive (length c.args.word.now) c.if-is_empty.ensures)
-    (elim c.else-word-eq48.branch [
-      | else-word-eq48-via-then-word-eq48+else-word-gt1 w ↦ λ z. w.if-word-gt1.false
-      | else-word-eq48-via-else-word-eq48 w ↦ λ z. absurd (w.if-word-eq48.false z)
-    ]) c.if-value.true)
+returns-then-value c = (
+  c.if-value.true,
+  whole_number c.args.word.now c.loop-digit.digit-index c.loop-digit.value c.loop-digit-test.false c.loop-digit.invariant.digits c.loop-digit.invariant.value_is (is_positive (length c.args.word.now) c.if-is_empty.ensures)
+      (elim c.else-word-eq48.branch [
+        | else-word-eq48-via-then-word-eq48+else-word-gt1 w ↦ λ z. w.if-word-gt1.false
+        | else-word-eq48-via-else-word-eq48 w ↦ λ z. absurd (w.if-word-eq48.false z)
+      ]) c.if-value.true,
+)
 
 pub returns-else-value : goal.returns-else-value
 returns-else-value c = λ n small same. no_great c.args.word.now n c.loop-digit.value small (c.loop-digit.invariant.value_is ∙ ap (digits_value 10) (take_all c.loop-digit.digit-index c.args.word.now c.loop-digit-test.false)) c.if-value.false same
