@@ -1,0 +1,10 @@
+pub mod Texts
+pub mod Records
+pub mod Scanned
+pub mod Tokens
+pub mod Trees
+pub mod Digits
+pub mod Joined
+pub mod Keys
+pub mod Lists
+pub mod Parsed

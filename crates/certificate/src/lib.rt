@@ -1,0 +1,20 @@
+//! Certificates of a bound: a proof tree with its head, and their text.
+#![tactic(auto)]
+
+mod faults;
+mod joining;
+mod lines;
+mod parsing;
+mod reading;
+mod scanning;
+#[cfg(test)]
+mod tests;
+mod tree;
+mod words;
+mod writing;
+
+pub use faults::CertFault;
+pub use lines::Line;
+pub use reading::read_cert;
+pub use tree::{End, Head, Outcome, Record, Tree};
+pub use writing::write_cert;
