@@ -1,0 +1,5 @@
+pub mod Texts
+pub mod Segments
+pub mod Groups
+pub mod Faults
+pub mod Messages
