@@ -1,6 +1,6 @@
 -- The faults of a list of segments, from UNB to UNZ, that is read as a bay plan message (SMDG BAPLIE 2.2).
 -- Segments count from 1. Each cause is a fact about the list and the number of a segment.
-use Rattle.std.specs.Prelude.{◌≡◌, ℕ, ◌+◌, ◌<◌, ◌≤◌, ◌⊎◌, Bool, true, false, List, [], ◌∷◌, length, take, drop, Option, Some, None, slice_get, slice_index_or, Contains, if◌then◌else◌}
+use Rattle.std.specs.Prelude.{◌≡◌, ℕ, ◌+◌, ◌<◌, ◌≤◌, ◌⊎◌, Bool, true, false, List, [], ◌∷◌, length, take, drop, Option, Some, None, slice_get, if◌then◌else◌}
 use Rattle.std.specs.List.{list_any, position_or_len}
 use Rattle.edifact_segments.specs.declared.segments.Segment.{Segment}
 use Rattle.baplie_model.specs.declared.causes.Cause.{Cause}
@@ -46,16 +46,21 @@ numbered n (g ∷ gs) = (n, g) ∷ numbered (n + length g) gs
 
 -- ## The causes
 
--- Segment n stands in a group and is a cause of this kind.
-pub record IsInGroup (segments : List Segment) (n : ℕ) (cause : Cause) : Type 0 where
+-- Segment n stands in one of these numbered groups and is a cause of this kind.
+pub record IsInGroup (listed : List (ℕ × List Segment)) (n : ℕ) (cause : Cause) : Type 0 where
+  pub index : ℕ
   pub first : ℕ
   pub group : List Segment
-  pub is_group : Contains (numbered (3 + length (head (body segments))) (groups (body segments))) (first, group)
+  pub is_group : slice_get listed index ≡ Some (first, group)
   pub place : ℕ
   pub number : n ≡ first + place
   pub segment : Segment
   pub is_segment : slice_get group place ≡ Some segment
   pub is_cause : shows (prior group (take place group)) segment cause ≡ true
+
+-- the cell groups of the list; the first segment behind UNH is segment 3
+abbrev pub numbered_groups : List Segment → List (ℕ × List Segment)
+numbered_groups segments = numbered (3 + length (head (body segments))) (groups (body segments))
 
 -- how many segments a count counts: those from UNH to UNT, or at UNZ the one message
 abbrev pub counted : ℕ → Segment → ℕ
@@ -106,7 +111,7 @@ pub record IsUntitled (segments : List Segment) (n : ℕ) (cause : Cause) : Type
   pub untitled : is_titled (slice_get segments 1) ≡ false
 
 abbrev pub HasCause : List Segment → ℕ → Cause → Type 0
-HasCause segments n cause = IsUntitled segments n cause ⊎ (IsInGroup segments n cause ⊎ IsAtEnd segments n cause)
+HasCause segments n cause = IsUntitled segments n cause ⊎ (IsInGroup (numbered_groups segments) n cause ⊎ IsAtEnd segments n cause)
 
 -- ## The least fault
 

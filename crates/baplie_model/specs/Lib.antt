@@ -3,3 +3,4 @@ pub mod Segments
 pub mod Groups
 pub mod Faults
 pub mod Messages
+pub mod Finding

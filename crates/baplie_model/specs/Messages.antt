@@ -13,3 +13,7 @@ pub record IsMessage (segments : List Segment) (message : Message) : Type 0 wher
   pub title : slice_get segments 1 ≡ Some message.title
   pub head : message.head ≡ head (body segments)
   pub groups : message.groups ≡ map cell_group (groups (body segments))
+
+-- the list gives a message
+abbrev pub IsRead : List Segment → Type 0
+IsRead segments = (message : Message) × IsMessage segments message
