@@ -1,6 +1,6 @@
 -- The faults of a list of segments, from UNB to UNZ, that is read as a bay plan message (SMDG BAPLIE 2.2).
 -- Segments count from 1. Each cause is a fact about the list and the number of a segment.
-use Rattle.std.specs.Prelude.{◌≡◌, ℕ, ◌+◌, ◌<◌, ◌≤◌, ◌⊎◌, Bool, true, false, List, [], ◌∷◌, length, take, drop, Option, Some, None, slice_get, if◌then◌else◌}
+use Rattle.std.specs.Prelude.{◌≡◌, ℕ, ◌+◌, ◌<◌, ◌≤◌, ◌⊎◌, Bool, true, false, List, [], ◌∷◌, length, take, drop, Option, Some, None, slice_get, slice_index_or, ◌==◌, if◌then◌else◌}
 use Rattle.std.specs.List.{list_any, position_or_len}
 use Rattle.edifact_segments.specs.declared.segments.Segment.{Segment}
 use Rattle.baplie_model.specs.declared.causes.Cause.{Cause}
@@ -72,9 +72,7 @@ referred segments s = if is_unz s then element_in (slice_get segments 0) 5 else 
 
 -- a whole element that is one text of one to nine digits
 abbrev pub count_of : List (List ℕ) → Option ℕ
-count_of [] = None
-count_of (text ∷ []) = number_of text
-count_of (text ∷ other ∷ more) = None
+count_of e = if length e == 1 then number_of (slice_index_or e 0 []) else None
 
 -- A segment behind these others, which stand behind UNH, is a cause of this kind.
 abbrev pub IsEndCause : List Segment → List Segment → Segment → Cause → Type 0

@@ -33,9 +33,14 @@ abbrev pub is_empty_text : List ℕ → Bool
 is_empty_text [] = true
 is_empty_text (b ∷ text) = false
 
+-- the message type BAPLIE:D:95B:UN:SMDG22
+abbrev pub is_type : List (List ℕ) → Bool
+is_type e =
+    (length e == 5) && same_text (slice_index_or e 0 []) (codes "BAPLIE") && same_text (slice_index_or e 1 []) (codes "D") && same_text (slice_index_or e 2 []) (codes "95B") && same_text (slice_index_or e 3 []) (codes "UN") && same_text (slice_index_or e 4 []) (codes "SMDG22")
+
 -- UNH of the message type BAPLIE:D:95B:UN:SMDG22
 abbrev pub is_title : Segment → Bool
-is_title s = has_tag s (codes "UNH") && same_element (element s 2) (codes "BAPLIE" ∷ codes "D" ∷ codes "95B" ∷ codes "UN" ∷ codes "SMDG22" ∷ [])
+is_title s = has_tag s (codes "UNH") && is_type (element s 2)
 
 abbrev pub is_unt : Segment → Bool
 is_unt s = has_tag s (codes "UNT")

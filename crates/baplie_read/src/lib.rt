@@ -1,13 +1,13 @@
-// A library with one function.
+//! Reading a bay plan message (SMDG BAPLIE 2.2).
 #![tactic(auto)]
 
-ghost use Rattle.std.specs.Prelude.{◌≡◌};
-ghost use Rattle.baplie_read.specs.Echo.{echo_of};
+mod endings;
+mod faults;
+mod groups;
+mod roles;
+mod reading;
+mod telling;
 
-// The `ensures` clause is the contract: what `echo` returns is `echo_of` of its argument, a definition
-// in `specs/Echo.antt`, which a caller's clause can cite too.
-pub fn echo(x: usize) -> usize
-    ensures { result ≡ echo_of x }
-{
-    x
-}
+pub use baplie_model::{Cause, CellGroup, Facts, GroupList, Message};
+pub use faults::BaplieFault;
+pub use reading::read_baplie;
