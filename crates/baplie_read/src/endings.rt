@@ -16,7 +16,8 @@ pub(crate) fn end_fault(segments: &[Segment]) -> Option<(u32, Cause)>
 {
     let mut after = false;
     let mut counted: u32 = 2;
-    for segment in &segments[2..] {
+    let rest = &segments[2..];
+    for segment in rest {
         if let Some(cause) = least_cause(segments, after, counted, segment) {
             return Some((counted + 1, cause));
         }

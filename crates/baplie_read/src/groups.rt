@@ -4,7 +4,7 @@ ghost use Rattle.edifact_segments.specs.declared.segments.Segment.{Segment};
 ghost use Rattle.baplie_model.specs.Finding.{group_cause, group_causes, scan};
 ghost use Rattle.baplie_model.specs.Groups.{has_long_name, is_iso, is_long, is_odd_type, lacks, prior, shows};
 
-use crate::roles::{Role, component};
+use crate::roles::{Role, component, is_text};
 use baplie_model::{Cause, Prior, length_of_type, read_cell_text, read_weight};
 use edifact_segments::Segment;
 
@@ -92,7 +92,7 @@ fn shows(known: Prior, segment: &Segment, cause: Cause) -> bool
             Role::Container.has(segment) && is_odd_type(component(segment, 3, 1))
         }
         Cause::UnitLeftOut => {
-            Role::Weight.has(segment) && component(segment, 3, 1) != b"KGM"
+            Role::Weight.has(segment) && !is_text(component(segment, 3, 1), b"KGM")
         }
         Cause::BadWeight => {
             Role::Weight.has(segment) && read_weight(component(segment, 3, 2)).is_none()
@@ -111,7 +111,7 @@ fn shows(known: Prior, segment: &Segment, cause: Cause) -> bool
 fn is_iso(agency: &[u8]) -> bool
     ensures { result ≡ is_iso agency.now }
 {
-    agency.is_empty() || agency == b"5"
+    agency.is_empty() || is_text(agency, b"5")
 }
 
 /// Whether a name of the container, the first port or the first dangerous goods is too long.

@@ -1,7 +1,7 @@
 //! The segments that a message is read from (SMDG BAPLIE 2.2).
 ghost use Rattle.std.specs.Prelude.{◌≡◌, ◌+◌, ◌<◌, ◌≤◌, drop, find, length, option_map};
 ghost use Rattle.std.specs.List.{list_any, position_or_len};
-ghost use Rattle.baplie_model.specs.Segments.{component, element, has_tag, is_coded, is_one, is_title, is_type, is_unt, is_unz, same_element};
+ghost use Rattle.baplie_model.specs.Segments.{component, element, has_tag, is_coded, is_one, is_title, is_type, is_unt, is_unz, same_element, same_text};
 ghost use Rattle.baplie_read.specs.Roles.{has_role};
 
 use edifact_segments::Segment;
@@ -47,6 +47,13 @@ pub(crate) fn component(segment: &Segment, n: usize, k: usize) -> &[u8]
     ensures { result.now ≡ component segment.now n k }
 {
     segment.elements.component(n - 1, k - 1)
+}
+
+/// Whether two texts are equal.
+pub(crate) fn is_text(text: &[u8], other: &[u8]) -> bool
+    ensures { result ≡ same_text text.now other.now }
+{
+    text == other
 }
 
 /// Whether the segment has this tag.
@@ -97,11 +104,11 @@ fn is_type(segment: &Segment) -> bool
     ensures { result ≡ is_type (element segment.now 2) }
 {
     segment.elements.components(1) == 5
-        && component(segment, 2, 1) == b"BAPLIE"
-        && component(segment, 2, 2) == b"D"
-        && component(segment, 2, 3) == b"95B"
-        && component(segment, 2, 4) == b"UN"
-        && component(segment, 2, 5) == b"SMDG22"
+        && is_text(component(segment, 2, 1), b"BAPLIE")
+        && is_text(component(segment, 2, 2), b"D")
+        && is_text(component(segment, 2, 3), b"95B")
+        && is_text(component(segment, 2, 4), b"UN")
+        && is_text(component(segment, 2, 5), b"SMDG22")
 }
 
 /// Whether an element of one segment is that of another, both from 1.

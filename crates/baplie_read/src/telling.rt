@@ -1,5 +1,5 @@
 //! What a cell group tells.
-ghost use Rattle.std.specs.Prelude.{◌≡◌, IfOk, Option, find, length, option_map};
+ghost use Rattle.std.specs.Prelude.{◌≡◌, ◌<◌, IfOk, find, option_map};
 ghost use Rattle.baplie_model.specs.Groups.{cell_group, cell_in, class_from, class_in, facts_at, facts_from, long_of_bay, name_of, text_in, weight_in};
 ghost use Rattle.baplie_model.specs.Segments.{is_container};
 
@@ -74,7 +74,7 @@ fn facts_at(group: &[Segment], segment: &Segment) -> Facts
 fn text_in(segment: Option<&Segment>, n: usize, k: usize) -> &[u8]
     requires element { 0 < n }
     requires component { 0 < k }
-    ensures { result.now ≡ text_in (option_map (λ s. s.now) segment) n k }
+    ensures { result.now ≡ text_in (option_map (λ s. s.now) segment.entry) n k }
 {
     match segment {
         Some(segment) => component(segment, n, k),
