@@ -5,3 +5,4 @@ pub mod Determined
 pub mod DraftLemmas
 pub mod ScanLemmas
 pub mod GrammarLemmas
+pub mod Lengths
