@@ -69,7 +69,14 @@ fn behind(known: Prior, segment: &Segment) -> Prior
 fn least_cause(known: Prior, segment: &Segment) -> Option<Cause>
     ensures { result ≡ find (shows known segment.now) group_causes }
 {
-    for cause in &GROUP_CAUSES {
+    first_shown(known, segment, &GROUP_CAUSES)
+}
+
+/// The first of these causes that is one at a segment of a group.
+fn first_shown(known: Prior, segment: &Segment, causes: &[Cause]) -> Option<Cause>
+    ensures { result ≡ find (shows known segment.now) causes.now }
+{
+    for cause in causes {
         if shows(known, segment, *cause) {
             return Some(*cause);
         }

@@ -1,6 +1,6 @@
 //! Reading a message.
-ghost use Rattle.std.specs.Prelude.{◌≡◌, ◌+◌, ◌<◌, ◌≤◌, ◌^◌, None, length, map, slice_get, IfErr, IfOk};
-ghost use Rattle.baplie_model.specs.Faults.{groups, head, is_titled};
+ghost use Rattle.std.specs.Prelude.{◌≡◌, ◌+◌, ◌<◌, ◌≤◌, ◌^◌, None, Some, length, map, slice_get, IfErr, IfOk, IsTrue};
+ghost use Rattle.baplie_model.specs.Faults.{body, groups, head, is_titled};
 ghost use Rattle.baplie_model.specs.Finding.{groups_fault};
 ghost use Rattle.baplie_model.specs.Groups.{cell_group};
 ghost use Rattle.baplie_model.specs.Messages.{IsMessage};
@@ -14,6 +14,7 @@ use crate::telling::{cell_group, copy_all};
 use baplie_model::{Cause, GroupList, Message};
 use edifact_segments::{SegFault, Segment, read_interchange};
 use std::alloc::Global;
+use stow_data::NoMemory;
 
 /// Reads a bay plan message (SMDG BAPLIE 2.2): the message of the text, or the fault of its interchange
 /// (ISO 9735), or else the least fault of its segments. The time is linear in the text.
@@ -42,24 +43,66 @@ fn read_message(alloc: Global, segments: &[Segment]) -> Result<Message, BaplieFa
             cause: Cause::NotBaplie,
         });
     }
-    let rest = &segments[2..];
-    let body = &rest[..Role::Closing.place_from(rest, 0)];
-    let first = Role::Opening.place_from(body, 0);
+    let body = body_of(segments);
+    let first = head_length(body);
     let groups = read_groups(alloc, body, first)?;
-    if let Some((segment, cause)) = end_fault(segments) {
-        return Err(BaplieFault::At { segment, cause });
+    match end_fault(segments) {
+        Some((segment, cause)) => Err(BaplieFault::At { segment, cause }),
+        None => Ok(build(alloc, segments, &body[..first], groups)?),
     }
+}
+
+/// A message of these parts.
+fn build(
+    alloc: Global,
+    segments: &[Segment],
+    head: &[Segment],
+    groups: GroupList,
+) -> Result<Message, NoMemory>
+    requires { 2 ≤ length segments.now }
+    ensures service { IfOk result (λ m. slice_get segments.now 0 ≡ Some m.service) }
+    ensures title { IfOk result (λ m. slice_get segments.now 1 ≡ Some m.title) }
+    ensures head { IfOk result (λ m. m.head ≡ head.now) }
+    ensures groups { IfOk result (λ m. m.groups ≡ groups) }
+{
     Ok(Message {
-        service: segments[0].copy(alloc)?,
-        title: segments[1].copy(alloc)?,
-        head: copy_all(alloc, &body[..first])?,
+        service: copy_at(alloc, segments, 0)?,
+        title: copy_at(alloc, segments, 1)?,
+        head: copy_all(alloc, head)?,
         groups,
     })
 }
 
+/// The segments behind UNH, up to UNT or UNZ.
+fn body_of(segments: &[Segment]) -> &[Segment]
+    requires { 2 ≤ length segments.now }
+    ensures { result.now ≡ body segments.now }
+{
+    let rest = &segments[2..];
+    let end = Role::Closing.place_from(rest, 0);
+    &rest[..end]
+}
+
+/// How many segments stand before the first cell group.
+fn head_length(body: &[Segment]) -> usize
+    ensures length { result ≡ length (head body.now) }
+    ensures within { result ≤ length body.now }
+{
+    Role::Opening.place_from(body, 0)
+}
+
+/// A copy of a segment.
+fn copy_at(alloc: Global, segments: &[Segment], place: usize) -> Result<Segment, NoMemory>
+    requires { place < length segments.now }
+    ensures { IfOk result (λ s. slice_get segments.now place ≡ Some s) }
+{
+    segments[place].copy(alloc)
+}
+
 /// Whether segment 2 is the UNH of a bay plan.
 fn is_titled(segments: &[Segment]) -> bool
-    ensures { result ≡ is_titled (slice_get segments.now 1) }
+    ensures titled { result ≡ is_titled (slice_get segments.now 1) }
+    ensures long { IsTrue result → 2 ≤ length segments.now }
 {
     match segments.get(1) {
         Some(segment) => is_title(segment),
@@ -80,10 +123,10 @@ fn read_groups(alloc: Global, body: &[Segment], first: usize) -> Result<GroupLis
     while at < body.len() {
         let next = Role::Opening.place_from(body, at + 1);
         let group = &body[at..next];
-        if let Some((segment, cause)) = group_fault(group, at as u32 + 3) {
-            return Err(BaplieFault::At { segment, cause });
+        match group_fault(group, 3 + at as u32) {
+            Some((segment, cause)) => return Err(BaplieFault::At { segment, cause }),
+            None => list.push(cell_group(alloc, group)?)?,
         }
-        list.push(cell_group(alloc, group)?)?;
         at = next;
     }
     Ok(list)
