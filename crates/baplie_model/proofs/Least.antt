@@ -1,10 +1,9 @@
 -- What is found is the least fault.
-use Rattle.std.proofs.Common.{◌≡◌, ◌⊎◌, inl, inr, ℕ, suc, zero, ◌+◌, ◌≤◌, ◌<◌, arith, refl, sym, ap, subst, cond, Bool, true, false, ◌||◌, ◌==◌, not, List, [], ◌∷◌, ◌++◌, length, take, drop, Option, Some, None, slice_get, append_assoc, find, ◌∙◌}
+use Rattle.std.proofs.Common.{◌≡◌, ◌⊎◌, inl, inr, ℕ, suc, zero, ◌+◌, ◌≤◌, ◌<◌, arith, refl, sym, ap, subst, cond, Bool, true, false, ◌||◌, ◌==◌, not, List, [], ◌∷◌, ◌++◌, length, take, Option, Some, None, slice_get, append_assoc, find, ◌∙◌}
 use Rattle.std.proofs.lemmas.List.{append-nil}
 use Rattle.std.proofs.lemmas.Bool.{eqb-true, eqb-false}
 use Rattle.std.specs.List.{list_any, position_or_len}
 use Rattle.std.specs.Option.{option_or}
-use native.Mathlib.Numerals.{unary_clauses}
 use Rattle.edifact_segments.specs.declared.segments.Segment.{Segment}
 use Rattle.baplie_model.specs.declared.causes.Cause.{Cause}
 use Rattle.baplie_model.specs.declared.causes.Prior.{Prior}

@@ -1,13 +1,13 @@
 -- Every list of segments is a message or has exactly one least fault.
-use Rattle.std.proofs.Common.{◌≡◌, ◌⊎◌, inl, inr, ℕ, suc, zero, ◌+◌, ◌≤◌, ◌<◌, arith, refl, sym, ap, subst, cond, Bool, true, false, List, [], ◌∷◌, length, map, take, Option, Some, None, slice_get, ◌∙◌}
+use Rattle.std.proofs.Common.{◌≡◌, ◌⊎◌, inl, inr, ℕ, ◌+◌, arith, refl, sym, ap, subst, true, false, List, [], ◌∷◌, length, map, take, Option, Some, None, slice_get, ◌∙◌}
 use Rattle.edifact_segments.specs.declared.segments.Segment.{Segment}
 use Rattle.baplie_model.specs.declared.causes.Cause.{Cause}
 use Rattle.baplie_model.specs.Groups.{cell_group}
 use Rattle.baplie_model.specs.declared.causes.Cause.TheVariants.{NotBaplie, ManyMessages, NoUnt, BadCell, AgencyLeftOut, TwoContainers, BreakbulkLeftOut, NoId, NameTooLong, LengthLeftOut, UnitLeftOut, BadWeight, NoWeightOrPort, BadCount, CountWrong, ReferenceWrong}
 use Rattle.baplie_model.specs.Segments.{element}
-use Rattle.baplie_model.specs.Faults.{rest, body, head, groups, count_of, counted, IsAtEnd, HasCause, IsUntitled, number, IsUpTo, IsLeastFault}
+use Rattle.baplie_model.specs.Faults.{rest, body, head, groups, count_of, counted, IsAtEnd, HasCause, number, IsUpTo, IsLeastFault}
 use Rattle.baplie_model.specs.Finding.{first_fault}
-use Rattle.baplie_model.specs.Messages.{IsMessage, IsRead}
+use Rattle.baplie_model.specs.Messages.{IsRead}
 use Rattle.baplie_model.proofs.Least.{Outcome, outcome, some-same}
 
 false≢true : false ≡ true → ⊥
@@ -16,9 +16,10 @@ false≢true e = cc
 no_fault : (segments : List Segment) → Outcome segments None → IsRead segments
 no_fault [] h = absurd (h 2 NotBaplie (inl (record { number = refl; kind = refl; untitled = refl })))
 no_fault (a ∷ []) h = absurd (h 2 NotBaplie (inl (record { number = refl; kind = refl; untitled = refl })))
-no_fault (a ∷ b ∷ more) h =
-    (record { service = a; title = b; head = head (body (a ∷ b ∷ more)); groups = map cell_group (groups (body (a ∷ b ∷ more))) },
-     record { faultless = h; service = refl; title = refl; head = refl; groups = refl })
+no_fault (a ∷ b ∷ more) h = (
+  record { service = a; title = b; head = head (body (a ∷ b ∷ more)); groups = map cell_group (groups (body (a ∷ b ∷ more))) },
+  record { faultless = h; service = refl; title = refl; head = refl; groups = refl },
+)
 
 pub either : (segments : List Segment) → IsRead segments ⊎ ((n : ℕ) × (cause : Cause) × IsLeastFault segments n cause)
 either segments = go (first_fault segments) (outcome segments)
@@ -49,7 +50,7 @@ one_count segments n said found other counts i j =
     let segment : i.segment ≡ j.segment = some-same (sym (subst Q places found_first) ∙ found_second) in
     let count : said ≡ other = some-same (sym i.is_cause.1 ∙ ap (λ s. count_of (element s 1)) segment ∙ j.is_cause.1) in
     let counted_same : counted (length (take i.place (rest segments)) + 2) i.segment ≡ counted (length (take j.place (rest segments)) + 2) j.segment =
-        ap (λ k. counted (length (take k (rest segments)) + 2) i.segment) places ∙ ap (λ s. counted (length (take j.place (rest segments)) + 2) s) segment in
+    ap (λ k. counted (length (take k (rest segments)) + 2) i.segment) places ∙ ap (λ s. counted (length (take j.place (rest segments)) + 2) s) segment in
     let counts_same : found ≡ counts = i.is_cause.2 ∙ counted_same ∙ sym j.is_cause.2 in
     ap (λ x. CountWrong x found) count ∙ ap (λ x. CountWrong other x) counts_same
 

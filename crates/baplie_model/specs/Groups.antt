@@ -1,5 +1,5 @@
 -- Cell groups (SMDG BAPLIE 2.2): what each tells, and the causes of faults in it.
-use Rattle.std.specs.Prelude.{ℕ, ◌+◌, ◌%◌, Bool, true, false, ◌&&◌, ◌||◌, ◌==◌, not, nat_lt, List, [], ◌∷◌, length, codes, find, Option, Some, None, is_none, unwrap_or, if◌then◌else◌}
+use Rattle.std.specs.Prelude.{ℕ, ◌%◌, Bool, false, ◌&&◌, ◌||◌, ◌==◌, not, nat_lt, List, [], ◌∷◌, length, codes, find, Option, Some, None, is_none, unwrap_or, if◌then◌else◌}
 use Rattle.std.specs.List.{list_any}
 use Rattle.std.specs.Option.{option_or}
 use Rattle.edifact_segments.specs.declared.segments.Segment.{Segment}
@@ -100,7 +100,8 @@ facts_at group s = record {
   kg = weight_in group;
   reefer = list_any is_cooled group;
   class = class_in group;
-  dest = name_of (text_in (find names_port group) 2 1) }
+  dest = name_of (text_in (find names_port group) 2 1);
+}
 
 abbrev pub facts_from : List Segment → Option Segment → Option Facts
 facts_from group None = None

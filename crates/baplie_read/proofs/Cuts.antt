@@ -63,7 +63,8 @@ cut-front x xs h = go (opens x) refl h
     go : (t : Bool) → opens x ≡ t → cond t [] (x ∷ head xs) ≡ [] → IsCut (x ∷ xs) (suc (length (head xs)))
     go true e k = record {
       groups = rw e (ap (λ y. (x ∷ y) ∷ groups xs) (sym (take-head xs)) ∙ ap (λ y. (x ∷ take (length (head xs)) xs) ∷ y) (sym (groups-drop xs)));
-      opened = head-drop xs }
+      opened = head-drop xs;
+    }
     go false e k = absurd (cc)
 
 cut : (xs : List Segment) (n : ℕ) → 0 < length xs → head xs ≡ [] → n ≡ 1 + position_or_len opens (drop 1 xs) → IsCut xs n
@@ -112,7 +113,8 @@ knows-first body first e w =
       within = w;
       opened = rw e (head-drop body);
       read = ap (λ gs. map cell_group gs) whole;
-      faults = ap (λ gs. groups_fault (3 + first) gs) whole }
+      faults = ap (λ gs. groups_fault (3 + first) gs) whole;
+    }
 
 pub knows-next : (body : List Segment) (first at next : ℕ) (list longer : List CellGroup) (group : List Segment) → Knows body first at list → at < length body → next ≡ (at + 1) + position_or_len opens (drop (at + 1) body) → next ≤ length body
     → group ≡ take (next - at) (drop at body) → scan (group_cause group) (3 + at) [] group ≡ None → longer ≡ list ++ cell_group group ∷ [] → Knows body first next longer
@@ -125,7 +127,8 @@ knows-next body first at next list longer group k w e v g none pushed =
       within = v;
       opened = c.1;
       read = ap (λ l. l ++ map cell_group (groups (drop next body))) pushed ∙ append_assoc list (cell_group group ∷ []) (map cell_group (groups (drop next body))) ∙ ap (λ gs. list ++ map cell_group gs) (sym parts) ∙ k.read;
-      faults = ap (λ n. groups_fault n (groups (drop next body))) (sym place) ∙ sym (fault-later (3 + at) group (groups (drop next body)) none) ∙ ap (λ gs. groups_fault (3 + at) gs) (sym parts) ∙ k.faults }
+      faults = ap (λ n. groups_fault n (groups (drop next body))) (sym place) ∙ sym (fault-later (3 + at) group (groups (drop next body)) none) ∙ ap (λ gs. groups_fault (3 + at) gs) (sym parts) ∙ k.faults;
+    }
   where
     length-part : (ys : List Segment) (n m : ℕ) → m ≤ length ys → length (take (m - n) (drop n ys)) ≡ m - n
     length-part ys n m h = grind (arith, length-take {A = Segment}, length-drop {A = Segment})

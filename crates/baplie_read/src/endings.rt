@@ -34,7 +34,11 @@ fn least_cause(segments: &[Segment], after: bool, ended: u32, segment: &Segment)
 {
     let last = is_unz(segment);
     if after != last {
-        return Some(if after { Cause::ManyMessages } else { Cause::NoUnt });
+        return Some(if after {
+            Cause::ManyMessages
+        } else {
+            Cause::NoUnt
+        });
     }
     if !last && !is_unt(segment) {
         return None;

@@ -4,10 +4,13 @@
 mod endings;
 mod faults;
 mod groups;
-mod roles;
 mod reading;
+mod roles;
 mod telling;
 
 pub use baplie_model::{Cause, CellGroup, Facts, GroupList, Message};
 pub use faults::BaplieFault;
 pub use reading::read_baplie;
+
+#[cfg(test)]
+mod tests;

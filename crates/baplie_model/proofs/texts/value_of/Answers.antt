@@ -1,5 +1,5 @@
-use Rattle.std.proofs.Common.{◌≤◌, arith}
-use Rattle.baplie_model.proofs.Digits.{nines, nines-small, nines-smaller}
+use Rattle.std.proofs.Common.{arith}
+use Rattle.baplie_model.proofs.Digits.{nines-small, nines-smaller}
 use Rattle.baplie_model.proofs.texts.value_of.Goals as goal
 
 pub overflow_mul-value : goal.overflow_mul-value

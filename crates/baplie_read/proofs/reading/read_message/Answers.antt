@@ -23,4 +23,5 @@ returns-in_ok-build-in-None-clause-read c = record {
   service = c.in_ok-build-in-None.ensures.service;
   title = c.in_ok-build-in-None.ensures.title;
   head = c.in_ok-build-in-None.ensures.head ∙ head-is c.args.segments.now c.body_of-body.result.now c.head_length-first.result c.body_of-body.ensures c.head_length-first.ensures.length;
-  groups = c.in_ok-build-in-None.ensures.groups ∙ c.in_ok-groups.ensures.read ∙ ap (λ y. map cell_group (groups y)) c.body_of-body.ensures }
+  groups = c.in_ok-build-in-None.ensures.groups ∙ c.in_ok-groups.ensures.read ∙ ap (λ y. map cell_group (groups y)) c.body_of-body.ensures;
+}
