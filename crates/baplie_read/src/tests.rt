@@ -67,7 +67,7 @@ fn reads_a_plan(rt: HostRuntime) -> Result<(), Fail> {
         let group = message.groups.at(0);
         assert_eq!(rt; (group.bay, group.row, group.tier), (2, 1, 2));
         assert_eq!(rt; group.segments.len(), kept);
-        let note = group.segments.at(1);
+        let note = group.segments.as_slice().get(1).ok_or("no note")?;
         assert_eq!(rt; note.elements.component(3, 0), b"O'NEIL + CO".as_slice());
         let facts = group.facts.as_ref().ok_or("no container")?;
         assert_eq!(rt; facts.id.bytes(), b"ABCU1234567".as_slice());
