@@ -8,3 +8,4 @@ pub mod GrammarLemmas
 pub mod OneReading
 pub mod EachText
 pub mod ReadBackLemmas
+pub mod Lengths

@@ -1,0 +1,19 @@
+-- What a list of segments gives as a message (SMDG BAPLIE 2.2).
+use Rattle.std.specs.Prelude.{◌≡◌, ℕ, List, map, Some, slice_get}
+use Rattle.edifact_segments.specs.declared.segments.Segment.{Segment}
+use Rattle.baplie_model.specs.declared.parts.Message.{Message}
+use Rattle.baplie_model.specs.declared.causes.Cause.{Cause}
+use Rattle.baplie_model.specs.Groups.{cell_group}
+use Rattle.baplie_model.specs.Faults.{body, head, groups, HasCause}
+
+-- the message of a list of segments in which there is no fault
+pub record IsMessage (segments : List Segment) (message : Message) : Type 0 where
+  pub faultless : (n : ℕ) (cause : Cause) → HasCause segments n cause → ⊥
+  pub service : slice_get segments 0 ≡ Some message.service
+  pub title : slice_get segments 1 ≡ Some message.title
+  pub head : message.head ≡ head (body segments)
+  pub groups : message.groups ≡ map cell_group (groups (body segments))
+
+-- the list gives a message
+abbrev pub IsRead : List Segment → Type 0
+IsRead segments = (message : Message) × IsMessage segments message

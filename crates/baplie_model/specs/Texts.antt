@@ -1,0 +1,72 @@
+-- The texts of cells, types, counts and weights (SMDG BAPLIE 2.2, ISO 6346).
+use Rattle.std.specs.Prelude.{ℕ, ◌+◌, ◌*◌, ◌-◌, Bool, ◌&&◌, ◌||◌, ◌==◌, nat_le, min, List, [], ◌∷◌, length, take, drop, fold, Option, Some, None, if◌then◌else◌}
+use Rattle.std.specs.List.{list_all, position_or_len}
+use Rattle.stow_data.specs.declared.geometry.Length.{Length}
+use Rattle.stow_data.specs.declared.geometry.Length.TheVariants.{Twenty, Forty}
+
+-- 0 to 9
+abbrev pub is_digit : ℕ → Bool
+is_digit b = nat_le 48 b && nat_le b 57
+
+-- the number of a digit; what it is of another byte is of no account
+abbrev pub digit_of : ℕ → ℕ
+digit_of b = min (b - 48) 9
+
+-- a further digit behind a number
+abbrev pub with_digit : ℕ → ℕ → ℕ
+with_digit n b = n * 10 + digit_of b
+
+-- the number that digits spell
+abbrev pub value : List ℕ → ℕ
+value text = fold with_digit 0 text
+
+-- ## Cells
+
+-- six or seven digits
+abbrev pub is_cell : List ℕ → Bool
+is_cell text = (length text == 6 || length text == 7) && list_all is_digit text
+
+-- bay, row and tier number: seven digits BBBRRTT, or six BBRRTT
+abbrev pub cell_of : List ℕ → Option (ℕ × ℕ × ℕ)
+cell_of text = if is_cell text then Some (value (take (length text - 4) text), value (take 2 (drop (length text - 4) text)), value (drop (length text - 2) text)) else None
+
+-- ## Types
+
+-- the length of a container, by the first character of its size and type code
+abbrev pub long_of : List ℕ → Option Length
+long_of [] = None
+long_of (b ∷ text) = if b == 50 then Some Twenty else (if b == 52 then Some Forty else None)
+
+-- ## Counts and weights
+
+-- one to nine digits
+abbrev pub is_number : List ℕ → Bool
+is_number text = (nat_le 1 (length text) && nat_le (length text) 9) && list_all is_digit text
+
+abbrev pub number_of : List ℕ → Option ℕ
+number_of text = if is_number text then Some (value text) else None
+
+-- a decimal mark: `.` or `,`
+abbrev pub is_mark : ℕ → Bool
+is_mark b = b == 46 || b == 44
+
+-- whole kilograms and decimals, rounded up
+abbrev pub rounded_up : ℕ → ℕ → ℕ
+rounded_up whole decimals = if decimals == 0 then whole else whole + 1
+
+abbrev pub with_decimals : Option ℕ → Option ℕ → Option ℕ
+with_decimals None decimals = None
+with_decimals (Some whole) None = None
+with_decimals (Some whole) (Some decimals) = Some (rounded_up whole decimals)
+
+-- a text whose first decimal mark stands at this place, or that has none before this end
+abbrev pub read_at : ℕ → List ℕ → Option ℕ
+read_at mark text = if mark == length text then number_of text else with_decimals (number_of (take mark text)) (number_of (drop (mark + 1) text))
+
+abbrev pub at_most : ℕ → Option ℕ → Option ℕ
+at_most limit None = None
+at_most limit (Some n) = if nat_le n limit then Some n else None
+
+-- one to nine digits, then perhaps a decimal mark and one to nine digits: rounded up to whole kilograms, of which there are at most 99,999
+abbrev pub weight_of : List ℕ → Option ℕ
+weight_of text = at_most 99999 (read_at (position_or_len is_mark text) text)
