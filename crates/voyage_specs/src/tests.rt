@@ -96,9 +96,7 @@ fn name() -> Name
     Name::of(b"A")
 }
 
-fn small_ship(alloc: Global) -> Result<Ship, NoMemory>
-    ensures { IfOk result (λ s. s ≡ samples.ship) }
-{
+fn small_ship(alloc: Global) -> Result<Ship, NoMemory> {
     let stacks = stacks(alloc)?;
     let covers = covers(alloc)?;
     let separations = separations(alloc)?;
