@@ -173,6 +173,24 @@ const UNWRITTEN: Case = Case {
     ..FINE
 };
 
+const UNBUILT: Case = Case {
+    status: Status::Unbuilt,
+    printed: b"unbuilt\n",
+    ..UNWRITTEN
+};
+
+const NO_SHIP: Case = Case {
+    status: Status::Fault,
+    printed: b"fault read ship.toml\n",
+    ..UNWRITTEN
+};
+
+const NO_CARGO: Case = Case {
+    status: Status::Fault,
+    printed: b"fault read cargo.toml\n",
+    ..UNWRITTEN
+};
+
 fn words_of(alloc: Global, texts: &[&str]) -> Result<WordList, NoMemory> {
     let mut words = WordList::new(alloc);
     for text in texts {
@@ -225,140 +243,132 @@ fn run<R: Threads + Wait + Sync + Abort>(
 
 #[test]
 fn plans(rt: HostRuntime) -> Result<(), Fail> {
-    let cases = [
-        FINE,
-        Case {
-            refused: &[1],
-            status: Status::Fault,
-            printed: b"",
-            ..FINE
-        },
-        Case {
-            faults: &[4],
-            status: Status::Fault,
-            printed: b"fault write X-02.edi\n",
-            second: None,
-            third: None,
-            ..FINE
-        },
-        Case {
-            bookings: Some(EMPTY),
-            first: Some(EMPTY_FIRST),
-            second: None,
-            third: None,
-            ..FINE
-        },
-    ];
-    for case in &cases {
-        run(&rt, rt.alloc(), case)?;
+    run(&rt, rt.alloc(), &FINE)?;
+    let failing = Case {
+        status: Status::Fault,
+        ..FINE
+    };
+    let silent = Case {
+        refused: &[1],
+        printed: b"",
+        ..failing
+    };
+    run(&rt, rt.alloc(), &silent)?;
+    let cut = Case {
+        faults: &[4],
+        printed: b"fault write X-02.edi\n",
+        second: None,
+        third: None,
+        ..failing
+    };
+    run(&rt, rt.alloc(), &cut)?;
+    let empty = Case {
+        bookings: Some(EMPTY),
+        first: Some(EMPTY_FIRST),
+        second: None,
+        third: None,
+        ..FINE
+    };
+    run(&rt, rt.alloc(), &empty)?;
+    Ok(())
+}
+
+/// Words that aren't taken.
+const OTHER_WORDS: &[&[&str]] = &[
+    &[],
+    &["stow", "plan", "ship.toml", "cargo.toml"],
+    &["stow", "plan", "ship.toml", "cargo.toml", "X", "Y"],
+    &["stow", "plans", "ship.toml", "cargo.toml", "X"],
+    &["stow", "plan", "ship.toml", "cargo.toml", "-X"],
+    &["stow", "plan", "-", "cargo.toml", "X"],
+];
+
+#[test]
+fn other_words_are_unbuilt(rt: HostRuntime) -> Result<(), Fail> {
+    for words in OTHER_WORDS {
+        let case = Case {
+            words: *words,
+            ..UNBUILT
+        };
+        run(&rt, rt.alloc(), &case)?;
     }
     Ok(())
 }
 
+/// Profiles, and bookings where they stand, of which one isn't plain.
+const OTHER_INPUTS: &[(&[u8], Option<&[u8]>)] = &[
+    (b"", Some(CARGO)),
+    (b"", None),
+    (b"name = \"\xff\"", Some(CARGO)),
+    (SHIP, Some(b"")),
+    (SHIP, Some(LATER_ON_EARLIER)),
+];
+
 #[test]
-fn nothing_is_written(rt: HostRuntime) -> Result<(), Fail> {
-    let unbuilt = Case {
-        status: Status::Unbuilt,
-        printed: b"unbuilt\n",
-        ..UNWRITTEN
+fn other_inputs_are_unbuilt(rt: HostRuntime) -> Result<(), Fail> {
+    for (profile, bookings) in OTHER_INPUTS {
+        let case = Case {
+            profile: Some(*profile),
+            bookings: *bookings,
+            ..UNBUILT
+        };
+        run(&rt, rt.alloc(), &case)?;
+    }
+    let silent = Case {
+        profile: Some(b""),
+        refused: &[1],
+        printed: b"",
+        ..UNBUILT
     };
-    let no_ship = Case {
-        status: Status::Fault,
-        printed: b"fault read ship.toml\n",
-        ..UNWRITTEN
+    run(&rt, rt.alloc(), &silent)?;
+    Ok(())
+}
+
+#[test]
+fn a_failed_profile_is_named(rt: HostRuntime) -> Result<(), Fail> {
+    let missing = Case {
+        profile: None,
+        ..NO_SHIP
     };
-    let no_cargo = Case {
-        status: Status::Fault,
-        printed: b"fault read cargo.toml\n",
-        ..UNWRITTEN
+    run(&rt, rt.alloc(), &missing)?;
+    let failed = Case {
+        faults: &[1],
+        ..NO_SHIP
     };
-    let unwritten = Case {
+    run(&rt, rt.alloc(), &failed)?;
+    let cut = Case {
+        refused: &[2],
+        printed: b"fault read ",
+        ..failed
+    };
+    run(&rt, rt.alloc(), &cut)?;
+    Ok(())
+}
+
+#[test]
+fn failed_bookings_are_named(rt: HostRuntime) -> Result<(), Fail> {
+    let missing = Case {
+        bookings: None,
+        ..NO_CARGO
+    };
+    run(&rt, rt.alloc(), &missing)?;
+    let failed = Case {
+        faults: &[2],
+        ..NO_CARGO
+    };
+    run(&rt, rt.alloc(), &failed)?;
+    Ok(())
+}
+
+#[test]
+fn a_failed_first_write_is_named(rt: HostRuntime) -> Result<(), Fail> {
+    let case = Case {
+        faults: &[3],
         status: Status::Fault,
         printed: b"fault write X-01.edi\n",
         ..UNWRITTEN
     };
-    let cases = [
-        Case {
-            words: &[],
-            ..unbuilt
-        },
-        Case {
-            words: &["stow", "plan", "ship.toml", "cargo.toml"],
-            ..unbuilt
-        },
-        Case {
-            words: &["stow", "plan", "ship.toml", "cargo.toml", "X", "Y"],
-            ..unbuilt
-        },
-        Case {
-            words: &["stow", "plans", "ship.toml", "cargo.toml", "X"],
-            ..unbuilt
-        },
-        Case {
-            words: &["stow", "plan", "ship.toml", "cargo.toml", "-X"],
-            ..unbuilt
-        },
-        Case {
-            words: &["stow", "plan", "-", "cargo.toml", "X"],
-            ..unbuilt
-        },
-        Case {
-            profile: Some(b""),
-            ..unbuilt
-        },
-        Case {
-            profile: Some(b""),
-            bookings: None,
-            ..unbuilt
-        },
-        Case {
-            profile: Some(b"name = \"\xff\""),
-            ..unbuilt
-        },
-        Case {
-            bookings: Some(b""),
-            ..unbuilt
-        },
-        Case {
-            bookings: Some(LATER_ON_EARLIER),
-            ..unbuilt
-        },
-        Case {
-            profile: Some(b""),
-            refused: &[1],
-            printed: b"",
-            ..unbuilt
-        },
-        Case {
-            profile: None,
-            ..no_ship
-        },
-        Case {
-            faults: &[1],
-            ..no_ship
-        },
-        Case {
-            faults: &[1],
-            refused: &[2],
-            printed: b"fault read ",
-            ..no_ship
-        },
-        Case {
-            bookings: None,
-            ..no_cargo
-        },
-        Case {
-            faults: &[2],
-            ..no_cargo
-        },
-        Case {
-            faults: &[3],
-            ..unwritten
-        },
-    ];
-    for case in &cases {
-        run(&rt, rt.alloc(), case)?;
-    }
+    run(&rt, rt.alloc(), &case)?;
     Ok(())
 }
 
