@@ -2,6 +2,7 @@
 use crate::plain_bookings::{cargo_of, plain_bookings};
 use crate::plain_profile::plain_ship;
 use std::alloc::Global;
+use std::process::Abort;
 use std::test::Fail;
 use stow_data::{CallNo, ContainerNo, Length, Lengths, Origin, PlaceNo, StackNo};
 
@@ -19,9 +20,7 @@ fn bookings_are_plain(alloc: Global, text: &str) -> Result<bool, Fail> {
     Ok(plain_bookings(alloc, text.as_bytes())?.is_some())
 }
 
-#[test]
-fn the_parts_of_a_profile(rt: HostRuntime) -> Result<(), Fail> {
-    let alloc = rt.alloc();
+fn the_parts_of_a_profile<R: Abort>(rt: &R, alloc: Global) -> Result<(), Fail> {
     let ship = plain_ship(alloc, SHIP.as_bytes())?.ok_or("not plain")?;
     assert_eq!(rt; ship.name().bytes(), b"FEEDER 1.,-/".as_slice());
     assert_eq!(rt; ship.weight_step(), 1000);
@@ -41,9 +40,7 @@ fn the_parts_of_a_profile(rt: HostRuntime) -> Result<(), Fail> {
     Ok(())
 }
 
-#[test]
-fn which_profiles_are_plain(rt: HostRuntime) -> Result<(), Fail> {
-    let alloc = rt.alloc();
+fn which_profiles_are_plain<R: Abort>(rt: &R, alloc: Global) -> Result<(), Fail> {
     let plain = [
         SHIP,
         "name=\"A23456789 123456789 123456789 12345\"\nunknown=1\n[[stack]]\nbay=998\nrow=1\ntiers=[98]\nlengths=\"40\"\nlimit_kg=100000\nextra=[]",
@@ -122,17 +119,13 @@ fn wide_profile(alloc: Global, stacks: u32) -> Result<String, Fail> {
     Ok(text)
 }
 
-#[test]
-fn at_most_3000_places(rt: HostRuntime) -> Result<(), Fail> {
-    let alloc = rt.alloc();
+fn at_most_3000_places<R: Abort>(rt: &R, alloc: Global) -> Result<(), Fail> {
     assert!(rt; ship_is_plain(alloc, wide_profile(alloc, 300)?.as_str())?);
     assert!(rt; !ship_is_plain(alloc, wide_profile(alloc, 301)?.as_str())?);
     Ok(())
 }
 
-#[test]
-fn the_parts_of_bookings(rt: HostRuntime) -> Result<(), Fail> {
-    let alloc = rt.alloc();
+fn the_parts_of_bookings<R: Abort>(rt: &R, alloc: Global) -> Result<(), Fail> {
     let ship = plain_ship(alloc, SHIP.as_bytes())?.ok_or("not plain")?;
     let bookings = plain_bookings(alloc, BOOKINGS.as_bytes())?.ok_or("not plain")?;
     assert_eq!(rt; bookings.vessel.bytes(), b"FEEDER".as_slice());
@@ -154,9 +147,7 @@ fn the_parts_of_bookings(rt: HostRuntime) -> Result<(), Fail> {
     Ok(())
 }
 
-#[test]
-fn which_bookings_are_plain(rt: HostRuntime) -> Result<(), Fail> {
-    let alloc = rt.alloc();
+fn which_bookings_are_plain<R: Abort>(rt: &R, alloc: Global) -> Result<(), Fail> {
     let plain = [
         BOOKINGS,
         "vessel=\"V\"\nvoyage=\"1\"\ndate=\"2611270105\"\nrotation=[\"AAAAA\",\"BBBBB\"]\n",
@@ -240,10 +231,24 @@ fn long_bookings(alloc: Global, containers: u32) -> Result<String, Fail> {
     Ok(text)
 }
 
-#[test]
-fn at_most_2000_containers(rt: HostRuntime) -> Result<(), Fail> {
-    let alloc = rt.alloc();
+fn at_most_2000_containers<R: Abort>(rt: &R, alloc: Global) -> Result<(), Fail> {
     assert!(rt; bookings_are_plain(alloc, long_bookings(alloc, 2000)?.as_str())?);
     assert!(rt; !bookings_are_plain(alloc, long_bookings(alloc, 2001)?.as_str())?);
+    Ok(())
+}
+
+#[test]
+fn profiles(rt: HostRuntime) -> Result<(), Fail> {
+    the_parts_of_a_profile(&rt, rt.alloc())?;
+    which_profiles_are_plain(&rt, rt.alloc())?;
+    at_most_3000_places(&rt, rt.alloc())?;
+    Ok(())
+}
+
+#[test]
+fn bookings(rt: HostRuntime) -> Result<(), Fail> {
+    the_parts_of_bookings(&rt, rt.alloc())?;
+    which_bookings_are_plain(&rt, rt.alloc())?;
+    at_most_2000_containers(&rt, rt.alloc())?;
     Ok(())
 }

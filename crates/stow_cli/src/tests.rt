@@ -241,35 +241,58 @@ fn run<R: Threads + Wait + Sync + Abort>(
     Ok(())
 }
 
-#[test]
-fn plans(rt: HostRuntime) -> Result<(), Fail> {
-    run(&rt, rt.alloc(), &FINE)?;
-    let failing = Case {
-        status: Status::Fault,
-        ..FINE
-    };
-    let silent = Case {
-        refused: &[1],
-        printed: b"",
-        ..failing
-    };
-    run(&rt, rt.alloc(), &silent)?;
-    let cut = Case {
-        faults: &[4],
-        printed: b"fault write X-02.edi\n",
-        second: None,
-        third: None,
-        ..failing
-    };
-    run(&rt, rt.alloc(), &cut)?;
-    let empty = Case {
-        bookings: Some(EMPTY),
-        first: Some(EMPTY_FIRST),
-        second: None,
-        third: None,
-        ..FINE
-    };
-    run(&rt, rt.alloc(), &empty)?;
+/// The folder's fourth call, the second write, fails.
+const CUT: Case = Case {
+    faults: &[4],
+    status: Status::Fault,
+    printed: b"fault write X-02.edi\n",
+    second: None,
+    third: None,
+    ..FINE
+};
+
+const SILENT: Case = Case {
+    refused: &[1],
+    status: Status::Fault,
+    printed: b"",
+    ..FINE
+};
+
+/// Two calls and no container.
+const BARE: Case = Case {
+    bookings: Some(EMPTY),
+    first: Some(EMPTY_FIRST),
+    second: None,
+    third: None,
+    ..FINE
+};
+
+fn plans<R: Threads + Wait + Sync + Abort>(rt: &R, alloc: Global) -> Result<(), Fail> {
+    run(rt, alloc, &FINE)?;
+    Ok(())
+}
+
+fn a_failed_second_write_is_named<R: Threads + Wait + Sync + Abort>(
+    rt: &R,
+    alloc: Global,
+) -> Result<(), Fail> {
+    run(rt, alloc, &CUT)?;
+    Ok(())
+}
+
+fn a_failed_report_is_a_fault<R: Threads + Wait + Sync + Abort>(
+    rt: &R,
+    alloc: Global,
+) -> Result<(), Fail> {
+    run(rt, alloc, &SILENT)?;
+    Ok(())
+}
+
+fn an_empty_ship_is_planned<R: Threads + Wait + Sync + Abort>(
+    rt: &R,
+    alloc: Global,
+) -> Result<(), Fail> {
+    run(rt, alloc, &BARE)?;
     Ok(())
 }
 
@@ -283,14 +306,16 @@ const OTHER_WORDS: &[&[&str]] = &[
     &["stow", "plan", "-", "cargo.toml", "X"],
 ];
 
-#[test]
-fn other_words_are_unbuilt(rt: HostRuntime) -> Result<(), Fail> {
+fn other_words_are_unbuilt<R: Threads + Wait + Sync + Abort>(
+    rt: &R,
+    alloc: Global,
+) -> Result<(), Fail> {
     for words in OTHER_WORDS {
         let case = Case {
             words: *words,
             ..UNBUILT
         };
-        run(&rt, rt.alloc(), &case)?;
+        run(rt, alloc, &case)?;
     }
     Ok(())
 }
@@ -304,15 +329,17 @@ const OTHER_INPUTS: &[(&[u8], Option<&[u8]>)] = &[
     (SHIP, Some(LATER_ON_EARLIER)),
 ];
 
-#[test]
-fn other_inputs_are_unbuilt(rt: HostRuntime) -> Result<(), Fail> {
+fn other_inputs_are_unbuilt<R: Threads + Wait + Sync + Abort>(
+    rt: &R,
+    alloc: Global,
+) -> Result<(), Fail> {
     for (profile, bookings) in OTHER_INPUTS {
         let case = Case {
             profile: Some(*profile),
             bookings: *bookings,
             ..UNBUILT
         };
-        run(&rt, rt.alloc(), &case)?;
+        run(rt, alloc, &case)?;
     }
     let silent = Case {
         profile: Some(b""),
@@ -320,55 +347,61 @@ fn other_inputs_are_unbuilt(rt: HostRuntime) -> Result<(), Fail> {
         printed: b"",
         ..UNBUILT
     };
-    run(&rt, rt.alloc(), &silent)?;
+    run(rt, alloc, &silent)?;
     Ok(())
 }
 
-#[test]
-fn a_failed_profile_is_named(rt: HostRuntime) -> Result<(), Fail> {
+fn a_failed_profile_is_named<R: Threads + Wait + Sync + Abort>(
+    rt: &R,
+    alloc: Global,
+) -> Result<(), Fail> {
     let missing = Case {
         profile: None,
         ..NO_SHIP
     };
-    run(&rt, rt.alloc(), &missing)?;
+    run(rt, alloc, &missing)?;
     let failed = Case {
         faults: &[1],
         ..NO_SHIP
     };
-    run(&rt, rt.alloc(), &failed)?;
+    run(rt, alloc, &failed)?;
     let cut = Case {
         refused: &[2],
         printed: b"fault read ",
         ..failed
     };
-    run(&rt, rt.alloc(), &cut)?;
+    run(rt, alloc, &cut)?;
     Ok(())
 }
 
-#[test]
-fn failed_bookings_are_named(rt: HostRuntime) -> Result<(), Fail> {
+fn failed_bookings_are_named<R: Threads + Wait + Sync + Abort>(
+    rt: &R,
+    alloc: Global,
+) -> Result<(), Fail> {
     let missing = Case {
         bookings: None,
         ..NO_CARGO
     };
-    run(&rt, rt.alloc(), &missing)?;
+    run(rt, alloc, &missing)?;
     let failed = Case {
         faults: &[2],
         ..NO_CARGO
     };
-    run(&rt, rt.alloc(), &failed)?;
+    run(rt, alloc, &failed)?;
     Ok(())
 }
 
-#[test]
-fn a_failed_first_write_is_named(rt: HostRuntime) -> Result<(), Fail> {
+fn a_failed_first_write_is_named<R: Threads + Wait + Sync + Abort>(
+    rt: &R,
+    alloc: Global,
+) -> Result<(), Fail> {
     let case = Case {
         faults: &[3],
         status: Status::Fault,
         printed: b"fault write X-01.edi\n",
         ..UNWRITTEN
     };
-    run(&rt, rt.alloc(), &case)?;
+    run(rt, alloc, &case)?;
     Ok(())
 }
 
@@ -403,15 +436,16 @@ fn feeder_cargo(alloc: Global) -> Result<String, NoMemory> {
     Ok(text)
 }
 
-#[test]
-fn a_feeder_is_planned(rt: HostRuntime) -> Result<(), Fail> {
-    let alloc = rt.alloc();
+fn a_feeder_is_planned<R: Threads + Wait + Sync + Abort>(
+    rt: &R,
+    alloc: Global,
+) -> Result<(), Fail> {
     let words = words_of(alloc, PLAN)?;
     let mut folder = MemFolder::new(alloc, numbers_of(alloc, &[])?);
     folder.lay("ship.toml", feeder_ship(alloc)?.as_bytes())?;
     folder.lay("cargo.toml", feeder_cargo(alloc)?.as_bytes())?;
     let mut out = MemSink::new(alloc, 1000, numbers_of(alloc, &[])?)?;
-    let status = stow(&rt, alloc, &words, &mut folder, &mut out, &NoGate);
+    let status = stow(rt, alloc, &words, &mut folder, &mut out, &NoGate);
     assert_eq!(rt; status, Status::Fine);
     assert_eq!(rt; out.text().as_slice(), REPORT);
     // Six segments a group: 72, 72, 48, 48 and 24 containers are aboard after the calls.
@@ -467,5 +501,25 @@ fn a_group_is_written_as_printed(rt: HostRuntime) -> Result<(), Fail> {
     assert_eq!(rt; status, Status::Fine);
     let file = folder.file("X-01.edi").ok_or("no file")?;
     assert_eq!(rt; file.as_slice(), ONE_FIRST);
+    Ok(())
+}
+
+#[test]
+fn voyages_are_planned(rt: HostRuntime) -> Result<(), Fail> {
+    plans(&rt, rt.alloc())?;
+    a_failed_second_write_is_named(&rt, rt.alloc())?;
+    a_failed_report_is_a_fault(&rt, rt.alloc())?;
+    an_empty_ship_is_planned(&rt, rt.alloc())?;
+    a_feeder_is_planned(&rt, rt.alloc())?;
+    Ok(())
+}
+
+#[test]
+fn nothing_is_written(rt: HostRuntime) -> Result<(), Fail> {
+    other_words_are_unbuilt(&rt, rt.alloc())?;
+    other_inputs_are_unbuilt(&rt, rt.alloc())?;
+    a_failed_profile_is_named(&rt, rt.alloc())?;
+    failed_bookings_are_named(&rt, rt.alloc())?;
+    a_failed_first_write_is_named(&rt, rt.alloc())?;
     Ok(())
 }
