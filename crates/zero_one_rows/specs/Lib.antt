@@ -1,0 +1,4 @@
+pub mod Variables
+pub mod Rows
+pub mod Ranges
+pub mod Listed

@@ -1,0 +1,14 @@
+//! The 0-1 program of a voyage: its variables and its rows (after Avriel, Penn, Shpirer and Witteboon, 1998).
+#![tactic(auto)]
+
+mod coefficients;
+mod laws;
+mod lookups;
+mod program;
+#[cfg(test)]
+mod tests;
+
+pub use coefficients::{half_at, kind_at, place_at, stack_at, under};
+pub use laws::variables_stand_once;
+pub use lookups::{coefficient, cost_at, right_side};
+pub use program::{Raise, RaiseList, Row, RowList, Var, VarList};
