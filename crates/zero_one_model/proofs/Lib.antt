@@ -1,1 +1,13 @@
-pub mod Listing
+pub mod Filters
+pub mod Grouped
+pub mod Offered
+pub mod Added
+pub mod Rising
+pub mod Searched
+pub mod Numbered
+pub mod Rowed
+pub mod Paired
+pub mod Sized
+pub mod Touched
+pub mod Chosen
+pub mod Selected

@@ -1,5 +1,8 @@
-pub mod Program
-pub mod Variables
-pub mod Rows
-pub mod Ranges
-pub mod Listed
+pub mod Early
+pub mod Building
+pub mod Grouping
+pub mod Offering
+pub mod Enumerated
+pub mod Built
+pub mod Counted
+pub mod Indexed

@@ -1,8 +1,9 @@
 //! Boxes: some variables fixed.
 ghost use Rattle.std.specs.Prelude.{◌≡◌, ◌<◌, ◌↔◌, All, IfOk, IsSome, IsTrue, None, Some, length, replicate, slice_get, slice_set};
+ghost use Rattle.zero_one_rows.specs.Variables.{variables};
 
+use crate::model::Model;
 use std::alloc::Global;
-use std::marker::Model;
 use stow_data::{NoMemory, Seq, VarNo};
 
 /// A box: for each variable the value to which it is fixed, or none where it is free.
@@ -11,7 +12,7 @@ pub struct Box01 {
     values: Seq<Option<bool>>,
 }
 
-impl Model for Box01 {
+impl std::marker::Model for Box01 {
     ghost use Rattle.std.specs.Prelude.{Bool, List, Option};
 
     ghost Value = { List (Option Bool) };
@@ -20,12 +21,12 @@ impl Model for Box01 {
 }
 
 impl Box01 {
-    /// The box of so many variables, all of them free.
-    pub fn of_vars(alloc: Global, vars: u32) -> Result<Box01, NoMemory>
-        ensures { IfOk result (λ b. b ≡ replicate vars None) }
+    /// The box of a program's variables, all of them free.
+    pub fn free(alloc: Global, model: &Model) -> Result<Box01, NoMemory>
+        ensures { IfOk result (λ b. b ≡ replicate (length (variables model.now)) None) }
     {
         Ok(Box01 {
-            values: Seq::filled(alloc, None, vars as usize)?,
+            values: Seq::filled(alloc, None, model.vars() as usize)?,
         })
     }
 

@@ -1,14 +1,17 @@
-//! The 0-1 program of a voyage: its variables, its rows and boxes (after Avriel, Penn, Shpirer and Witteboon, 1998).
+//! The 0-1 program of a voyage, built: its variables and rows by number, with their coefficients, and boxes (after Avriel, Penn, Shpirer and Witteboon, 1998).
 #![tactic(auto)]
 
 mod boxes;
-mod coefficients;
-mod laws;
-mod lookups;
-mod program;
-#[cfg(test)]
-mod tests;
+mod building;
+mod groups;
+mod having;
+mod index;
+mod listing;
+mod model;
+mod offers;
+mod refusals;
+mod row_lists;
 
 pub use boxes::Box01;
-pub use laws::variables_stand_once;
-pub use program::{Raise, RaiseList, Row, RowList, Var, VarList};
+pub use model::Model;
+pub use refusals::ModelNo;

@@ -1,0 +1,5 @@
+use Rattle.std.proofs.Common.{◌≡◌, map, take}
+use Rattle.zero_one_model.proofs.index.kind_keys.Given as goal
+
+abbrev pub invariant-loop-x : goal.invariant-loop-x
+invariant-loop-x l = l.keys ≡ map (λ v. v.kind) (take l.x-index l.vars)

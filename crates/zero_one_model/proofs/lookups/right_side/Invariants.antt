@@ -1,4 +1,0 @@
-use Rattle.zero_one_model.proofs.lookups.right_side.Given as goal
-
-abbrev pub ghost-loads_at_call : goal.ghost-loads_at_call
-ghost-loads_at_call g a = g.m

@@ -1,0 +1,14 @@
+use Rattle.std.proofs.Common.{◌≤◌, ◌^◌, ap, sym, subst, w64, FitsSigned, rules}
+use Rattle.std.specs.Prelude.{ℤ, unsigned_abs}
+use Rattle.std.proofs.lemmas.Int.{to_z-of_z}
+use Rattle.stow_data.specs.Shipment.{IsCargo}
+use Rattle.zero_one_rows.specs.Variables.{Voyage}
+use Rattle.zero_one_model.proofs.Sized.{rhs_small}
+use Rattle.zero_one_model.proofs.model.Model.rhs.Goals as goal
+
+pub returns-clause-size : goal.returns-clause-size
+returns-clause-size c =
+    let lawful : IsCargo c.args.self.now.cargo = subst IsCargo (ap (λ (v : Voyage). v.cargo) c.self.view_is) c.calls-calls.ensures.rules in
+    let fits : FitsSigned w64 c.rhs_of.result = search rules in
+    let small : unsigned_abs c.rhs_of.result ≤ 2 ^ 37 = subst (λ (z : ℤ). unsigned_abs z ≤ 2 ^ 37) (sym c.rhs_of.ensures) (rhs_small c.args.self.now c.args.r.now lawful c.requires) in
+    subst (λ (z : ℤ). unsigned_abs z ≤ 2 ^ 37) (sym (to_z-of_z w64 c.rhs_of.result fits)) small

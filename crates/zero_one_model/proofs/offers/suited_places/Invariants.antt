@@ -1,0 +1,10 @@
+use Rattle.std.proofs.Common.{◌≡◌}
+use Rattle.std.specs.Prelude.{filter, slice_index_or}
+use Rattle.std.specs.List.{range_with_len}
+use Rattle.stow_data.specs.Ship.{places}
+use Rattle.zero_one_rows.specs.Variables.{no_place}
+use Rattle.zero_one_model.specs.Offering.{suits}
+use Rattle.zero_one_model.proofs.offers.suited_places.Given as goal
+
+abbrev pub invariant-loop-p : goal.invariant-loop-p
+invariant-loop-p l = l.list ≡ filter (λ s. suits l.long l.reefer (slice_index_or (places l.ship) s no_place)) (range_with_len 0 l.p)

@@ -1,0 +1,56 @@
+//! The parts of a program, within its limits.
+ghost use Rattle.std.specs.Prelude.{◌≡◌, ◌+◌, ◌<◌, ◌≤◌, length, IfOk};
+ghost use Rattle.stow_data.specs.Kinds.{AreKinds};
+ghost use Rattle.stow_data.specs.Ship.{places};
+ghost use Rattle.zero_one_model.specs.Building.{BuildsVariables};
+ghost use Rattle.zero_one_model.specs.Counted.{IsRowLists, IsFew};
+
+use crate::listing::list_variables;
+use crate::offers::gather_offers;
+use crate::refusals::ModelNo;
+use crate::row_lists::{RowLists, list_rows};
+use std::alloc::Global;
+use stow_data::{Cargo, Kinds, Limit, NoMemory, Seq, Ship};
+use zero_one_rows::Var;
+
+/// The greatest number of variables.
+const MOST_VARS: u64 = 200_000;
+
+/// The greatest number of rows.
+pub const MOST_ROWS: u64 = 2_000_000;
+
+/// The variables of a voyage.
+pub fn built_variables(
+    alloc: Global,
+    ship: &Ship,
+    cargo: &Cargo,
+    kinds: &Kinds,
+) -> Result<Seq<Var>, ModelNo>
+    requires kinds { AreKinds ship.now.weight_step cargo.now.containers kinds.now }
+    requires arrival { length cargo.now.arrival ≡ length (places ship.now) }
+    ensures { BuildsVariables (record { ship = ship.now; cargo = cargo.now }) result }
+{
+    let offers = gather_offers(alloc, ship, cargo, kinds)?;
+    let listing = list_variables(alloc, ship, cargo, kinds, &offers)?;
+    if listing.total > MOST_VARS {
+        return Err(ModelNo::TooLarge {
+            limit: Limit::Variables,
+            value: listing.total,
+        });
+    }
+    Ok(listing.vars)
+}
+
+/// What the rows of a voyage are counted by.
+pub fn built_rows(
+    alloc: Global,
+    ship: &Ship,
+    cargo: &Cargo,
+    kinds: &Kinds,
+) -> Result<RowLists, NoMemory>
+    requires { AreKinds ship.now.weight_step cargo.now.containers kinds.now }
+    ensures lists { IfOk result (λ r. IsRowLists (record { ship = ship.now; cargo = cargo.now }) r) }
+    ensures few { IfOk result (λ r. IsFew r) }
+{
+    list_rows(alloc, ship, cargo, kinds)
+}

@@ -1,9 +1,0 @@
-//! Laws of the list of variables.
-ghost use Rattle.zero_one_model.specs.Listed.{ListsVariables, ListsEach, ListsOnce};
-
-/// The list of variables has variables alone, all of them, and each once.
-pub fn variables_stand_once()
-    ensures alone { ListsVariables }
-    ensures each { ListsEach }
-    ensures once { ListsOnce }
-{}
