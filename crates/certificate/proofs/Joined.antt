@@ -3,9 +3,9 @@ use Rattle.std.proofs.Common.{◌≡◌, ◌≢◌, ◌<◌, ◌≤◌, ◌^◌,
 use Rattle.std.specs.Prelude.{Option, All, IfSome, MatchOption, codes, unsigned_abs, ℤ}
 use Rattle.std.specs.Fmt.{decimal, signed_decimal}
 use Rattle.std.proofs.lemmas.Fmt.{decimal_digit}
-use Rattle.zero_one_model.specs.declared.program.Row.{Row}
-use Rattle.zero_one_model.specs.declared.program.Row.TheVariants.{Flow, Start, Cell, Support, Twenty, Block, Hatch, Weight, Apart, Cross}
-use Rattle.zero_one_model.specs.declared.program.Raise.{Raise}
+use Rattle.zero_one_rows.specs.declared.program.Row.{Row}
+use Rattle.zero_one_rows.specs.declared.program.Row.TheVariants.{Flow, Start, Cell, Support, Twenty, Block, Hatch, Weight, Apart, Cross}
+use Rattle.zero_one_rows.specs.declared.program.Raise.{Raise}
 use Rattle.certificate.specs.declared.tree.End.TheVariants as end
 use Rattle.certificate.specs.declared.tree.Outcome.TheVariants as outcome
 use Rattle.certificate.specs.declared.lines.Line.{Line}
@@ -188,7 +188,7 @@ ranges (line.Change r) a h = h
 ranges (line.Ends e) a h = h
 ranges line.Close a h = tt
 
-has_ranges : (l : Line) → IsLine l → HasRanges l
+pub has_ranges : (l : Line) → IsLine l → HasRanges l
 has_ranges line.Title h = tt
 has_ranges (line.Outcome o) h = tt
 has_ranges (line.Rehandles None) h = tt

@@ -8,3 +8,7 @@ pub mod Joined
 pub mod Keys
 pub mod Lists
 pub mod Parsed
+pub mod Back
+pub mod Plain
+pub mod Determined
+pub mod Stopping

@@ -1,8 +1,8 @@
 -- Rows and lines of words.
 use Rattle.std.proofs.Common.{◌≡◌, ◌≢◌, ◌<◌, ◌≤◌, ◌^◌, ◌%◌, ℕ, zero, suc, Bool, true, List, [], ◌∷◌, length, get_or, map, Some, None, refl, sym, ◌∙◌, ap, subst, arith}
 use Rattle.std.specs.Prelude.{Option, All, IfSome, MatchOption, ◌&&◌, ◌==◌, nat_le, if◌then◌else◌}
-use Rattle.zero_one_model.specs.declared.program.Row.{Row}
-use Rattle.zero_one_model.specs.declared.program.Row.TheVariants.{Flow, Start, Cell, Support, Twenty, Block, Hatch, Weight, Apart, Cross}
+use Rattle.zero_one_rows.specs.declared.program.Row.{Row}
+use Rattle.zero_one_rows.specs.declared.program.Row.TheVariants.{Flow, Start, Cell, Support, Twenty, Block, Hatch, Weight, Apart, Cross}
 use Rattle.std.proofs.lemmas.Bool.{le-leb, eq-eqb}
 use Rattle.certificate.specs.declared.words.Key.{Key}
 use Rattle.certificate.specs.declared.words.Token.{Token}
@@ -47,7 +47,7 @@ pub record Makes (k : Key) (ns : List ℕ) (result : Option Row) : Type 0 where
   pub four : (a b c d : ℕ) → ns ≡ a ∷ b ∷ c ∷ d ∷ [] → result ≡ row_of_four k a b c d
   pub many : (l p a b c : ℕ) (chain : List ℕ) → ns ≡ l ∷ p ∷ a ∷ b ∷ c ∷ chain → result ≡ row_of_chain k l p (a ∷ b ∷ c ∷ chain)
 
-made : (r : Row) (result : Option Row) → IsEven r → Makes (family_key r) (numbers_of r) result → result ≡ Some r
+pub made : (r : Row) (result : Option Row) → IsEven r → Makes (family_key r) (numbers_of r) result → result ≡ Some r
 made (Flow q i g) result e m = m.three q i g refl
 made (Start q p) result e m = m.two q p refl
 made (Cell i h) result e m = m.two i h refl

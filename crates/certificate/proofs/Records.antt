@@ -4,8 +4,8 @@ use Rattle.std.specs.Prelude.{All}
 use Rattle.std.proofs.lemmas.Bool.{cases_lt}
 use Rattle.std.proofs.lemmas.List.{map-append}
 use Rattle.std.proofs.lemmas.List.Elements.{All-append}
-use Rattle.zero_one_model.specs.declared.program.Row.{Row}
-use Rattle.zero_one_model.specs.declared.program.Raise.{Raise}
+use Rattle.zero_one_rows.specs.declared.program.Row.{Row}
+use Rattle.zero_one_rows.specs.declared.program.Raise.{Raise}
 use Rattle.certificate.specs.declared.tree.End.{End}
 use Rattle.certificate.specs.declared.lines.Line.{Line}
 use Rattle.certificate.specs.declared.lines.Line.TheVariants as line
@@ -15,7 +15,7 @@ use Rattle.certificate.specs.declared.faults.CertFault.TheVariants.{BadLine, NoE
 use Rattle.certificate.specs.Text.{whole, text_of}
 use Rattle.certificate.specs.Grammar.{IsRow, IsRaise}
 use Rattle.certificate.specs.Reading.{line_key, line_rest, IsLine, HasNoLine, Place, after_key, run, Halts, Fails, body_so_far}
-use Rattle.certificate.specs.Reading.Place.{InSteps, InRaises}
+use Rattle.certificate.specs.Reading.Place.{InSteps, InRaises, Done}
 use Rattle.certificate.proofs.Lists.{first_all, rest_all, none_all, both_all}
 use Rattle.certificate.proofs.Texts.{text-append}
 use Rattle.certificate.proofs.Joined.{line_closed, line_fits, has_words}
@@ -55,6 +55,11 @@ run_changes (r ∷ rs) = run_raises rs
 pub run_body : (steps : List Row) (raises : List Raise) → run (Some InSteps) (body_so_far steps raises) ≡ Some (place_for raises)
 run_body [] raises = run_changes raises
 run_body (s ∷ ss) raises = run_body ss raises
+
+-- a record that is begun is no end
+pub body_open : (steps : List Row) (raises : List Raise) → run (Some InSteps) (body_so_far steps raises) ≢ Some Done
+body_open steps [] e = let k = sym (run_body steps []) ∙ e in absurd cc
+body_open steps (r ∷ rs) e = let k = sym (run_body steps (r ∷ rs)) ∙ e in absurd cc
 
 step_lines : (steps : List Row) → All IsRow steps → All IsLine (map line.Step steps)
 step_lines [] h = none_all IsLine
@@ -99,11 +104,11 @@ pub something_left : (rest next : List ℕ) (m : Line) → length next < length 
 something_left rest next m low e = omega (arith, ap length e)
 
 -- no line stands where the text goes on, or it ends
-pub ends_or_bad : (bytes text : List ℕ) (at lines before : ℕ) (start : Place) (ls : List Line) (result : CertFault) → Halts text start ls (drop at bytes) → at ≤ length bytes → lines ≡ before + length ls
+pub ends_or_bad : (bytes text : List ℕ) (at lines before : ℕ) (start : Place) (ls : List Line) (result : CertFault) → Halts text start ls (drop at bytes) → run (Some start) ls ≢ Some Done → at ≤ length bytes → lines ≡ before + length ls
     → (at ≡ length bytes → result ≡ NoEnd) → (at < length bytes → result ≡ BadLine (lines + 1)) → Fails text start before result
-ends_or_bad bytes text at lines before start ls result halts within count end bad = ⊎_elim
+ends_or_bad bytes text at lines before start ls result halts begun within count end bad = ⊎_elim
     (λ (low : at < length bytes). subst (Fails text start before) (sym (bad low)) (ls, drop at bytes, halts, (λ e. nothing_left bytes at e low), omega arith))
-    (λ (high : length bytes ≤ at). subst (Fails text start before) (sym (end (omega arith))) (ls, subst (Halts text start ls) (drop_all at bytes high) halts))
+    (λ (high : length bytes ≤ at). subst (Fails text start before) (sym (end (omega arith))) (ls, subst (Halts text start ls) (drop_all at bytes high) halts, begun))
     (cases_lt at (length bytes))
 
 pub body_halts : (text rest : List ℕ) (steps : List Row) (raises : List Raise) → text ≡ text_of (body_so_far steps raises) ++ rest → All IsRow steps → All IsRaise raises → HasNoLine rest → Halts text InSteps (body_so_far steps raises) rest

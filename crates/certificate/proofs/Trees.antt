@@ -1,9 +1,9 @@
 -- The lines of a tree, record by record.
-use Rattle.std.proofs.Common.{◌≡◌, ◌+◌, ℕ, Bool, List, [], ◌∷◌, ◌++◌, length, map, Some, None, refl, sym, ◌∙◌, ap, subst, arith, append_assoc, length-append}
+use Rattle.std.proofs.Common.{◌≡◌, ◌≢◌, ◌+◌, ℕ, Bool, List, [], ◌∷◌, ◌++◌, length, map, Some, None, refl, sym, ◌∙◌, ap, subst, arith, append_assoc, length-append}
 use Rattle.std.specs.Prelude.{Option, All, IfErr, Result, Err, flat_map}
 use Rattle.std.proofs.lemmas.List.{flat_map_more}
 use Rattle.std.proofs.lemmas.List.Elements.{All-append}
-use Rattle.zero_one_model.specs.declared.program.Raise.{Raise}
+use Rattle.zero_one_rows.specs.declared.program.Raise.{Raise}
 use Rattle.certificate.specs.declared.tree.End.{End}
 use Rattle.certificate.specs.declared.tree.End.TheVariants.{Leaf, Left, Branch}
 use Rattle.certificate.specs.declared.tree.Record.{Record}
@@ -43,6 +43,10 @@ pub run_records : (tree : List Record) → run (Some Between) (flat_map record_l
 run_records [] = refl
 run_records (r ∷ rs) = run-append (Some Between) (record_lines r) (flat_map record_lines rs) ∙ ap (λ (p : Option Place). run p (flat_map record_lines rs)) (run_record r) ∙ run_records rs
 
+-- a tree is open behind its records
+pub records_open : (tree : List Record) → run (Some Between) (flat_map record_lines tree) ≢ Some Done
+records_open tree e = let k = sym (run_records tree) ∙ e in absurd cc
+
 pub record_are_lines : (r : Record) → IsRecord r → All IsLine (record_lines r)
 record_are_lines r is = both_all IsLine (line.Node r.from_zero) (body_lines r) tt
     (subst (All IsLine) (sym (body_is r)) (All-append IsLine (body_so_far r.steps r.raises) (line.Ends r.end ∷ []) (body_are_lines r.steps r.raises is.steps is.raises) (one_all IsLine (line.Ends r.end) is.end)))
@@ -78,7 +82,7 @@ module _ (text text' : List ℕ) (start here : Place) (before before' : ℕ) (ls
   fails_within NotCert h = h
   fails_within (BadHead n) h = h
   fails_within (BadLine n) h = (ls ++ h.0, h.1, halts_within h.0 h.1 h.2, h.3, omega (arith, h.4, length-append ls h.0))
-  fails_within NoEnd h = (ls ++ h.0, halts_within h.0 [] h.1)
+  fails_within NoEnd h = (ls ++ h.0, halts_within h.0 [] h.1, (λ d. h.2 (sym (run-append (Some start) ls h.0 ∙ ap (λ (p : Option Place). run p h.0) ran) ∙ d)))
   fails_within NoMemory h = h
 
 done_none : (k : Key) → after_key Done k ≡ None

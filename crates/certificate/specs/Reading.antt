@@ -1,10 +1,10 @@
 -- What the reader knows a line by: its words. No public clause cites this module.
 use Rattle.std.specs.Prelude.{◌≡◌, ◌≢◌, ◌<◌, ◌≤◌, ◌^◌, ℕ, ◌+◌, ◌%◌, Bool, true, false, ◌||◌, ◌&&◌, ◌==◌, nat_le, List, [], ◌∷◌, ◌++◌, codes, map, All, length, ℤ, pos, negsuc, Option, Some, None, if◌then◌else◌}
 use Rattle.std.specs.Fmt.{decimal}
-use Rattle.zero_one_model.specs.declared.program.Row.{Row}
-use Rattle.zero_one_model.specs.declared.program.Row.TheVariants as row
-use Rattle.zero_one_model.specs.declared.program.Raise.{Raise}
-use Rattle.zero_one_model.specs.declared.program.Var.{Var}
+use Rattle.zero_one_rows.specs.declared.program.Row.{Row}
+use Rattle.zero_one_rows.specs.declared.program.Row.TheVariants as row
+use Rattle.zero_one_rows.specs.declared.program.Raise.{Raise}
+use Rattle.zero_one_rows.specs.declared.program.Var.{Var}
 use Rattle.certificate.specs.declared.tree.End.TheVariants as end
 use Rattle.certificate.specs.declared.tree.Outcome.{Outcome}
 use Rattle.certificate.specs.declared.tree.Outcome.TheVariants as outcome
@@ -276,7 +276,7 @@ pub record Halts (text : List ℕ) (start : Place) (ls : List Line) (rest : List
 -- the fault of a text of records' lines, behind so many lines
 abbrev pub Fails : List ℕ → Place → ℕ → CertFault → Type 0
 Fails text start before (BadLine n) = (ls : List Line) × (rest : List ℕ) × Halts text start ls rest × (rest ≢ []) × (n ≡ before + length ls + 1)
-Fails text start before NoEnd = (ls : List Line) × Halts text start ls []
+Fails text start before NoEnd = (ls : List Line) × Halts text start ls [] × (run (Some start) ls ≢ Some Done)
 Fails text start before NoMemory = Unit {0}
 Fails text start before NotCert = ⊥
 Fails text start before (BadHead n) = ⊥

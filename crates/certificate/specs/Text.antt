@@ -1,8 +1,8 @@
 -- The text of a certificate: its lines, with a line feed behind each. One space separates words.
 use Rattle.std.specs.Prelude.{ℕ, true, false, List, [], ◌∷◌, ◌++◌, codes, map, flat_map, Some, None}
 use Rattle.std.specs.Fmt.{decimal, signed_decimal}
-use Rattle.zero_one_model.specs.declared.program.Row.{Row}
-use Rattle.zero_one_model.specs.declared.program.Row.TheVariants.{Flow, Start, Cell, Support, Twenty, Block, Hatch, Weight, Apart, Cross}
+use Rattle.zero_one_rows.specs.declared.program.Row.{Row}
+use Rattle.zero_one_rows.specs.declared.program.Row.TheVariants.{Flow, Start, Cell, Support, Twenty, Block, Hatch, Weight, Apart, Cross}
 use Rattle.certificate.specs.declared.tree.End.TheVariants.{Leaf, Left, Branch}
 use Rattle.certificate.specs.declared.tree.Record.{Record}
 use Rattle.certificate.specs.declared.tree.Outcome.{Outcome}

@@ -1,7 +1,7 @@
 //! Lines, put together from their words.
 ghost use Rattle.std.specs.Prelude.{◌≡◌, ◌≢◌, ◌<◌, ◌≤◌, ◌^◌, ◌++◌, ℕ, ℤ, [], ◌∷◌, IfSome, MatchOption, Some, None, length, drop, unsigned_abs, ⊤};
-ghost use Rattle.zero_one_model.specs.declared.program.Var.{Var};
-ghost use Rattle.zero_one_model.specs.declared.program.Raise.{Raise};
+ghost use Rattle.zero_one_rows.specs.declared.program.Var.{Var};
+ghost use Rattle.zero_one_rows.specs.declared.program.Raise.{Raise};
 ghost use Rattle.certificate.specs.declared.tree.End.TheVariants.{Branch};
 ghost use Rattle.certificate.specs.declared.lines.Line.{Line};
 ghost use Rattle.certificate.specs.declared.words.Key.{Key};
@@ -17,7 +17,7 @@ use crate::scanning::read_words;
 use crate::tree::{End, Outcome};
 use crate::words::{Key, Token};
 use stow_data::{CallNo, KindNo, PlaceNo};
-use zero_one_model::{Raise, Var};
+use zero_one_rows::{Raise, Var};
 
 /// A line of a key alone.
 fn bare_line(key: Key) -> Option<Line>

@@ -3,6 +3,7 @@
 
 mod faults;
 mod joining;
+mod laws;
 mod lines;
 mod parsing;
 mod reading;
@@ -14,6 +15,7 @@ mod words;
 mod writing;
 
 pub use faults::CertFault;
+pub use laws::answers_are_determined;
 pub use lines::Line;
 pub use reading::read_cert;
 pub use tree::{End, Head, Outcome, Record, Tree};

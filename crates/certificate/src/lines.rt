@@ -1,6 +1,6 @@
 //! The lines of a certificate.
 use crate::tree::{End, Outcome};
-use zero_one_model::{Raise, Row};
+use zero_one_rows::{Raise, Row};
 
 /// A line of a certificate.
 #[derive(Debug, Drop)]

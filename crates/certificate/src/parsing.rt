@@ -1,6 +1,6 @@
 //! Words, put together to a line.
 ghost use Rattle.std.specs.Prelude.{◌≡◌, ◌≢◌, ◌<◌, ◌≤◌, ◌^◌, ℕ, ◌+◌, ◌-◌, [], ◌∷◌, List, All, IfSome, MatchOption, Option, Some, None, length, map, unsigned_abs};
-ghost use Rattle.zero_one_model.specs.declared.program.Row.{Row};
+ghost use Rattle.zero_one_rows.specs.declared.program.Row.{Row};
 ghost use Rattle.certificate.specs.declared.lines.Line.{Line};
 ghost use Rattle.certificate.specs.declared.words.Token.TheVariants.{Word, Number};
 ghost use Rattle.certificate.specs.Grammar.{IsRow, IsEven};
@@ -11,7 +11,7 @@ use crate::words::{Key, Token};
 use arrayvec::ArrayVec;
 use chain_rows::Chain;
 use stow_data::{CallNo, HalfNo, KindNo, PlaceNo, StackNo};
-use zero_one_model::Row;
+use zero_one_rows::Row;
 
 pub(crate) type Numbers = ArrayVec<u32, 18>;
 

@@ -1,8 +1,13 @@
 //! A certificate, read from its text.
-ghost use Rattle.std.specs.Prelude.{◌≡◌, ◌≢◌, ◌<◌, ◌≤◌, ◌^◌, ◌+◌, ◌++◌, [], ◌∷◌, All, IfOk, IfErr, IfSome, IsTrue, length, drop, flat_map};
+ghost use Rattle.std.specs.Prelude.{◌≡◌, ◌≢◌, ◌<◌, ◌≤◌, ◌^◌, ◌+◌, ◌⊎◌, ◌++◌, ℕ, List, [], ◌∷◌, All, Option, None, IfOk, IfErr, IfSome, IsTrue, MatchResult, length, drop, flat_map};
+ghost use Rattle.certificate.specs.declared.tree.Head.{Head};
+ghost use Rattle.certificate.specs.declared.tree.Record.{Record};
+ghost use Rattle.certificate.specs.declared.tree.Outcome.{Outcome};
+ghost use Rattle.certificate.specs.declared.faults.CertFault.{CertFault};
 ghost use Rattle.certificate.specs.declared.lines.Line.TheVariants as line;
-ghost use Rattle.certificate.specs.declared.faults.CertFault.TheVariants.{BadLine, NoEnd};
+ghost use Rattle.certificate.specs.declared.faults.CertFault.TheVariants.{BadLine, NoEnd, NoMemory};
 ghost use Rattle.certificate.specs.Text.{text_of, whole, head_lines, record_lines};
+ghost use Rattle.certificate.specs.FirstFault.{HasFault};
 ghost use Rattle.certificate.specs.Grammar.{IsRecord, IsHead, IsOutcome, IsCert};
 ghost use Rattle.certificate.specs.Reading.{IsLine, Fails, body_lines};
 ghost use Rattle.certificate.specs.Reading.Place.{InSteps, Between};
@@ -12,12 +17,21 @@ use crate::joining::read_line;
 use crate::lines::Line;
 use crate::tree::{Head, Outcome, Record, Tree};
 use std::alloc::Global;
-use zero_one_model::{RaiseList, RowList};
+use zero_one_rows::{RaiseList, RowList};
 
-/// Reads a certificate. The text is not copied.
+/// Reads a certificate of at most 2^29 bytes, the greatest that is written. The text is not copied.
+///
+/// A text that is a certificate gives its head and its tree. Any other gives its first line at fault:
+/// `NotCert` where that is the first line, `BadHead` where it is one of the lines 2 to 5, which may be missing,
+/// `BadLine` where it is a later one, also one that lacks its line feed or stands behind the line `end`.
+/// `NoEnd` comes where no line is at fault and the text ends before the line `end`,
+/// and `NoMemory`, for any text, where memory is wanting.
 pub fn read_cert(alloc: Global, bytes: &[u8]) -> Result<(Head, Tree), CertFault>
     requires { length bytes.now ≤ 2 ^ 29 }
-    ensures { IfOk result (λ x. IsCert bytes.now x.0 x.1) }
+    ensures certificate { IfOk result (λ x. IsCert bytes.now x.0 x.1) }
+    ensures fault { IfErr result (λ e. (e ≡ NoMemory) ⊎ HasFault bytes.now e) }
+    ensures reads { (head : Head) (tree : List Record) → IsCert bytes.now head tree → MatchResult result (λ x. (x.0 ≡ head) × (x.1 ≡ tree)) (λ e. e ≡ NoMemory) }
+    ensures refuses { (fault : CertFault) → HasFault bytes.now fault → MatchResult result (λ _. ⊥) (λ e. (e ≡ fault) ⊎ (e ≡ NoMemory)) }
 {
     let (head, at) = read_head(bytes)?;
     let tree = read_records(alloc, bytes, at)?;
@@ -29,12 +43,23 @@ fn read_head(bytes: &[u8]) -> Result<(Head, usize), CertFault>
     ensures text { IfOk result (λ x. bytes.now ≡ text_of (head_lines x.0) ++ drop x.1 bytes.now) }
     ensures head { IfOk result (λ x. IsHead x.0) }
     ensures next { IfOk result (λ x. (5 ≤ x.1) × (x.1 ≤ length bytes.now)) }
+    ensures fault { IfErr result (λ e. HasFault bytes.now e) }
 {
-    let at = read_title(bytes).ok_or(CertFault::NotCert)?;
-    let (outcome, at) = read_outcome(bytes, at).ok_or(CertFault::BadHead { line: 2 })?;
-    let (rehandles, at) = read_rehandles(bytes, at, outcome).ok_or(CertFault::BadHead { line: 3 })?;
-    let (bound, at) = read_bound(bytes, at).ok_or(CertFault::BadHead { line: 4 })?;
-    let (nodes, at) = read_nodes(bytes, at).ok_or(CertFault::BadHead { line: 5 })?;
+    let Some(second) = read_title(bytes) else {
+        return Err(CertFault::NotCert);
+    };
+    let Some((outcome, third)) = read_outcome(bytes, second) else {
+        return Err(CertFault::BadHead { line: 2 });
+    };
+    let Some((rehandles, fourth)) = read_rehandles(bytes, third, outcome) else {
+        return Err(CertFault::BadHead { line: 3 });
+    };
+    let Some((bound, fifth)) = read_bound(bytes, fourth) else {
+        return Err(CertFault::BadHead { line: 4 });
+    };
+    let Some((nodes, at)) = read_nodes(bytes, fifth) else {
+        return Err(CertFault::BadHead { line: 5 });
+    };
     let head = Head {
         outcome,
         rehandles,
@@ -48,9 +73,13 @@ fn read_head(bytes: &[u8]) -> Result<(Head, usize), CertFault>
 fn read_title(bytes: &[u8]) -> Option<usize>
     ensures text { IfSome result (λ at. drop 0 bytes.now ≡ whole line.Title ++ drop at bytes.now) }
     ensures next { IfSome result (λ at. (0 < at) × (at ≤ length bytes.now)) }
+    ensures none { result ≡ None → (more : List ℕ) → bytes.now ≢ whole line.Title ++ more }
 {
-    match read_line(bytes, 0) {
-        Some((Line::Title, at)) => Some(at),
+    let Some((line, at)) = read_line(bytes, 0) else {
+        return None;
+    };
+    match line {
+        Line::Title => Some(at),
         _ => None,
     }
 }
@@ -60,9 +89,13 @@ fn read_outcome(bytes: &[u8], from: usize) -> Option<(Outcome, usize)>
     requires { from ≤ length bytes.now }
     ensures text { IfSome result (λ x. drop from bytes.now ≡ whole (line.Outcome x.0) ++ drop x.1 bytes.now) }
     ensures next { IfSome result (λ x. (from < x.1) × (x.1 ≤ length bytes.now)) }
+    ensures none { result ≡ None → (o : Outcome) (more : List ℕ) → drop from bytes.now ≢ whole (line.Outcome o) ++ more }
 {
-    match read_line(bytes, from) {
-        Some((Line::Outcome(outcome), at)) => Some((outcome, at)),
+    let Some((line, at)) = read_line(bytes, from) else {
+        return None;
+    };
+    match line {
+        Line::Outcome(outcome) => Some((outcome, at)),
         _ => None,
     }
 }
@@ -73,10 +106,18 @@ fn read_rehandles(bytes: &[u8], from: usize, outcome: Outcome) -> Option<(Option
     ensures text { IfSome result (λ x. drop from bytes.now ≡ whole (line.Rehandles x.0) ++ drop x.1 bytes.now) }
     ensures next { IfSome result (λ x. (from < x.1) × (x.1 ≤ length bytes.now)) }
     ensures fits { IfSome result (λ x. IsOutcome outcome x.0) }
+    ensures none { result ≡ None → (r : Option ℕ) (more : List ℕ) → IsOutcome outcome r → drop from bytes.now ≢ whole (line.Rehandles r) ++ more }
 {
-    match read_line(bytes, from) {
-        Some((Line::Rehandles(rehandles), at)) if fits(outcome, rehandles) => {
-            Some((rehandles, at))
+    let Some((line, at)) = read_line(bytes, from) else {
+        return None;
+    };
+    match line {
+        Line::Rehandles(rehandles) => {
+            if fits(outcome, rehandles) {
+                Some((rehandles, at))
+            } else {
+                None
+            }
         }
         _ => None,
     }
@@ -84,7 +125,8 @@ fn read_rehandles(bytes: &[u8], from: usize, outcome: Outcome) -> Option<(Option
 
 /// A number of rehandles stands exactly with the outcomes optimal and gap.
 fn fits(outcome: Outcome, rehandles: Option<u64>) -> bool
-    ensures { IsTrue result → IsLine (line.Rehandles rehandles) → IsOutcome outcome rehandles }
+    ensures fits { IsTrue result → IsLine (line.Rehandles rehandles) → IsOutcome outcome rehandles }
+    ensures all { IsOutcome outcome rehandles → IsTrue result }
 {
     match outcome {
         Outcome::Optimal | Outcome::Gap => rehandles.is_some(),
@@ -98,9 +140,13 @@ fn read_bound(bytes: &[u8], from: usize) -> Option<(u64, usize)>
     ensures text { IfSome result (λ x. drop from bytes.now ≡ whole (line.Bound x.0) ++ drop x.1 bytes.now) }
     ensures next { IfSome result (λ x. (from < x.1) × (x.1 ≤ length bytes.now)) }
     ensures small { IfSome result (λ x. x.0 < 2 ^ 63) }
+    ensures none { result ≡ None → (n : ℕ) (more : List ℕ) → n < 2 ^ 63 → drop from bytes.now ≢ whole (line.Bound n) ++ more }
 {
-    match read_line(bytes, from) {
-        Some((Line::Bound(bound), at)) => Some((bound, at)),
+    let Some((line, at)) = read_line(bytes, from) else {
+        return None;
+    };
+    match line {
+        Line::Bound(bound) => Some((bound, at)),
         _ => None,
     }
 }
@@ -111,9 +157,13 @@ fn read_nodes(bytes: &[u8], from: usize) -> Option<(u64, usize)>
     ensures text { IfSome result (λ x. drop from bytes.now ≡ whole (line.Nodes x.0) ++ drop x.1 bytes.now) }
     ensures next { IfSome result (λ x. (from < x.1) × (x.1 ≤ length bytes.now)) }
     ensures small { IfSome result (λ x. x.0 < 2 ^ 63) }
+    ensures none { result ≡ None → (n : ℕ) (more : List ℕ) → n < 2 ^ 63 → drop from bytes.now ≢ whole (line.Nodes n) ++ more }
 {
-    match read_line(bytes, from) {
-        Some((Line::Nodes(nodes), at)) => Some((nodes, at)),
+    let Some((line, at)) = read_line(bytes, from) else {
+        return None;
+    };
+    match line {
+        Line::Nodes(nodes) => Some((nodes, at)),
         _ => None,
     }
 }

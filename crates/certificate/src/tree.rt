@@ -1,6 +1,6 @@
 //! Proof trees.
 use stow_data::Seq;
-use zero_one_model::{RaiseList, RowList, Var};
+use zero_one_rows::{RaiseList, RowList, Var};
 
 /// How a record ends.
 #[derive(Clone, Copy, Debug, PartialEq, Eq)]

@@ -8,7 +8,7 @@ use crate::tree::{End, Head, Outcome, Record, Tree};
 use itoa::Buffer;
 use std::alloc::Global;
 use stow_data::{Bytes, NoMemory};
-use zero_one_model::{RaiseList, Row, RowList};
+use zero_one_rows::{RaiseList, Row, RowList};
 
 /// The text of a certificate: the head, the records in their order, and a line `end`.
 pub fn write_cert(alloc: Global, head: &Head, tree: &Tree) -> Result<Bytes, NoMemory>

@@ -2,8 +2,8 @@ use Rattle.std.proofs.Common.{◌≡◌, ◌++◌, ◌∷◌, [], List, drop, le
 use Rattle.std.specs.Prelude.{All}
 use Rattle.std.proofs.lemmas.Bool.{false≢true}
 use Rattle.std.proofs.lemmas.List.Elements.{All-append}
-use Rattle.zero_one_model.specs.declared.program.Row.{Row}
-use Rattle.zero_one_model.specs.declared.program.Raise.{Raise}
+use Rattle.zero_one_rows.specs.declared.program.Row.{Row}
+use Rattle.zero_one_rows.specs.declared.program.Raise.{Raise}
 use Rattle.certificate.specs.declared.lines.Line.{Line}
 use Rattle.certificate.specs.declared.lines.Line.TheVariants as line
 use Rattle.certificate.specs.Text.{whole, text_of}
@@ -11,14 +11,14 @@ use Rattle.certificate.specs.Grammar.{IsRow, IsRaise}
 use Rattle.certificate.specs.Reading.{IsLine, body_so_far}
 use Rattle.certificate.proofs.Lists.{one_all}
 use Rattle.certificate.specs.Reading.Place.{InSteps}
-use Rattle.certificate.proofs.Records.{body_halts, body_wrong, ends_or_bad, body_step, body_change, text_more, late_step, wrong_there, something_left}
+use Rattle.certificate.proofs.Records.{body_halts, body_open, body_wrong, ends_or_bad, body_step, body_change, text_more, late_step, wrong_there, something_left}
 use Rattle.certificate.proofs.reading.read_record.Goals as goal
 use Rattle.certificate.proofs.reading.read_record.Goals.{in_default-line-via-in-Step+else-is_empty, in_default-line-via-in_default-line}
 
 pub returns-in_default-clause-fault : goal.returns-in_default-clause-fault
 returns-in_default-clause-fault c = ends_or_bad c.args.bytes.now (drop c.args.from c.args.bytes.now) c.loop-line.at c.loop-line.lines c.args.before InSteps (body_so_far c.loop-line.steps c.loop-line.raises) c.fault_at.result
     (body_halts (drop c.args.from c.args.bytes.now) (drop c.loop-line.at c.args.bytes.now) c.loop-line.steps c.loop-line.raises c.loop-line.invariant.text c.loop-line.invariant.are_rows c.loop-line.invariant.are_raises (c.in_default.ensures.none refl))
-    c.loop-line.invariant.within c.loop-line.invariant.count c.fault_at.ensures.end c.fault_at.ensures.bad
+    (body_open c.loop-line.steps c.loop-line.raises) c.loop-line.invariant.within c.loop-line.invariant.count c.fault_at.ensures.end c.fault_at.ensures.bad
 
 pub loop-line-preserved-then-is_empty : goal.loop-line-preserved-then-is_empty
 loop-line-preserved-then-is_empty c =

@@ -11,13 +11,13 @@ use Rattle.certificate.specs.Reading.{IsLine, Place, run, Fails}
 use Rattle.certificate.specs.Reading.Place.{Between, InSteps}
 use Rattle.certificate.proofs.Lists.{one_all}
 use Rattle.certificate.proofs.Records.{halts_none, halts_wrong, ends_or_bad, text_more, something_left}
-use Rattle.certificate.proofs.Trees.{run-append, run_records, records_are_lines, record_read, more_records, fails_within, halts_done, if_err, wrong_between}
+use Rattle.certificate.proofs.Trees.{run-append, run_records, records_open, records_are_lines, record_read, more_records, fails_within, halts_done, if_err, wrong_between}
 use Rattle.certificate.proofs.reading.read_records.Goals as goal
 
 pub returns-in_default-clause-fault : goal.returns-in_default-clause-fault
 returns-in_default-clause-fault c = ends_or_bad c.args.bytes.now (drop c.args.from c.args.bytes.now) c.loop-line.at c.loop-line.lines 5 Between (flat_map record_lines c.loop-line.tree) c.fault_at.result
     (halts_none (drop c.args.from c.args.bytes.now) Between (flat_map record_lines c.loop-line.tree) Between (records_are_lines c.loop-line.tree c.loop-line.invariant.are_records) (run_records c.loop-line.tree) (drop c.loop-line.at c.args.bytes.now) c.loop-line.invariant.text (c.in_default.ensures.none refl))
-    c.loop-line.invariant.within c.loop-line.invariant.count c.fault_at.ensures.end c.fault_at.ensures.bad
+    (records_open c.loop-line.tree) c.loop-line.invariant.within c.loop-line.invariant.count c.fault_at.ensures.end c.fault_at.ensures.bad
 
 pub returns-in_err-item-in-Node-clause-fault : goal.returns-in_err-item-in-Node-clause-fault
 returns-in_err-item-in-Node-clause-fault c =

@@ -1,0 +1,12 @@
+use Rattle.std.proofs.Common.{sym, ◌∙◌, drop}
+use Rattle.certificate.specs.declared.lines.Line.TheVariants as line
+use Rattle.certificate.proofs.Back.{same_line}
+use Rattle.certificate.proofs.reading.read_bound.Goals as goal
+
+pub returns-in_default-line : goal.returns-in_default-line
+returns-in_default-line c = record {
+  text = tt;
+  next = tt;
+  small = tt;
+  none = λ none n more low e. c.in_default-line.not-Bound n (same_line c.in-Some.line (line.Bound n) (drop c.in-Some.at c.args.bytes.now) more c.in-Some.ensures.line low (sym c.in-Some.ensures.text ∙ e)).first;
+}
