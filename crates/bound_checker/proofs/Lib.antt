@@ -1,0 +1,13 @@
+pub mod RowsAlike
+pub mod RowsOrdered
+pub mod Look
+pub mod Adding
+pub mod Sizes
+pub mod Touched
+pub mod Multiplied
+pub mod Raising
+pub mod RowsListed
+pub mod Room
+pub mod InOrder
+pub mod FirstFault
+pub mod OneLeaf

@@ -1,0 +1,58 @@
+//! The multipliers of rows.
+ghost use Rattle.std.specs.Prelude.{◌≡◌, ℕ, cond, OnOk, IfOk, []};
+ghost use Rattle.proof_trees.specs.Multipliers.{amount_of};
+ghost use Rattle.bound_checker.specs.Entries.{same_row};
+
+use std::alloc::Global;
+use std::collections::BTreeMap;
+use std::marker::Model;
+use stow_data::NoMemory;
+use zero_one_rows::Row;
+
+/// The multipliers of rows; a row that isn't there has 0.
+#[derive(Drop)]
+pub struct Amounts {
+    by_row: BTreeMap<Row, u64>,
+}
+
+impl Model for Amounts {
+    ghost use Rattle.std.specs.Prelude.{ℕ, List};
+    ghost use Rattle.zero_one_rows.specs.declared.program.Row.{Row};
+
+    ghost Value = { List (Row × ℕ) };
+
+    ghost view = { λ a. a.by_row.entries };
+}
+
+impl Amounts {
+    /// No multipliers.
+    pub fn none(alloc: Global) -> Amounts
+        ensures { result ≡ [] }
+    {
+        Amounts {
+            by_row: BTreeMap::new(alloc),
+        }
+    }
+
+    /// The multiplier of a row.
+    pub fn at(&self, row: &Row) -> u64
+        ensures { result ≡ amount_of same_row self.now row.now }
+    {
+        self.by_row.get(row).copied().unwrap_or(0)
+    }
+
+    /// Gives a row this multiplier.
+    pub fn set(&mut self, row: &Row, amount: u64) -> Result<(), NoMemory>
+        ensures { OnOk result ((r : Row) → amount_of same_row self.new r ≡ cond (same_row row.now r) amount (amount_of same_row self.old r)) }
+    {
+        self.by_row.insert(copy_of(row)?, amount)?;
+        Ok(())
+    }
+}
+
+// The same row again.
+fn copy_of(row: &Row) -> Result<Row, NoMemory>
+    ensures { IfOk result (λ r. r ≡ row.now) }
+{
+    Ok(row.clone()?)
+}

@@ -1,0 +1,12 @@
+//! The checker of proof trees: whether a tree proves a bound on the cost of every solution.
+#![tactic(auto)]
+
+mod amounts;
+mod check;
+mod laws;
+mod refusals;
+mod sums;
+
+pub use check::{check_bound, is_one_leaf};
+pub use laws::proved_or_fault;
+pub use refusals::BoundNo;
