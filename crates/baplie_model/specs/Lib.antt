@@ -4,3 +4,4 @@ pub mod Groups
 pub mod Faults
 pub mod Messages
 pub mod Finding
+pub mod Told

@@ -1,14 +1,11 @@
 -- What the reader of a message finds is what the list of its segments gives.
-use Rattle.std.proofs.Common.{◌≡◌, ℕ, ◌+◌, refl, sym, ap, subst, cond, Bool, true, false, List, [], length, map, Option, Some, None, slice_get, take, ◌∙◌}
+use Rattle.std.proofs.Common.{◌≡◌, ℕ, ◌+◌, sym, ap, subst, cond, true, false, List, [], length, Option, Some, None, slice_get, take, ◌∙◌}
 use Rattle.std.specs.Option.{option_or}
 use Rattle.edifact_segments.specs.declared.segments.Segment.{Segment}
 use Rattle.baplie_model.specs.declared.causes.Cause.{Cause}
 use Rattle.baplie_model.specs.declared.causes.Cause.TheVariants.{NotBaplie}
-use Rattle.baplie_model.specs.declared.parts.Message.{Message}
-use Rattle.baplie_model.specs.Groups.{cell_group}
 use Rattle.baplie_model.specs.Faults.{rest, body, head, groups, is_titled, HasCause, IsLeastFault}
 use Rattle.baplie_model.specs.Finding.{scan, groups_fault, end_cause, first_behind_title, first_fault}
-use Rattle.baplie_model.specs.Messages.{IsMessage}
 use Rattle.baplie_read.specs.declared.faults.BaplieFault.{BaplieFault}
 use Rattle.baplie_read.specs.declared.faults.BaplieFault.TheVariants.{Seg, At, NoMemory}
 use Rattle.baplie_read.specs.Reading.{IsFound, IsFaultOf}

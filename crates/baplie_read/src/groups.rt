@@ -2,25 +2,13 @@
 ghost use Rattle.std.specs.Prelude.{◌≡◌, ◌<◌, ◌+◌, ◌^◌, [], ◌∷◌, ◌++◌, List, find, length};
 ghost use Rattle.edifact_segments.specs.declared.segments.Segment.{Segment};
 ghost use Rattle.baplie_model.specs.Finding.{group_cause, group_causes, scan};
-ghost use Rattle.baplie_model.specs.Groups.{has_long_name, is_iso, is_long, is_odd_type, lacks, prior, shows};
+ghost use Rattle.baplie_model.specs.Groups.{is_iso, is_long, is_odd_type, lacks, prior, shows};
+ghost use Rattle.baplie_read.specs.Causes.{cause_as, cell_cause, container_cause, lack_cause, weight_cause};
+ghost use Rattle.baplie_read.specs.Roles.{IsReadAs, as_container, as_danger, as_port};
 
 use crate::roles::{Role, component, is_text};
 use baplie_model::{Cause, Prior, length_of_type, read_cell_text, read_weight};
 use edifact_segments::Segment;
-
-/// The causes in a group, by number.
-const GROUP_CAUSES: [Cause; 10] = [
-    Cause::BadCell,
-    Cause::AgencyLeftOut,
-    Cause::TwoContainers,
-    Cause::BreakbulkLeftOut,
-    Cause::NoId,
-    Cause::NameTooLong,
-    Cause::LengthLeftOut,
-    Cause::UnitLeftOut,
-    Cause::BadWeight,
-    Cause::NoWeightOrPort,
-];
 
 /// The first fault of a group whose first segment has this number.
 pub(crate) fn group_fault(group: &[Segment], first: u32) -> Option<(u32, Cause)>
@@ -36,11 +24,12 @@ pub(crate) fn group_fault(group: &[Segment], first: u32) -> Option<(u32, Cause)>
         danger: false,
     };
     for segment in group {
-        if let Some(cause) = least_cause(known, segment) {
+        let role = Role::read(segment);
+        if let Some(cause) = least_cause(known, segment, role) {
             return Some((number, cause));
         }
         number += 1;
-        known = behind(known, segment);
+        known = behind(known, segment, role);
     }
     None
 }
@@ -52,65 +41,119 @@ fn is_lacking(group: &[Segment]) -> bool
     Role::Container.any(group) && !(Role::Weight.any(group) && Role::Port.any(group))
 }
 
-/// What is known behind one more segment.
-fn behind(known: Prior, segment: &Segment) -> Prior
+/// What is known behind one more segment, which is read as this.
+fn behind(known: Prior, segment: &Segment, role: Option<Role>) -> Prior
+    requires { IsReadAs segment.now role }
     ensures { (group before : List Segment) → known ≡ prior group before → result ≡ prior group (before ++ segment.now ∷ []) }
 {
     Prior {
         opens: false,
         lacks: known.lacks,
-        container: known.container || Role::Container.has(segment),
-        port: known.port || Role::Port.has(segment),
-        danger: known.danger || Role::Danger.has(segment),
+        container: known.container || is_container(role),
+        port: known.port || is_port(role),
+        danger: known.danger || is_danger(role),
     }
 }
 
-/// The least cause at a segment of a group.
-fn least_cause(known: Prior, segment: &Segment) -> Option<Cause>
+fn is_container(role: Option<Role>) -> bool
+    ensures { result ≡ as_container role }
+{
+    matches!(role, Some(Role::Container))
+}
+
+fn is_port(role: Option<Role>) -> bool
+    ensures { result ≡ as_port role }
+{
+    matches!(role, Some(Role::Port))
+}
+
+fn is_danger(role: Option<Role>) -> bool
+    ensures { result ≡ as_danger role }
+{
+    matches!(role, Some(Role::Danger))
+}
+
+/// The least cause at a segment of a group, which is read as this.
+fn least_cause(known: Prior, segment: &Segment, role: Option<Role>) -> Option<Cause>
+    requires { IsReadAs segment.now role }
     ensures { result ≡ find (shows known segment.now) group_causes }
 {
-    first_shown(known, segment, &GROUP_CAUSES)
+    cell_cause(known, segment)
+        .or(role_cause(known, segment, role))
+        .or(lack_cause(known))
 }
 
-/// The first of these causes that is one at a segment of a group.
-fn first_shown(known: Prior, segment: &Segment, causes: &[Cause]) -> Option<Cause>
-    ensures { result ≡ find (shows known segment.now) causes.now }
+/// What is wrong with the cell of a group.
+fn cell_cause(known: Prior, segment: &Segment) -> Option<Cause>
+    ensures { result ≡ cell_cause known segment.now }
 {
-    for cause in causes {
-        if shows(known, segment, *cause) {
-            return Some(*cause);
-        }
+    if !known.opens {
+        None
+    } else if read_cell_text(component(segment, 2, 1)).is_none() {
+        Some(Cause::BadCell)
+    } else if !is_iso(component(segment, 2, 3)) {
+        Some(Cause::AgencyLeftOut)
+    } else {
+        None
     }
-    None
 }
 
-/// Whether a segment of a group is a cause of this kind.
-fn shows(known: Prior, segment: &Segment, cause: Cause) -> bool
-    ensures { result ≡ shows known segment.now cause }
+/// What a group lacks is a cause where it opens.
+fn lack_cause(known: Prior) -> Option<Cause>
+    ensures { result ≡ lack_cause known }
 {
-    match cause {
-        Cause::BadCell => known.opens && read_cell_text(component(segment, 2, 1)).is_none(),
-        Cause::AgencyLeftOut => known.opens && !is_iso(component(segment, 2, 3)),
-        Cause::TwoContainers => Role::Container.has(segment) && known.container,
-        Cause::BreakbulkLeftOut => Role::Breakbulk.has(segment),
-        Cause::NoId => Role::Container.has(segment) && component(segment, 2, 1).is_empty(),
-        Cause::NameTooLong => has_long_name(known, segment),
-        Cause::LengthLeftOut => {
-            Role::Container.has(segment) && is_odd_type(component(segment, 3, 1))
+    if known.opens && known.lacks {
+        Some(Cause::NoWeightOrPort)
+    } else {
+        None
+    }
+}
+
+/// The least cause at a segment for what it is read as.
+fn role_cause(known: Prior, segment: &Segment, role: Option<Role>) -> Option<Cause>
+    ensures { result ≡ cause_as role known segment.now }
+{
+    match role {
+        Some(Role::Container) if known.container => Some(Cause::TwoContainers),
+        Some(Role::Container) => container_cause(segment),
+        Some(Role::Breakbulk) => Some(Cause::BreakbulkLeftOut),
+        Some(Role::Port) if known.port => None,
+        Some(Role::Danger) if known.danger => None,
+        Some(Role::Port | Role::Danger) if is_long(component(segment, 2, 1)) => {
+            Some(Cause::NameTooLong)
         }
-        Cause::UnitLeftOut => {
-            Role::Weight.has(segment) && !is_text(component(segment, 3, 1), b"KGM")
-        }
-        Cause::BadWeight => {
-            Role::Weight.has(segment) && read_weight(component(segment, 3, 2)).is_none()
-        }
-        Cause::NoWeightOrPort => known.opens && known.lacks,
-        Cause::NotBaplie
-        | Cause::ManyMessages
-        | Cause::NoUnt
-        | Cause::BadCount
-        | Cause::CountWrong { .. }
-        | Cause::ReferenceWrong => false,
+        Some(Role::Weight) => weight_cause(segment),
+        _ => None,
+    }
+}
+
+/// The least cause at a first container.
+fn container_cause(segment: &Segment) -> Option<Cause>
+    ensures { result ≡ container_cause segment.now }
+{
+    let id = component(segment, 2, 1);
+    let iso = component(segment, 3, 1);
+    if id.is_empty() {
+        Some(Cause::NoId)
+    } else if is_long(id) || is_long(iso) {
+        Some(Cause::NameTooLong)
+    } else if is_odd_type(iso) {
+        Some(Cause::LengthLeftOut)
+    } else {
+        None
+    }
+}
+
+/// The least cause at a weight.
+fn weight_cause(segment: &Segment) -> Option<Cause>
+    ensures { result ≡ weight_cause segment.now }
+{
+    if !is_text(component(segment, 3, 1), b"KGM") {
+        Some(Cause::UnitLeftOut)
+    } else if read_weight(component(segment, 3, 2)).is_none() {
+        Some(Cause::BadWeight)
+    } else {
+        None
     }
 }
 
@@ -119,19 +162,6 @@ fn is_iso(agency: &[u8]) -> bool
     ensures { result ≡ is_iso agency.now }
 {
     agency.is_empty() || is_text(agency, b"5")
-}
-
-/// Whether a name of the container, the first port or the first dangerous goods is too long.
-fn has_long_name(known: Prior, segment: &Segment) -> bool
-    ensures { result ≡ has_long_name known segment.now }
-{
-    let first = is_long(component(segment, 2, 1));
-    if Role::Container.has(segment) && (first || is_long(component(segment, 3, 1))) {
-        return true;
-    }
-    let port = Role::Port.has(segment) && !known.port;
-    let danger = Role::Danger.has(segment) && !known.danger;
-    (port || danger) && first
 }
 
 /// More bytes than a name has.

@@ -1,8 +1,8 @@
 //! The segments that a message is read from (SMDG BAPLIE 2.2).
-ghost use Rattle.std.specs.Prelude.{◌≡◌, ◌+◌, ◌<◌, ◌≤◌, drop, find, length, option_map};
+ghost use Rattle.std.specs.Prelude.{◌≡◌, ◌+◌, ◌<◌, ◌≤◌, true, codes, drop, find, length, option_map, None, Some, if◌then◌else◌};
 ghost use Rattle.std.specs.List.{list_any, position_or_len};
 ghost use Rattle.baplie_model.specs.Segments.{component, element, has_tag, is_coded, is_one, is_title, is_type, is_unt, is_unz, same_element, same_text};
-ghost use Rattle.baplie_read.specs.Roles.{has_role};
+ghost use Rattle.baplie_read.specs.Roles.{IsReadAs, has_role};
 
 use edifact_segments::Segment;
 
@@ -129,6 +129,18 @@ pub(crate) fn same_element(a: &Segment, n: usize, b: &Segment, m: usize) -> bool
     true
 }
 
+/// Whether an EQD is of a container or of breakbulk.
+fn equipment(segment: &Segment) -> Option<Role>
+    requires { has_tag segment.now (codes "EQD") ≡ true }
+    ensures { IsReadAs segment.now result }
+{
+    if Role::Container.has(segment) {
+        Some(Role::Container)
+    } else {
+        Role::Breakbulk.if_had(segment)
+    }
+}
+
 impl Role {
     /// Whether the segment has the role.
     pub(crate) fn has(self, segment: &Segment) -> bool
@@ -150,6 +162,31 @@ impl Role {
             Role::Cooled => is_coded(segment, b"TMP", b"2"),
             Role::Danger => has_tag(segment, b"DGS"),
         }
+    }
+
+    /// Which one a segment of a cell group is of container, breakbulk, port, weight and dangerous goods: what
+    /// may be a cause there. The tag is looked at first, since most segments are only kept.
+    pub(crate) fn read(segment: &Segment) -> Option<Role>
+        ensures { IsReadAs segment.now result }
+    {
+        if has_tag(segment, b"LOC") {
+            Role::Port.if_had(segment)
+        } else if has_tag(segment, b"MEA") {
+            Role::Weight.if_had(segment)
+        } else if has_tag(segment, b"EQD") {
+            equipment(segment)
+        } else if has_tag(segment, b"DGS") {
+            Some(Role::Danger)
+        } else {
+            None
+        }
+    }
+
+    /// The role, where the segment has it.
+    fn if_had(self, segment: &Segment) -> Option<Role>
+        ensures { result ≡ (if has_role self segment.now then Some self else None) }
+    {
+        if self.has(segment) { Some(self) } else { None }
     }
 
     /// The first segment with the role.

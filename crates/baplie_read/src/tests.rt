@@ -2,8 +2,9 @@
 use crate::{BaplieFault, Cause, Message, read_baplie};
 use edifact_segments::SegFault;
 use std::alloc::Global;
+use std::process::Abort;
 use std::test::Fail;
-use stow_data::{Bytes, Length};
+use stow_data::{Bytes, Length, NoMemory};
 
 /// A bay plan of one container.
 const PLAN: &[u8] = b"UNB+UNOA:2+LINE+SHIP+260131:0900+77'\r
@@ -41,6 +42,189 @@ UNZ*1*77~
 
 const START: &[u8] = b"UNB+UNOA:2+A+B+260131:0900+77'UNH+1+BAPLIE:D:95B:UN:SMDG22'";
 
+/// What stands behind the usual UNB and UNH, and its least fault.
+const FAULTS: &[(&[u8], u32, Cause)] = &[
+    (b"UNT+2+1'UNH+2'UNT+2+2'UNZ+1+77'", 4, Cause::ManyMessages),
+    (b"UNT+2+1'UNT+2+1'UNZ+1+77'", 4, Cause::ManyMessages),
+    (b"BGM'UNZ+1+77'", 4, Cause::NoUnt),
+    (b"UNZ+x+78'", 3, Cause::NoUnt),
+    (b"LOC+147+00201::5'UNT+3+1'UNZ+1+77'", 3, Cause::BadCell),
+    (b"LOC+147+00201020'UNT+3+1'UNZ+1+77'", 3, Cause::BadCell),
+    (b"LOC+147+A020102::9'UNT+3+1'UNZ+1+77'", 3, Cause::BadCell),
+    (
+        b"LOC+147+0020102::9'UNT+3+1'UNZ+1+77'",
+        3,
+        Cause::AgencyLeftOut,
+    ),
+    (
+        b"LOC+147+0020102::9'EQD+CN'UNT+3+1'UNZ+1+77'",
+        3,
+        Cause::AgencyLeftOut,
+    ),
+    (
+        b"LOC+147+0020102'MEA+WT++KGM:1'LOC+11+X'EQD+CN+A'EQD+CN'UNT+7+1'UNZ+1+77'",
+        7,
+        Cause::TwoContainers,
+    ),
+    (
+        b"LOC+147+0020102'EQD+BB'UNT+4+1'UNZ+1+77'",
+        4,
+        Cause::BreakbulkLeftOut,
+    ),
+    (
+        b"LOC+147+0020102'EQD+BB'MEA+WT++KGM:x'UNT+5+1'UNZ+1+77'",
+        4,
+        Cause::BreakbulkLeftOut,
+    ),
+    (
+        b"LOC+147+0020102'MEA+WT++KGM:x'EQD+BB'UNT+5+1'UNZ+1+77'",
+        4,
+        Cause::BadWeight,
+    ),
+    (
+        b"LOC+147+0020102'MEA+WT++KGM:1'LOC+11+X'EQD+CN++L5'UNT+6+1'UNZ+1+77'",
+        6,
+        Cause::NoId,
+    ),
+    (
+        b"LOC+147+0020102'LOC+11+ABCDEFGHIJKLMNOPQRSTUVWXYZ0123456789'UNT+4+1'UNZ+1+77'",
+        4,
+        Cause::NameTooLong,
+    ),
+    (
+        b"LOC+147+0020102'LOC+11+A'LOC+11+ABCDEFGHIJKLMNOPQRSTUVWXYZ0123456789'UNT+6+1'UNZ+1+77'",
+        6,
+        Cause::CountWrong { said: 6, found: 5 },
+    ),
+    (
+        b"LOC+147+0020102'DGS+IMD+ABCDEFGHIJKLMNOPQRSTUVWXYZ0123456789'UNT+4+1'UNZ+1+77'",
+        4,
+        Cause::NameTooLong,
+    ),
+    (
+        b"LOC+147+0020102'MEA+WT++KGM:1'LOC+11+X'EQD+CN+A+LBCDEFGHIJKLMNOPQRSTUVWXYZ0123456789'UNT+6+1'UNZ+1+77'",
+        6,
+        Cause::NameTooLong,
+    ),
+    (
+        b"LOC+147+0020102'MEA+WT++KGM:1'LOC+11+X'EQD+CN+A+L5G1'UNT+6+1'UNZ+1+77'",
+        6,
+        Cause::LengthLeftOut,
+    ),
+    (
+        b"LOC+147+0020102'MEA+WT++LBR:1'UNT+4+1'UNZ+1+77'",
+        4,
+        Cause::UnitLeftOut,
+    ),
+    (
+        b"LOC+147+0020102'MEA+VGM++LBR:x'UNT+4+1'UNZ+1+77'",
+        4,
+        Cause::UnitLeftOut,
+    ),
+    (
+        b"LOC+147+0020102'MEA+VGM++KGM:100000'UNT+4+1'UNZ+1+77'",
+        4,
+        Cause::BadWeight,
+    ),
+    (
+        b"LOC+147+0020102'MEA+VGM++KGM:99999,1'UNT+4+1'UNZ+1+77'",
+        4,
+        Cause::BadWeight,
+    ),
+    (
+        b"LOC+147+0020102'MEA+WT++KGM'UNT+4+1'UNZ+1+77'",
+        4,
+        Cause::BadWeight,
+    ),
+    (
+        b"LOC+147+0020102'MEA+WT++KGM:1.2.3'UNT+4+1'UNZ+1+77'",
+        4,
+        Cause::BadWeight,
+    ),
+    (
+        b"LOC+147+0020102'MEA+WT++KGM:1.'UNT+4+1'UNZ+1+77'",
+        4,
+        Cause::BadWeight,
+    ),
+    (
+        b"LOC+147+0020102'EQD+CN'UNT+4+1'UNZ+1+77'",
+        3,
+        Cause::NoWeightOrPort,
+    ),
+    (
+        b"LOC+147+0020102'MEA+WT++KGM:1'LOC+11'EQD+CN+A'UNT+6+1'UNZ+1+77'",
+        3,
+        Cause::NoWeightOrPort,
+    ),
+    (
+        b"LOC+147+0020102'EQD+BB'LOC+147+0020104'EQD+CN+A'UNT+6+1'UNZ+1+77'",
+        4,
+        Cause::BreakbulkLeftOut,
+    ),
+    (b"UNT+0000000002+1'UNZ+1+77'", 3, Cause::BadCount),
+    (b"UNT++2'UNZ+1+77'", 3, Cause::BadCount),
+    (b"UNT+2+1'UNZ+1:1+77'", 4, Cause::BadCount),
+    (
+        b"UNT+3+2'UNZ+1+77'",
+        3,
+        Cause::CountWrong { said: 3, found: 2 },
+    ),
+    (
+        b"UNT+3+1'UNZ+x+77'",
+        3,
+        Cause::CountWrong { said: 3, found: 2 },
+    ),
+    (
+        b"UNT+2+1'UNZ+2+77'",
+        4,
+        Cause::CountWrong { said: 2, found: 1 },
+    ),
+    (b"UNT+2+2'UNZ+1+78'", 3, Cause::ReferenceWrong),
+    (b"UNT+2+1'UNZ+1+77:1'", 4, Cause::ReferenceWrong),
+    (b"UNT+2+1'UNZ+1'", 4, Cause::ReferenceWrong),
+];
+
+/// Cell groups with one cause each, and its segment where the group stands behind UNH.
+const GROUPS: &[(&[u8], u32, Cause)] = &[
+    (b"LOC+147+021082X::5'", 3, Cause::BadCell),
+    (b"LOC+147+0021082::6'", 3, Cause::AgencyLeftOut),
+    (
+        b"LOC+147+0021082'EQD+CN+A'EQD+CN+B'MEA+WT++KGM:1'LOC+11+X'",
+        5,
+        Cause::TwoContainers,
+    ),
+    (b"LOC+147+0021082'EQD+BB'", 4, Cause::BreakbulkLeftOut),
+    (
+        b"LOC+147+0021082'MEA+WT++KGM:1'LOC+11+X'EQD+CN'",
+        6,
+        Cause::NoId,
+    ),
+    (
+        b"LOC+147+0021082'FTX'DGS+IMD+123456789012345678901234567890123456'",
+        5,
+        Cause::NameTooLong,
+    ),
+    (
+        b"LOC+147+0021082'MEA+WT++KGM:1'EQD+CN+A+G142'LOC+11+X'",
+        5,
+        Cause::LengthLeftOut,
+    ),
+    (b"LOC+147+0021082'MEA+VGM++TNE:1'", 4, Cause::UnitLeftOut),
+    (
+        b"LOC+147+0021082'MEA+VGM++KGM:1'MEA+WT++KGM:1.'",
+        5,
+        Cause::BadWeight,
+    ),
+    (b"LOC+147+0021082'EQD+CN+A'", 3, Cause::NoWeightOrPort),
+];
+
+/// UNTs that stand right behind UNH, with one cause each.
+const ENDS: &[(&[u8], Cause)] = &[
+    (b"UNT+x+1'", Cause::BadCount),
+    (b"UNT+3+1'", Cause::CountWrong { said: 3, found: 2 }),
+    (b"UNT+2+2'", Cause::ReferenceWrong),
+];
+
 /// Reads a short text.
 fn read(alloc: Global, bytes: &[u8]) -> Result<Message, BaplieFault> {
     if bytes.len() > 10_000 {
@@ -54,6 +238,22 @@ fn read_behind(alloc: Global, rest: &[u8]) -> Result<Message, BaplieFault> {
     let mut text = Bytes::of(alloc, START)?;
     text.extend(rest)?;
     read(alloc, text.as_slice())
+}
+
+/// Asserts the fault of what stands behind the usual UNB and UNH.
+fn assert_faulty(rt: &impl Abort, alloc: Global, rest: &[u8], segment: u32, cause: Cause) {
+    match read_behind(alloc, rest) {
+        Ok(_) => assert!(rt; false, "read {rest:?}"),
+        Err(found) => assert_eq!(rt; found, BaplieFault::At { segment, cause }, "in {rest:?}"),
+    }
+}
+
+/// Two texts and the usual UNZ.
+fn joined(alloc: Global, first: &[u8], second: &[u8]) -> Result<Bytes, NoMemory> {
+    let mut text = Bytes::of(alloc, first)?;
+    text.extend(second)?;
+    text.extend(b"UNZ+1+77'")?;
+    Ok(text)
 }
 
 #[test]
@@ -148,153 +348,8 @@ fn answers_where_a_plan_is_cut(rt: HostRuntime) -> Result<(), Fail> {
 
 #[test]
 fn answers_the_least_fault(rt: HostRuntime) -> Result<(), Fail> {
-    let faults: [(&[u8], u32, Cause); 38] = [
-        (b"UNT+2+1'UNH+2'UNT+2+2'UNZ+1+77'", 4, Cause::ManyMessages),
-        (b"UNT+2+1'UNT+2+1'UNZ+1+77'", 4, Cause::ManyMessages),
-        (b"BGM'UNZ+1+77'", 4, Cause::NoUnt),
-        (b"UNZ+x+78'", 3, Cause::NoUnt),
-        (b"LOC+147+00201::5'UNT+3+1'UNZ+1+77'", 3, Cause::BadCell),
-        (b"LOC+147+00201020'UNT+3+1'UNZ+1+77'", 3, Cause::BadCell),
-        (b"LOC+147+A020102::9'UNT+3+1'UNZ+1+77'", 3, Cause::BadCell),
-        (
-            b"LOC+147+0020102::9'UNT+3+1'UNZ+1+77'",
-            3,
-            Cause::AgencyLeftOut,
-        ),
-        (
-            b"LOC+147+0020102::9'EQD+CN'UNT+3+1'UNZ+1+77'",
-            3,
-            Cause::AgencyLeftOut,
-        ),
-        (
-            b"LOC+147+0020102'MEA+WT++KGM:1'LOC+11+X'EQD+CN+A'EQD+CN'UNT+7+1'UNZ+1+77'",
-            7,
-            Cause::TwoContainers,
-        ),
-        (
-            b"LOC+147+0020102'EQD+BB'UNT+4+1'UNZ+1+77'",
-            4,
-            Cause::BreakbulkLeftOut,
-        ),
-        (
-            b"LOC+147+0020102'EQD+BB'MEA+WT++KGM:x'UNT+5+1'UNZ+1+77'",
-            4,
-            Cause::BreakbulkLeftOut,
-        ),
-        (
-            b"LOC+147+0020102'MEA+WT++KGM:x'EQD+BB'UNT+5+1'UNZ+1+77'",
-            4,
-            Cause::BadWeight,
-        ),
-        (
-            b"LOC+147+0020102'MEA+WT++KGM:1'LOC+11+X'EQD+CN++L5'UNT+6+1'UNZ+1+77'",
-            6,
-            Cause::NoId,
-        ),
-        (
-            b"LOC+147+0020102'LOC+11+ABCDEFGHIJKLMNOPQRSTUVWXYZ0123456789'UNT+4+1'UNZ+1+77'",
-            4,
-            Cause::NameTooLong,
-        ),
-        (
-            b"LOC+147+0020102'LOC+11+A'LOC+11+ABCDEFGHIJKLMNOPQRSTUVWXYZ0123456789'UNT+6+1'UNZ+1+77'",
-            6,
-            Cause::CountWrong { said: 6, found: 5 },
-        ),
-        (
-            b"LOC+147+0020102'DGS+IMD+ABCDEFGHIJKLMNOPQRSTUVWXYZ0123456789'UNT+4+1'UNZ+1+77'",
-            4,
-            Cause::NameTooLong,
-        ),
-        (
-            b"LOC+147+0020102'MEA+WT++KGM:1'LOC+11+X'EQD+CN+A+LBCDEFGHIJKLMNOPQRSTUVWXYZ0123456789'UNT+6+1'UNZ+1+77'",
-            6,
-            Cause::NameTooLong,
-        ),
-        (
-            b"LOC+147+0020102'MEA+WT++KGM:1'LOC+11+X'EQD+CN+A+L5G1'UNT+6+1'UNZ+1+77'",
-            6,
-            Cause::LengthLeftOut,
-        ),
-        (
-            b"LOC+147+0020102'MEA+WT++LBR:1'UNT+4+1'UNZ+1+77'",
-            4,
-            Cause::UnitLeftOut,
-        ),
-        (
-            b"LOC+147+0020102'MEA+VGM++LBR:x'UNT+4+1'UNZ+1+77'",
-            4,
-            Cause::UnitLeftOut,
-        ),
-        (
-            b"LOC+147+0020102'MEA+VGM++KGM:100000'UNT+4+1'UNZ+1+77'",
-            4,
-            Cause::BadWeight,
-        ),
-        (
-            b"LOC+147+0020102'MEA+VGM++KGM:99999,1'UNT+4+1'UNZ+1+77'",
-            4,
-            Cause::BadWeight,
-        ),
-        (
-            b"LOC+147+0020102'MEA+WT++KGM'UNT+4+1'UNZ+1+77'",
-            4,
-            Cause::BadWeight,
-        ),
-        (
-            b"LOC+147+0020102'MEA+WT++KGM:1.2.3'UNT+4+1'UNZ+1+77'",
-            4,
-            Cause::BadWeight,
-        ),
-        (
-            b"LOC+147+0020102'MEA+WT++KGM:1.'UNT+4+1'UNZ+1+77'",
-            4,
-            Cause::BadWeight,
-        ),
-        (
-            b"LOC+147+0020102'EQD+CN'UNT+4+1'UNZ+1+77'",
-            3,
-            Cause::NoWeightOrPort,
-        ),
-        (
-            b"LOC+147+0020102'MEA+WT++KGM:1'LOC+11'EQD+CN+A'UNT+6+1'UNZ+1+77'",
-            3,
-            Cause::NoWeightOrPort,
-        ),
-        (
-            b"LOC+147+0020102'EQD+BB'LOC+147+0020104'EQD+CN+A'UNT+6+1'UNZ+1+77'",
-            4,
-            Cause::BreakbulkLeftOut,
-        ),
-        (b"UNT+0000000002+1'UNZ+1+77'", 3, Cause::BadCount),
-        (b"UNT++2'UNZ+1+77'", 3, Cause::BadCount),
-        (b"UNT+2+1'UNZ+1:1+77'", 4, Cause::BadCount),
-        (
-            b"UNT+3+2'UNZ+1+77'",
-            3,
-            Cause::CountWrong { said: 3, found: 2 },
-        ),
-        (
-            b"UNT+3+1'UNZ+x+77'",
-            3,
-            Cause::CountWrong { said: 3, found: 2 },
-        ),
-        (
-            b"UNT+2+1'UNZ+2+77'",
-            4,
-            Cause::CountWrong { said: 2, found: 1 },
-        ),
-        (b"UNT+2+2'UNZ+1+78'", 3, Cause::ReferenceWrong),
-        (b"UNT+2+1'UNZ+1+77:1'", 4, Cause::ReferenceWrong),
-        (b"UNT+2+1'UNZ+1'", 4, Cause::ReferenceWrong),
-    ];
-    for (bytes, segment, cause) in faults {
-        match read_behind(rt.alloc(), bytes) {
-            Ok(_) => assert!(rt; false, "read {bytes:?}"),
-            Err(found) => {
-                assert_eq!(rt; found, BaplieFault::At { segment, cause }, "in {bytes:?}")
-            }
-        }
+    for (bytes, segment, cause) in FAULTS {
+        assert_faulty(&rt, rt.alloc(), bytes, *segment, *cause);
     }
     Ok(())
 }
@@ -319,5 +374,50 @@ fn answers_what_is_no_bay_plan(rt: HostRuntime) -> Result<(), Fail> {
             }
         }
     }
+    Ok(())
+}
+
+#[test]
+fn answers_the_first_of_two_groups(rt: HostRuntime) -> Result<(), Fail> {
+    let alloc = rt.alloc();
+    for (first, segment, cause) in GROUPS {
+        for (second, _, _) in GROUPS {
+            let text = joined(alloc, first, second)?;
+            assert_faulty(&rt, alloc, text.as_slice(), *segment, *cause);
+        }
+    }
+    Ok(())
+}
+
+#[test]
+fn answers_the_first_of_a_group_and_an_end(rt: HostRuntime) -> Result<(), Fail> {
+    let alloc = rt.alloc();
+    for (group, segment, cause) in GROUPS {
+        for (end, fault) in ENDS {
+            let group_first = joined(alloc, group, end)?;
+            assert_faulty(&rt, alloc, group_first.as_slice(), *segment, *cause);
+            let end_first = joined(alloc, end, group)?;
+            assert_faulty(&rt, alloc, end_first.as_slice(), 3, *fault);
+        }
+        let no_unt = joined(alloc, group, b"")?;
+        assert_faulty(&rt, alloc, no_unt.as_slice(), *segment, *cause);
+        let behind_unt = joined(alloc, b"UNT+2+1'", group)?;
+        assert_faulty(&rt, alloc, behind_unt.as_slice(), 4, Cause::ManyMessages);
+    }
+    Ok(())
+}
+
+#[test]
+fn answers_a_wrong_count(rt: HostRuntime) -> Result<(), Fail> {
+    let mut text = Bytes::of(rt.alloc(), PLAN.get(..412).ok_or("too short")?)?;
+    text.extend(b"UNT+16+1'\r\nUNZ+1+77'\r\n")?;
+    let fault = BaplieFault::At {
+        segment: 18,
+        cause: Cause::CountWrong {
+            said: 16,
+            found: 17,
+        },
+    };
+    assert_eq!(rt; read(rt.alloc(), text.as_slice()).err(), Some(fault));
     Ok(())
 }

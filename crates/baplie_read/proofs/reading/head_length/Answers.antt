@@ -1,4 +1,4 @@
-use Rattle.std.proofs.Common.{◌≡◌, ◌+◌, arith}
+use Rattle.std.proofs.Common.{arith}
 use Rattle.baplie_read.proofs.Cuts.{length-head}
 use Rattle.baplie_read.proofs.reading.head_length.Goals as goal
 

@@ -1,6 +1,6 @@
 use Rattle.std.proofs.Common.{◌∙◌, sym, ap, refl, arith, ◌-◌, [], ◌∷◌, ◌++◌, take, drop, List}
 use Rattle.edifact_segments.specs.declared.segments.Segment.{Segment}
-use Rattle.baplie_read.proofs.Cuts.{Knows, knows-first, knows-next, fault-at, knows-all, head-within}
+use Rattle.baplie_read.proofs.Cuts.{knows-first, knows-next, fault-at, head-within}
 use Rattle.baplie_read.proofs.reading.read_groups.Goals as goal
 
 pub loop-at-init : goal.loop-at-init
