@@ -1,0 +1,7 @@
+use Rattle.std.proofs.Common.{arith}
+use Rattle.baplie_write.proofs.tests.rewritten.Goals as goal
+
+pub write_baplie-requires : goal.write_baplie-requires
+write_baplie-requires c =
+    let read = c.in_ok-message.ensures.read in
+    c.read_is_whole.ensures c.args.bytes.now read.segments c.in_ok-message.message (omega arith) read.interchange read.is_message

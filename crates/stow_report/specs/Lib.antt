@@ -1,0 +1,3 @@
+pub mod Refusals
+pub mod Faults
+pub mod Listings

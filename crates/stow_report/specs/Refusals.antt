@@ -1,0 +1,34 @@
+-- The text of a refusal.
+use Rattle.std.specs.Prelude.{ℕ, Bool, true, false, codes, List, [], ◌∷◌, ◌++◌, flat_map}
+use Rattle.std.specs.Fmt.{decimal, signed_decimal}
+use Rattle.stow_report.specs.declared.lines.Group.{Group}
+use Rattle.stow_report.specs.declared.lines.Group.TheVariants.{Words, Profile, Bookings, Edifact, Baplie, Arrival, Large, Cert, Plan, Bound, Numbers}
+use Rattle.stow_report.specs.declared.lines.Field.{Field}
+use Rattle.stow_report.specs.declared.lines.Field.TheVariants.{Number, Named}
+use Rattle.stow_report.specs.declared.lines.Line.{Line}
+
+abbrev pub group_word : Group → List ℕ
+group_word Words = codes "words"
+group_word Profile = codes "profile"
+group_word Bookings = codes "bookings"
+group_word Edifact = codes "edifact"
+group_word Baplie = codes "baplie"
+group_word Arrival = codes "arrival"
+group_word Large = codes "large"
+group_word Cert = codes "cert"
+group_word Plan = codes "plan"
+group_word Bound = codes "bound"
+group_word Numbers = codes "numbers"
+
+-- numbers in decimal, names as they are
+abbrev pub field_text : Field → List ℕ
+field_text (Number n) = signed_decimal n
+field_text (Named name) = name
+
+abbrev pub opening : Bool → List ℕ
+opening true = codes "check no "
+opening false = codes "refused "
+
+-- the group, the number and the fields, each behind a space, and a line feed
+abbrev pub refusal_text : Line → List ℕ
+refusal_text line = opening line.checked ++ group_word line.group ++ 32 ∷ decimal line.number ++ flat_map (λ f. 32 ∷ field_text f) line.fields ++ 10 ∷ []

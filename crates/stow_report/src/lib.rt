@@ -1,0 +1,15 @@
+//! The texts that are printed of what is refused, and of a bay plan.
+#![tactic(auto)]
+
+mod faults;
+mod law;
+mod lines;
+mod listings;
+
+pub use faults::{interchange_line, message_line};
+pub use law::read_is_listable;
+pub use lines::{Field, FieldList, Group, Line, refusal};
+pub use listings::listing;
+
+#[cfg(test)]
+mod tests;
