@@ -1,0 +1,10 @@
+pub mod Ranges
+pub mod Columns
+pub mod Choosing
+pub mod Loading
+pub mod Quays
+pub mod Sound
+pub mod Weights
+pub mod Leaving
+pub mod Stowed
+pub mod Sailing

@@ -1,0 +1,165 @@
+-- The departure file of a call: its segments and its text (ISO 9735, SMDG BAPLIE 2.2).
+use Rattle.std.specs.Prelude.{◌≡◌, ◌<◌, slice_get, ℕ, ◌+◌, ◌-◌, ◌/◌, ◌%◌, codes, List, [], ◌∷◌, ◌++◌, length, map, flat_map, take, drop, Option, Some, None, slice_index_or}
+use Rattle.std.specs.Fmt.{decimal}
+use Rattle.edifact_segments.specs.declared.segments.Segment.{Segment}
+use Rattle.edifact_segments.specs.Written.{written}
+use Rattle.stow_data.specs.declared.geometry.Stack.{Stack}
+use Rattle.stow_data.specs.declared.geometry.Lengths.TheVariants as offers
+use Rattle.stow_data.specs.declared.shipments.Container.{Container}
+use Rattle.stow_data.specs.declared.shipments.Origin.{Origin}
+use Rattle.stow_data.specs.declared.shipments.Origin.TheVariants.{Arrived, Booked}
+use Rattle.stow_data.specs.Ship.{Ship, number_in}
+use Rattle.stow_data.specs.Shipment.{Cargo}
+use Rattle.voyage_specs.specs.Shown.{CellGroup}
+use Rattle.plain_inputs.specs.declared.bookings_text.Booking.{Booking}
+use Rattle.plain_inputs.specs.declared.bookings_text.Bookings.{Bookings}
+use Rattle.greedy_loader.specs.Loader.{Stowage, place_at, container_at, held, place_numbers}
+
+-- what stands for a number past the end of a list
+abbrev pub no_stack : Stack
+no_stack = record { bay = 0; row = 0; lowest = 0; tiers = 0; lengths = offers.Forty; limit_kg = 0; plugs = [] }
+
+abbrev pub no_booking : Booking
+no_booking = record { id = []; load = 0; dest = 0; iso = []; kg = 0 }
+
+-- the port of a call
+abbrev pub port_of : Cargo → ℕ → List ℕ
+port_of cargo call = slice_index_or cargo.rotation (call - 1) []
+
+-- bay, row and tier number of a place
+abbrev pub number_at : Ship → ℕ → ℕ × ℕ × ℕ
+number_at ship p = number_in (slice_index_or ship.stacks (place_at ship p).stack no_stack) (place_at ship p)
+
+-- the booking that a container comes from
+abbrev pub booking_of : Bookings → Origin → Booking
+booking_of bookings (Booked k) = slice_index_or bookings.containers k no_booking
+booking_of bookings (Arrived k) = no_booking
+
+-- a container in its cell
+pub record Group : Type 0 where
+  pub cell : CellGroup
+  pub load_port : List ℕ
+  pub iso : List ℕ
+  pub kg : ℕ
+
+abbrev pub group_of : Ship → Cargo → Bookings → ℕ → Container → Group
+group_of ship cargo bookings p c = record {
+  cell = record { bay = (number_at ship p).0; row = (number_at ship p).1; tier = (number_at ship p).2; id = c.id; port = port_of cargo c.dest };
+  load_port = port_of cargo c.load;
+  iso = (booking_of bookings c.origin).iso;
+  kg = c.kg;
+}
+
+-- the group of what stands at a place
+abbrev pub group_at : Ship → Cargo → Bookings → ℕ → Option ℕ → List Group
+group_at ship cargo bookings p None = []
+group_at ship cargo bookings p (Some c) = group_of ship cargo bookings p (container_at cargo c) ∷ []
+
+-- the groups of a plan, in the order of their places
+unfoldable pub groups : Ship → Cargo → Bookings → Stowage → List Group
+groups ship cargo bookings plan = flat_map (λ p. group_at ship cargo bookings p (held plan p)) (place_numbers ship)
+
+-- the facts of its cell groups
+abbrev pub cells : Ship → Cargo → Bookings → Stowage → List CellGroup
+cells ship cargo bookings plan = map (λ g. g.cell) (groups ship cargo bookings plan)
+
+abbrev pub segment : List ℕ → List (List (List ℕ)) → Segment
+segment tag elements = record { tag = tag; elements = elements }
+
+-- an element of one component
+abbrev pub one : List ℕ → List (List ℕ)
+one text = text ∷ []
+
+-- a port, as in LOC
+abbrev pub port_element : List ℕ → List (List ℕ)
+port_element port = port ∷ codes "139" ∷ codes "6" ∷ []
+
+-- UNB+UNOA:2+STOW+STOW+YYMMDD:HHMM+call
+unfoldable pub unb : List ℕ → ℕ → Segment
+unb date call = segment (codes "UNB") ((codes "UNOA" ∷ codes "2" ∷ []) ∷ one (codes "STOW") ∷ one (codes "STOW") ∷ (take 6 date ∷ drop 6 date ∷ []) ∷ one (decimal call) ∷ [])
+
+-- UNH+1+BAPLIE:D:95B:UN:SMDG22
+unfoldable pub unh : Segment
+unh = segment (codes "UNH") (one (codes "1") ∷ (codes "BAPLIE" ∷ codes "D" ∷ codes "95B" ∷ codes "UN" ∷ codes "SMDG22" ∷ []) ∷ [])
+
+-- BGM++call+9
+unfoldable pub bgm : ℕ → Segment
+bgm call = segment (codes "BGM") ([] ∷ one (decimal call) ∷ one (codes "9") ∷ [])
+
+-- DTM+137:date:201, with the qualifier 137 or 133
+unfoldable pub dtm : List ℕ → List ℕ → Segment
+dtm qualifier date = segment (codes "DTM") ((qualifier ∷ date ∷ codes "201" ∷ []) ∷ [])
+
+-- TDT+20+voyage++++++:::vessel
+unfoldable pub tdt : List ℕ → List ℕ → Segment
+tdt voyage vessel = segment (codes "TDT") (one (codes "20") ∷ one voyage ∷ [] ∷ [] ∷ [] ∷ [] ∷ [] ∷ ([] ∷ [] ∷ [] ∷ vessel ∷ []) ∷ [])
+
+-- LOC+5+port:139:6, with the qualifier 5, 61, 9 or 11
+unfoldable pub loc : List ℕ → List ℕ → Segment
+loc qualifier port = segment (codes "LOC") (one qualifier ∷ port_element port ∷ [])
+
+-- the segments before the groups, behind UNB
+unfoldable pub head : Cargo → Bookings → ℕ → List Segment
+head cargo bookings call =
+    unh ∷ bgm call ∷ dtm (codes "137") bookings.date ∷ tdt bookings.voyage bookings.vessel
+    ∷ loc (codes "5") (port_of cargo call) ∷ loc (codes "61") (port_of cargo (call + 1)) ∷ dtm (codes "133") bookings.date ∷ []
+
+abbrev pub digit : ℕ → ℕ
+digit n = 48 + n % 10
+
+-- a bay, row and tier number in seven digits: three of the bay, two of the row, two of the tier
+abbrev pub cell_text : ℕ × ℕ × ℕ → List ℕ
+cell_text cell = digit (cell.0 / 100) ∷ digit (cell.0 / 10) ∷ digit cell.0 ∷ digit (cell.1 / 10) ∷ digit cell.1 ∷ digit (cell.2 / 10) ∷ digit cell.2 ∷ []
+
+-- LOC+147+cell::5
+unfoldable pub cell_segment : ℕ × ℕ × ℕ → Segment
+cell_segment cell = segment (codes "LOC") (one (codes "147") ∷ (cell_text cell ∷ [] ∷ codes "5" ∷ []) ∷ [])
+
+-- MEA+WT++KGM:kg
+unfoldable pub mea : ℕ → Segment
+mea kg = segment (codes "MEA") (one (codes "WT") ∷ [] ∷ (codes "KGM" ∷ decimal kg ∷ []) ∷ [])
+
+-- RFF+BM:1
+unfoldable pub rff : Segment
+rff = segment (codes "RFF") ((codes "BM" ∷ codes "1" ∷ []) ∷ [])
+
+-- EQD+CN+id+type+++5
+unfoldable pub eqd : List ℕ → List ℕ → Segment
+eqd id iso = segment (codes "EQD") (one (codes "CN") ∷ one id ∷ one iso ∷ [] ∷ [] ∷ one (codes "5") ∷ [])
+
+-- the segments of a container in its cell
+unfoldable pub group_segments : Group → List Segment
+group_segments g =
+    cell_segment (g.cell.bay, g.cell.row, g.cell.tier) ∷ mea g.kg ∷ loc (codes "9") g.load_port ∷ loc (codes "11") g.cell.port ∷ rff ∷ eqd g.cell.id g.iso ∷ []
+
+-- UNT+count+1: the segments from UNH to UNT; each group has six
+unfoldable pub unt : ℕ → Segment
+unt count = segment (codes "UNT") (one (decimal count) ∷ one (codes "1") ∷ [])
+
+-- UNZ+1+call
+unfoldable pub unz : ℕ → Segment
+unz call = segment (codes "UNZ") (one (codes "1") ∷ one (decimal call) ∷ [])
+
+-- the segments from UNH to the one before UNT
+abbrev pub message : Cargo → Bookings → ℕ → List Group → List Segment
+message cargo bookings call gs = head cargo bookings call ++ flat_map group_segments gs
+
+-- all segments of the file
+abbrev pub file_segments : Cargo → Bookings → ℕ → List Group → List Segment
+file_segments cargo bookings call gs =
+    unb bookings.date call ∷ message cargo bookings call gs ++ unt (length (message cargo bookings call gs) + 1) ∷ unz call ∷ []
+
+-- the written forms of segments, one after the other
+unfoldable pub text_of : Segment → List ℕ
+text_of s = written s
+
+abbrev pub texts : List Segment → List ℕ
+texts segments = flat_map text_of segments
+
+-- the text of the file
+unfoldable pub file_text : Cargo → Bookings → ℕ → List Group → List ℕ
+file_text cargo bookings call gs = texts (file_segments cargo bookings call gs)
+
+-- every container of the plan is one of the cargo
+abbrev pub IsKnown : Cargo → Stowage → Type 0
+IsKnown cargo plan = (p c : ℕ) → slice_get plan p ≡ Some (Some c) → c < length cargo.containers
