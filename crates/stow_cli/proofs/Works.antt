@@ -1,6 +1,6 @@
 -- The files of a voyage, made one after the other.
-use Rattle.std.proofs.Common.{◌≡◌, ℕ, zero, suc, ◌+◌, ◌<◌, ◌≤◌, List, [], ◌∷◌, ◌++◌, length, get_or, drop, refl, sym, ◌∙◌, ap, arith, append_assoc, Some, None}
-use Rattle.std.specs.Prelude.{codes, slice_get, slice_index_or, All, IsTrue, nat_le, ◌&&◌}
+use Rattle.std.proofs.Common.{◌≡◌, ℕ, zero, suc, ◌+◌, ◌<◌, ◌≤◌, List, [], ◌∷◌, ◌++◌, length, get_or, drop, refl, sym, subst, ◌∙◌, ap, arith, append_assoc, Some, None}
+use Rattle.std.specs.Prelude.{All, IsTrue, nat_le}
 use Rattle.std.proofs.lemmas.Fmt.{decimal_digit}
 use Rattle.std.proofs.lemmas.Bool.{and_parts, leb-true}
 use Rattle.std.proofs.lemmas.List.{append-nil, drop_all, drop_more}
@@ -8,19 +8,22 @@ use Rattle.std.proofs.lemmas.Option.{slice_get_within}
 use Rattle.stow_data.specs.Ship.{Ship, places}
 use Rattle.stow_data.specs.Shipment.{Cargo}
 use Rattle.voyage_specs.specs.Departure.{AreDepartures}
-use Rattle.stow_cli.specs.declared.plain_bookings.Bookings.{Bookings}
+use Rattle.plain_inputs.specs.declared.bookings_text.Bookings.{Bookings}
 use Rattle.stow_cli.specs.declared.writing.NamedFile.{NamedFile}
-use Rattle.stow_cli.specs.Loader.{Stowage, load}
-use Rattle.stow_cli.specs.Keys.{is_between}
-use Rattle.stow_cli.specs.PlainBookings.{is_date, is_digit}
-use Rattle.stow_cli.specs.DepartureFile.{IsKnown}
-use Rattle.stow_cli.specs.Work.{file_of, files_of, work_of_plans, work_for, report}
+use Rattle.greedy_loader.specs.Loader.{Stowage, load}
+use Rattle.plain_inputs.specs.Keys.{is_between}
+use Rattle.plain_inputs.specs.PlainBookings.{IsBookings, is_date}
+use Rattle.plan_files.specs.DepartureFile.{IsKnown}
+use Rattle.stow_cli.specs.Work.{file_of, files_of, all_files, head, leaf, work_of_plans, work_for, report}
 use Rattle.stow_cli.specs.declared.work.Work.{Work}
-use Rattle.stow_cli.specs.Plain.{IsPlainShip, IsPlainCargo}
-use Rattle.stow_cli.specs.PlainBookings.{plain_cargo}
-use Rattle.stow_cli.specs.Voyages.{Sails, report_of}
-use Rattle.stow_cli.proofs.Sailing.{load_is_legal, load_has_count}
-use Rattle.stow_cli.proofs.Showing.{groups_legal}
+use Rattle.plain_voyages.specs.Plain.{IsPlainShip, IsPlainCargo}
+use Rattle.plain_inputs.specs.PlainBookings.{plain_cargo}
+use Rattle.stow_cli.specs.Voyages.{Sails, report_of, voyage}
+use Rattle.stow_cli.proofs.Bounds.{leaf_proves, zero_bounds}
+use Rattle.stow_cli.proofs.Messages.{messages_of, all_shown, all_read}
+use Rattle.voyage_specs.specs.Shown.{CellGroup, IsLegalFileSet}
+use Rattle.greedy_loader.proofs.Sailing.{load_is_legal, load_has_count}
+use Rattle.plan_files.proofs.Showing.{groups_legal}
 
 pub files_more : (base : List ℕ) (ship : Ship) (cargo : Cargo) (bookings : Bookings) (call : ℕ) (front total : List NamedFile) (plans : List Stowage) (i : ℕ) (plan : Stowage) → i < length plans → plan ≡ get_or plans i plan
     → front ++ files_of base ship cargo bookings call (drop i plans) ≡ total → (front ++ file_of base ship cargo bookings call plan ∷ []) ++ files_of base ship cargo bookings (call + 1) (drop (i + 1) plans) ≡ total
@@ -65,18 +68,35 @@ are_planned ship cargo plans plain_ship plain h =
     let each = legal.2 in
     record { departs = omega arith; whole = departures_whole ship cargo 1 plans legal.0; known = departures_known ship cargo 1 plans legal.0 }
 
-pub sails_from : (base : List ℕ) (ship : Ship) (booked : Bookings) (plans : List Stowage) (work : Work) → IsPlainShip ship → IsPlainCargo ship (plain_cargo ship booked) → load ship (plain_cargo ship booked) ≡ Some plans
-    → work.files ≡ files_of base ship (plain_cargo ship booked) booked 1 plans → work.report ≡ report → Sails base ship booked work
-sails_from base ship booked plans work plain_ship plain h files reported =
+-- the report's numbers in decimal
+report_is : report ≡ report_of 0 0 1
+report_is =
+    let zero_is = decimal_digit 0 (omega arith) in
+    let one_is = decimal_digit 1 (omega arith) in
+    rw (zero_is, one_is)
+
+pub sails_from : (base : List ℕ) (ship : Ship) (booked : Bookings) (plans : List Stowage) (work : Work) → IsPlainShip ship → IsBookings booked → IsPlainCargo ship (plain_cargo ship booked) → load ship (plain_cargo ship booked) ≡ Some plans
+    → work.files ≡ all_files base ship (plain_cargo ship booked) booked plans → work.report ≡ report → Sails base ship booked work
+sails_from base ship booked plans work plain_ship plain_bookings plain h files reported =
     let legal = load_is_legal ship (plain_cargo ship booked) plans plain_ship plain h in
+    let each = legal.2 in
     record {
       departures = plans;
+      head = head;
+      tree = leaf ∷ [];
       files = files;
-      shown = groups_legal ship (plain_cargo ship booked) booked plans plain_ship.rules plain.rules legal.2 legal.0;
+      messages = messages_of ship booked 1 plans;
+      read = all_read base ship booked 1 plans plain_ship.rules plain_bookings (departures_known ship (plain_cargo ship booked) 1 plans legal.0) (omega (arith, each));
+      shown = subst (λ (ms : List (List CellGroup)). IsLegalFileSet ship (plain_cargo ship booked) ms plans) (sym (all_shown ship booked 1 plans)) (groups_legal ship (plain_cargo ship booked) booked plans plain_ship.rules plain.rules legal.2 legal.0);
       rehandles = 0;
       count = load_has_count ship (plain_cargo ship booked) plans plain_ship plain h;
       none = refl;
-      report = reported ∙ sym (ap (λ (d : List ℕ). codes "outcome optimal\nrehandles " ++ d ++ codes "\nbound 0\nnodes 1\n") (decimal_digit 0 (omega arith)));
+      bound = 0;
+      equal = refl;
+      head_is = refl;
+      proves = leaf_proves (voyage ship booked);
+      bounds = zero_bounds (voyage ship booked);
+      report = reported ∙ report_is;
     }
 
 pub work_from : (base : List ℕ) (ship : Ship) (booked : Bookings) (plans : List Stowage) → load ship (plain_cargo ship booked) ≡ Some plans → work_for base ship booked ≡ Some (work_of_plans base ship (plain_cargo ship booked) booked plans)

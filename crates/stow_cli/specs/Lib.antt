@@ -1,12 +1,9 @@
-pub mod Loader
-pub mod Plain
-pub mod DepartureFile
-pub mod Keys
-pub mod PlainProfile
-pub mod PlainBookings
+pub mod Asked
+pub mod Inputs
 pub mod Work
 pub mod Voyages
-pub mod Planned
+pub mod Lines
+pub mod Answers
 pub mod Named
 pub mod Writing
 pub mod Ends

@@ -1,35 +1,73 @@
 -- What the files of a plan mean: the departures of a legal voyage, and their rehandle count.
-use Rattle.std.specs.Prelude.{◌≡◌, ℕ, codes, List, ◌++◌, map, Some}
+use Rattle.std.specs.Prelude.{◌≡◌, ℕ, Bool, codes, List, [], ◌∷◌, ◌++◌, map, flat_map, length, Option, Some, None, pos, ◌≤ℤ◌}
 use Rattle.std.specs.Fmt.{decimal}
 use Rattle.stow_data.specs.Ship.{Ship}
 use Rattle.voyage_specs.specs.Plan.{Plan}
-use Rattle.voyage_specs.specs.Shown.{IsLegalFileSet}
+use Rattle.voyage_specs.specs.Shown.{CellGroup, IsLegalFileSet}
+use Rattle.baplie_model.specs.declared.parts.CellGroup as baplie
+use Rattle.baplie_model.specs.declared.parts.Facts.{Facts}
+use Rattle.baplie_model.specs.declared.parts.Message.{Message}
+use Rattle.baplie_read.specs.Reading.{IsMessageOf}
+use Rattle.stow_cli.specs.declared.writing.NamedFile.{NamedFile}
 use Rattle.voyage_specs.specs.Voyage.{HasCount}
-use Rattle.stow_cli.specs.declared.plain_bookings.Bookings.{Bookings}
+use Rattle.plain_inputs.specs.declared.bookings_text.Bookings.{Bookings}
 use Rattle.stow_cli.specs.declared.work.Work.{Work}
-use Rattle.stow_cli.specs.PlainProfile.{plain_ship}
-use Rattle.stow_cli.specs.PlainBookings.{plain_bookings, plain_cargo}
-use Rattle.stow_cli.specs.DepartureFile.{cells}
-use Rattle.stow_cli.specs.Work.{files_of}
+use Rattle.plain_inputs.specs.PlainBookings.{plain_cargo}
+use Rattle.stow_cli.specs.Work.{files_of, cert_file}
+use Rattle.proof_trees.specs.Program.{cost_of}
+use Rattle.zero_one_rows.specs.Variables.{Voyage}
+use Rattle.zero_one_rows.specs.Rows.{base, IsSolution}
+use Rattle.certificate.specs.declared.tree.Head.{Head}
+use Rattle.certificate.specs.declared.tree.Outcome.TheVariants.{Optimal}
+use Rattle.certificate.specs.declared.tree.Record.{Record}
+use Rattle.bound_checker.specs.Entries.{ProvesBound}
 
--- the report of a plan that rehandles so many containers and needs no search
-abbrev pub report_of : ℕ → List ℕ
-report_of rehandles = codes "outcome optimal\nrehandles " ++ decimal rehandles ++ codes "\nbound 0\nnodes 1\n"
+-- what a cell group shows: its cell, and the number and the port of discharge of its container, where it has one
+abbrev pub shown_at : ℕ → ℕ → ℕ → Option Facts → List CellGroup
+shown_at bay row tier None = []
+shown_at bay row tier (Some f) = record { bay = bay; row = row; tier = tier; id = f.id; port = f.dest } ∷ []
 
--- The files are the departure files of calls 1 to N-1. Their cell groups show legal departures, which are those of a legal voyage. Their rehandle count, the least of all legal voyages with these departures, is the reported number, 0.
+abbrev pub shown_in : baplie.CellGroup → List CellGroup
+shown_in g = shown_at g.bay g.row g.tier g.facts
+
+-- what a bay plan message shows
+abbrev pub shown_by : Message → List CellGroup
+shown_by m = flat_map shown_in m.groups
+
+-- each file is the text of an interchange, and that of its bay plan message
+abbrev pub ReadAs : List NamedFile → List Message → Type 0
+ReadAs [] [] = Unit {0}
+ReadAs (f ∷ fs) (m ∷ ms) = IsMessageOf f.bytes m × ReadAs fs ms
+ReadAs [] (m ∷ ms) = ⊥
+ReadAs (f ∷ fs) [] = ⊥
+
+-- the voyage whose 0-1 program is the question
+abbrev pub voyage : Ship → Bookings → Voyage
+voyage ship booked = record { ship = ship; cargo = plain_cargo ship booked }
+
+-- every solution of the voyage's 0-1 program costs at least the bound
+abbrev pub IsBound : Voyage → ℕ → Type 0
+IsBound m bound = (x : ℕ → Bool) → IsSolution m x → pos bound ≤ℤ cost_of (base m) x
+
+-- the report of an optimal plan
+abbrev pub report_of : ℕ → ℕ → ℕ → List ℕ
+report_of rehandles bound nodes = codes "outcome optimal\nrehandles " ++ (decimal rehandles ++ (codes "\nbound " ++ (decimal bound ++ (codes "\nnodes " ++ (decimal nodes ++ codes "\n")))))
+
+-- The files are the departure files of calls 1 to N-1, and the certificate. The departure files read as bay plan messages, which show legal departures; these are those of a legal voyage. Their rehandle count, the least of all legal voyages with these departures, is the printed number, 0. The certificate's head has the printed numbers, and its tree proves the printed bound, below which no solution of the 0-1 program costs.
 pub record Sails (base : List ℕ) (ship : Ship) (booked : Bookings) (work : Work) : Type 0 where
   pub departures : List Plan
-  pub files : work.files ≡ files_of base ship (plain_cargo ship booked) booked 1 departures
-  pub shown : IsLegalFileSet ship (plain_cargo ship booked) (map (cells ship (plain_cargo ship booked) booked) departures) departures
+  pub head : Head
+  pub tree : List Record
+  pub files : work.files ≡ files_of base ship (plain_cargo ship booked) booked 1 departures ++ cert_file base head tree ∷ []
+  pub messages : List Message
+  pub read : ReadAs (files_of base ship (plain_cargo ship booked) booked 1 departures) messages
+  pub shown : IsLegalFileSet ship (plain_cargo ship booked) (map shown_by messages) departures
   pub rehandles : ℕ
   pub count : HasCount ship (plain_cargo ship booked) departures rehandles
   pub none : rehandles ≡ 0
-  pub report : work.report ≡ report_of rehandles
-
--- the files of the work are those of a voyage of the ship and the cargo that these bytes give
-pub record IsSailed (base profile bookings : List ℕ) (work : Work) : Type 0 where
-  pub ship : Ship
-  pub ship_is : plain_ship profile ≡ Some ship
-  pub booked : Bookings
-  pub booked_is : plain_bookings bookings ≡ Some booked
-  pub sails : Sails base ship booked work
+  pub bound : ℕ
+  pub equal : bound ≡ rehandles
+  pub head_is : head ≡ record { outcome = Optimal; rehandles = Some rehandles; bound = bound; nodes = length tree }
+  pub proves : ProvesBound (voyage ship booked) tree bound
+  pub bounds : IsBound (voyage ship booked) bound
+  pub report : work.report ≡ report_of rehandles bound (length tree)

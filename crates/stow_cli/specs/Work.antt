@@ -1,14 +1,19 @@
 -- The files and the report for a ship and its bookings.
-use Rattle.std.specs.Prelude.{ℕ, ◌+◌, ◌/◌, ◌%◌, codes, List, [], ◌∷◌, ◌++◌, Option, option_map}
+use Rattle.std.specs.Prelude.{ℕ, ◌+◌, ◌/◌, ◌%◌, false, codes, List, [], ◌∷◌, ◌++◌, Option, Some, option_map}
 use Rattle.std.specs.Fmt.{decimal}
 use Rattle.stow_data.specs.Ship.{Ship}
 use Rattle.stow_data.specs.Shipment.{Cargo}
-use Rattle.stow_cli.specs.declared.plain_bookings.Bookings.{Bookings}
+use Rattle.plain_inputs.specs.declared.bookings_text.Bookings.{Bookings}
 use Rattle.stow_cli.specs.declared.writing.NamedFile.{NamedFile}
 use Rattle.stow_cli.specs.declared.work.Work.{Work}
-use Rattle.stow_cli.specs.Loader.{Stowage, load}
-use Rattle.stow_cli.specs.PlainBookings.{plain_cargo}
-use Rattle.stow_cli.specs.DepartureFile.{groups, file_text}
+use Rattle.greedy_loader.specs.Loader.{Stowage, load}
+use Rattle.plain_inputs.specs.PlainBookings.{plain_cargo}
+use Rattle.plan_files.specs.DepartureFile.{groups, file_text}
+use Rattle.certificate.specs.declared.tree.End.TheVariants.{Leaf}
+use Rattle.certificate.specs.declared.tree.Head.{Head}
+use Rattle.certificate.specs.declared.tree.Outcome.TheVariants.{Optimal}
+use Rattle.certificate.specs.declared.tree.Record.{Record}
+use Rattle.certificate.specs.Text.{cert_text}
 
 -- the call in two digits
 abbrev pub two_digits : ℕ → List ℕ
@@ -26,11 +31,30 @@ unfoldable pub files_of : List ℕ → Ship → Cargo → Bookings → ℕ → L
 files_of base ship cargo bookings call [] = []
 files_of base ship cargo bookings call (plan ∷ plans) = file_of base ship cargo bookings call plan ∷ files_of base ship cargo bookings (call + 1) plans
 
+abbrev pub cert_name : List ℕ → List ℕ
+cert_name base = base ++ codes ".cert"
+
+-- a certificate, under its name
+abbrev pub cert_file : List ℕ → Head → List Record → NamedFile
+cert_file base head tree = record { name = cert_name base; bytes = cert_text head tree }
+
+-- a plan without rehandles, which needs no search
+abbrev pub head : Head
+head = record { outcome = Optimal; rehandles = Some 0; bound = 0; nodes = 1 }
+
+-- one box, in which no variable is fixed and no row has a multiplier
+abbrev pub leaf : Record
+leaf = record { from_zero = false; steps = []; raises = []; end = Leaf }
+
 abbrev pub report : List ℕ
 report = codes "outcome optimal\nrehandles 0\nbound 0\nnodes 1\n"
 
+-- the departure files from call 1 on, and the certificate
+abbrev pub all_files : List ℕ → Ship → Cargo → Bookings → List Stowage → List NamedFile
+all_files base ship cargo bookings plans = files_of base ship cargo bookings 1 plans ++ cert_file base head (leaf ∷ []) ∷ []
+
 abbrev pub work_of_plans : List ℕ → Ship → Cargo → Bookings → List Stowage → Work
-work_of_plans base ship cargo bookings plans = record { files = files_of base ship cargo bookings 1 plans; report = report }
+work_of_plans base ship cargo bookings plans = record { files = all_files base ship cargo bookings plans; report = report }
 
 -- none where the loader's rule gives no plans
 unfoldable pub work_for : List ℕ → Ship → Bookings → Option Work

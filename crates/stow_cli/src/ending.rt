@@ -1,7 +1,7 @@
 //! The writes, the report and the last line.
 ghost use Rattle.std.specs.Prelude.{◌≡◌, ◌⊎◌, ◌≤◌, codes, ◌++◌};
 ghost use Rattle.stow_io.specs.Causes.{Rose};
-ghost use Rattle.stow_cli.specs.Ends.{Says, Finishes};
+ghost use Rattle.stow_cli.specs.Ends.{Says, SaysNo, Finishes};
 
 use crate::status::Status;
 use crate::work::Work;
@@ -32,6 +32,17 @@ pub fn say_name<K: Sink>(out: &mut K, front: &[u8], name: &str)
         return;
     }
     say(out, b"\n");
+}
+
+/// Prints the line of what a check refuses.
+pub fn say_no<K: Sink>(out: &mut K, line: &[u8]) -> Status
+    ensures refused { SaysNo result line.now (K.written out.old) (K.written out.new) (Rose (K.faults out.old) (K.faults out.new)) }
+    ensures later { K.faults out.old ≤ K.faults out.new }
+{
+    match out.put(line) {
+        Ok(()) => Status::No,
+        Err(_) => Status::Fault,
+    }
 }
 
 /// Writes all files, and then prints the report.

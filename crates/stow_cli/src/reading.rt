@@ -1,21 +1,23 @@
-//! The reads, and what is made of them.
-ghost use Rattle.std.specs.Prelude.{◌≡◌, ◌≤◌, length, IfOk, IfErr, Some, None};
+//! The reads of the inputs.
+ghost use Rattle.std.specs.Prelude.{◌≡◌, ◌≤◌, length, IfOk, IfErr, IfSome, Some, None};
 ghost use Rattle.stow_io.specs.Causes.{Rose};
-ghost use Rattle.stow_cli.specs.Planned.{IsContent, IsPlanned, IsReadBy};
+ghost use Rattle.stow_cli.specs.Inputs.{IsContent, AreInputs, IsReadBy, IsPlain};
 ghost use Rattle.stow_cli.specs.Named.{names_of, IsStop};
 
-use crate::plain_bookings::plain_bookings;
-use crate::plain_profile::plain_ship;
-use crate::words::Plan;
-use crate::work::{Work, work_of};
+use crate::answer::PlainInputs;
+use crate::order::Inputs;
+use plain_inputs::{plain_bookings, plain_ship};
 use std::alloc::Global;
-use stow_data::{Bytes, NoMemory};
+use stow_data::{Bytes, Word};
 use stow_io::{Folder, FolderNo};
 
 /// Why nothing can be said of the inputs: a file that was not read, or want of memory.
-#[derive(Clone, Copy)]
+#[derive(Drop)]
 pub enum ReadStop<'a> {
+    /// A file that the words name.
     Failed(&'a str),
+    /// A file whose name was made.
+    FailedOwn(Word),
     NoMemory,
 }
 
@@ -34,34 +36,32 @@ pub fn read<'a, F: Folder>(folder: &mut F, name: &'a str) -> Result<Bytes, ReadS
     }
 }
 
-/// The files and the report for what the profile and the bookings say, none where the one or the other
-/// isn't plain or the loader's rule gives no plans. The bookings are read only where the profile is plain.
-pub fn planned<'a, F: Folder>(
+/// The ship and the bookings that the words name, none where the one or the other isn't plain. The
+/// bookings are read only where the profile is plain.
+pub fn read_inputs<'a, F: Folder>(
     alloc: Global,
-    plan: Plan<'a>,
+    inputs: Inputs<'a>,
     folder: &mut F,
-) -> Result<Option<Work>, ReadStop<'a>>
+) -> Result<Option<PlainInputs>, ReadStop<'a>>
     ensures stays { F.files folder.new ≡ F.files folder.old }
-    ensures gives { IfOk result (IsPlanned (names_of plan.entry) (F.files folder.old)) }
+    ensures gives { IfOk result (AreInputs (names_of inputs.entry) (F.files folder.old)) }
+    ensures plain { IfOk result (λ found. IfSome found IsPlain) }
     ensures later { F.faults folder.old ≤ F.faults folder.new }
-    ensures failed { IfErr result (IsStop (Rose (F.faults folder.old) (F.faults folder.new)) (IsReadBy (names_of plan.entry) (F.files folder.old))) }
+    ensures failed { IfErr result (IsStop (Rose (F.faults folder.old) (F.faults folder.new)) (IsReadBy (names_of inputs.entry) (F.files folder.old))) }
 {
-    let profile = read(folder, plan.profile)?;
+    let profile = read(folder, inputs.profile)?;
     let Ok(ship) = plain_ship(alloc, profile.as_slice()) else {
         return Err(ReadStop::NoMemory);
     };
     let Some(ship) = ship else {
         return Ok(None);
     };
-    let bookings = read(folder, plan.bookings)?;
+    let bookings = read(folder, inputs.bookings)?;
     let Ok(bookings) = plain_bookings(alloc, bookings.as_slice()) else {
         return Err(ReadStop::NoMemory);
     };
     let Some(bookings) = bookings else {
         return Ok(None);
     };
-    match work_of(alloc, plan.base, &ship, &bookings) {
-        Ok(work) => Ok(work),
-        Err(NoMemory) => Err(ReadStop::NoMemory),
-    }
+    Ok(Some(PlainInputs { ship, bookings }))
 }

@@ -1,18 +1,20 @@
 //! What is written and printed for a ship and its bookings.
-ghost use Rattle.std.specs.Prelude.{◌≡◌, ◌<◌, ◌≤◌, ◌+◌, ◌++◌, IfOk, IfSome, length, All};
+ghost use Rattle.std.specs.Prelude.{◌≡◌, ◌<◌, ◌≤◌, ◌+◌, ◌++◌, ◌∷◌, [], IfOk, IfSome, length, All};
 ghost use Rattle.stow_data.specs.Ship.{places};
-ghost use Rattle.stow_cli.specs.DepartureFile.{IsKnown};
-ghost use Rattle.stow_cli.specs.Plain.{IsPlainShip};
-ghost use Rattle.stow_cli.specs.PlainBookings.{IsBookings};
+ghost use Rattle.plan_files.specs.DepartureFile.{IsKnown};
+ghost use Rattle.plain_voyages.specs.Plain.{IsPlainShip};
+ghost use Rattle.plain_inputs.specs.PlainBookings.{IsBookings, plain_cargo};
 ghost use Rattle.stow_cli.specs.Voyages.{Sails};
-ghost use Rattle.stow_cli.specs.Work.{file_name, file_of, files_of, work_for};
+ghost use Rattle.stow_cli.specs.Work.{file_name, file_of, files_of, all_files, cert_name, cert_file, head, leaf, work_for};
 
-use crate::departure_file::departure_file;
-use crate::loader::load;
-use crate::plain_bookings::{Bookings, cargo_of};
 use crate::writing::{FileList, NamedFile};
+use certificate::{End, Head, Outcome, Record, Tree, write_cert};
+use greedy_loader::load;
+use plain_inputs::{Bookings, cargo_of};
+use plan_messages::departure_text;
 use std::alloc::Global;
 use stow_data::{Bytes, Cargo, NoMemory, Plan, Ship, Word};
+use zero_one_rows::{RaiseList, RowList};
 
 /// The files to be written, in their order, and the report to be printed after them.
 #[derive(Debug, Drop)]
@@ -41,7 +43,8 @@ fn file_of(
     plan: &Plan,
     call: u32,
 ) -> Result<NamedFile, NoMemory>
-    requires date { length bookings.now.date ≡ 10 }
+    requires plain { IsBookings bookings.now }
+    requires cargo { cargo.now ≡ plain_cargo ship.now bookings.now }
     requires departs { call < length cargo.now.rotation }
     requires whole { length plan.now ≡ length (places ship.now) }
     requires known { IsKnown cargo.now plan.now }
@@ -49,7 +52,7 @@ fn file_of(
 {
     Ok(NamedFile {
         name: file_name(alloc, base, call)?,
-        bytes: departure_file(alloc, ship, cargo, bookings, plan, call)?,
+        bytes: departure_text(alloc, ship, cargo, bookings, plan, call)?,
     })
 }
 
@@ -62,7 +65,8 @@ fn files_of(
     bookings: &Bookings,
     plans: &[Plan],
 ) -> Result<FileList, NoMemory>
-    requires date { length bookings.now.date ≡ 10 }
+    requires plain { IsBookings bookings.now }
+    requires cargo { cargo.now ≡ plain_cargo ship.now bookings.now }
     requires departs { length plans.now < length cargo.now.rotation }
     requires whole { All (λ plan. length plan ≡ length (places ship.now)) plans.now }
     requires known { All (IsKnown cargo.now) plans.now }
@@ -75,6 +79,65 @@ fn files_of(
         files.push(file_of(alloc, base, ship, cargo, bookings, plan, call)?)?;
         call += 1;
     }
+    Ok(files)
+}
+
+/// The name of the certificate.
+pub fn cert_name(alloc: Global, base: &str) -> Result<Word, NoMemory>
+    ensures { IfOk result (λ name. name ≡ cert_name base.now) }
+{
+    let name = format!(in alloc; "{base}.cert")?;
+    Ok(Word::of(alloc, name.as_str())?)
+}
+
+/// The tree of one box, in which no variable is fixed and no row has a multiplier.
+fn leaf(alloc: Global) -> Result<Tree, NoMemory>
+    ensures { IfOk result (λ tree. tree ≡ leaf ∷ []) }
+{
+    let mut tree = Tree::new(alloc);
+    tree.push(Record {
+        from_zero: false,
+        steps: RowList::new(alloc),
+        raises: RaiseList::new(alloc),
+        end: End::Leaf,
+    })?;
+    Ok(tree)
+}
+
+/// The certificate of a plan without rehandles, which needs no search.
+fn cert_file(alloc: Global, base: &str) -> Result<NamedFile, NoMemory>
+    ensures { IfOk result (λ file. file ≡ cert_file base.now head (leaf ∷ [])) }
+{
+    let head = Head {
+        outcome: Outcome::Optimal,
+        rehandles: Some(0),
+        bound: 0,
+        nodes: 1,
+    };
+    Ok(NamedFile {
+        name: cert_name(alloc, base)?,
+        bytes: write_cert(alloc, &head, &leaf(alloc)?)?,
+    })
+}
+
+/// The departure files of the plans, and the certificate.
+fn all_files(
+    alloc: Global,
+    base: &str,
+    ship: &Ship,
+    cargo: &Cargo,
+    bookings: &Bookings,
+    plans: &[Plan],
+) -> Result<FileList, NoMemory>
+    requires plain { IsBookings bookings.now }
+    requires cargo { cargo.now ≡ plain_cargo ship.now bookings.now }
+    requires departs { length plans.now < length cargo.now.rotation }
+    requires whole { All (λ plan. length plan ≡ length (places ship.now)) plans.now }
+    requires known { All (IsKnown cargo.now) plans.now }
+    ensures { IfOk result (λ files. files ≡ all_files base.now ship.now cargo.now bookings.now plans.now) }
+{
+    let mut files = files_of(alloc, base, ship, cargo, bookings, plans)?;
+    files.push(cert_file(alloc, base)?)?;
     Ok(files)
 }
 
@@ -94,7 +157,7 @@ pub fn work_of(
     match load(alloc, ship, &cargo)? {
         None => Ok(None),
         Some(plans) => {
-            let files = files_of(alloc, base, ship, &cargo, bookings, plans.as_slice())?;
+            let files = all_files(alloc, base, ship, &cargo, bookings, plans.as_slice())?;
             let report = Bytes::of(alloc, b"outcome optimal\nrehandles 0\nbound 0\nnodes 1\n")?;
             Ok(Some(Work { files, report }))
         }

@@ -25,7 +25,7 @@ pub struct WriteStop {
 }
 
 /// Writes the files in their order, up to the first that isn't written whole.
-#[tactic(auto, using(crate::proofs::Order::steps))]
+#[tactic(auto, using(crate::proofs::Steps::steps))]
 pub fn write_files<F: Folder>(folder: &mut F, files: &FileList) -> Result<(), WriteStop>
     ensures written { Written files.now result (F.files folder.old) (F.files folder.new) }
     ensures within { IfErr result (λ stop. stop.index < length files.now) }

@@ -1,4 +1,4 @@
-use Rattle.std.proofs.Common.{◌≡◌, ◌+◌, ap, arith}
+use Rattle.std.proofs.Common.{◌+◌, ap}
 use Rattle.stow_cli.proofs.Works.{files_more, files_done}
 use Rattle.stow_cli.proofs.work.files_of.Goals as goal
 

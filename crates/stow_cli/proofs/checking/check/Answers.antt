@@ -1,0 +1,5 @@
+use Rattle.stow_cli.proofs.Judging.{check_judges}
+use Rattle.stow_cli.proofs.checking.check.Goals as goal
+
+pub returns-clause-gives : goal.returns-clause-gives
+returns-clause-gives g c = check_judges c.check_plain.result _ _ _ _ c.in-Some.plain c.in_ok-plain.ensures.gives c.in-Some.is c.read_inputs.ensures.stays c.check_plain.ensures.gives

@@ -1,5 +1,0 @@
-use Rattle.std.proofs.Common.{◌≡◌, ◌∷◌, [], ◌++◌, map, take}
-use Rattle.stow_cli.proofs.departure_file.compose.Given as goal
-
-abbrev pub invariant-loop-component : goal.invariant-loop-component
-invariant-loop-component l = l.elements ≡ l.fn.elements ++ map (λ c. c.now) (take l.component-index l.components) ∷ []

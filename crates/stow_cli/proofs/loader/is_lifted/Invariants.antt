@@ -1,6 +1,0 @@
-use Rattle.std.proofs.Common.{◌≡◌, ℕ, ◌<◌, ◌-◌, false}
-use Rattle.stow_cli.specs.Loader.{leaves_at, held}
-use Rattle.stow_cli.proofs.loader.is_lifted.Given as goal
-
-abbrev pub invariant-loop-lower : goal.invariant-loop-lower
-invariant-loop-lower l = (k : ℕ) → k < l.lower → leaves_at l.cargo l.call (held l.plan (l.fn.p - k)) ≡ false

@@ -1,0 +1,57 @@
+-- The lines of refusals: the group, the refusal's number, and its fields in their order.
+use Rattle.std.specs.Prelude.{ℕ, ℤ, pos, Bool, true, false, List, [], ◌∷◌, map}
+use Rattle.stow_data.specs.declared.limits.Limit.{Limit}
+use Rattle.stow_data.specs.declared.limits.Limit.TheVariants.{Calls, Containers, Places, Variables, Rows, Certificate}
+use Rattle.certificate.specs.declared.faults.CertFault.{CertFault}
+use Rattle.certificate.specs.declared.faults.CertFault.TheVariants as cert
+use Rattle.bound_checker.specs.declared.refusals.BoundNo.{BoundNo}
+use Rattle.bound_checker.specs.declared.refusals.BoundNo.TheVariants as bound
+use Rattle.baplie_read.specs.declared.faults.BaplieFault.{BaplieFault}
+use Rattle.baplie_read.specs.declared.faults.BaplieFault.TheVariants.{Seg, At, NoMemory}
+use Rattle.edifact_segments.specs.declared.faults.SegFault.TheVariants as seg
+use Rattle.stow_report.specs.declared.lines.Group.{Group}
+use Rattle.stow_report.specs.declared.lines.Group.TheVariants as group
+use Rattle.stow_report.specs.declared.lines.Field.TheVariants.{Number}
+use Rattle.stow_report.specs.declared.lines.Line.{Line}
+use Rattle.stow_report.specs.Faults.{interchange_line, message_line}
+
+-- a line whose fields are numbers
+abbrev pub numbered : Bool → Group → ℕ → List ℤ → Line
+numbered checked group n numbers = record { checked = checked; group = group; number = n; fields = map (λ z. Number z) numbers }
+
+-- the limits by their numbers
+abbrev pub limit_number : Limit → ℕ
+limit_number Calls = 1
+limit_number Containers = 2
+limit_number Places = 3
+limit_number Variables = 4
+limit_number Rows = 5
+limit_number Certificate = 6
+
+-- a limit, and the number that passes it
+abbrev pub limit_line : Limit → ℕ → Line
+limit_line limit n = numbered false group.Large (limit_number limit) (pos n ∷ [])
+
+-- a text that is no certificate
+abbrev pub cert_line : CertFault → Line
+cert_line cert.NotCert = numbered true group.Cert 1 []
+cert_line (cert.BadHead n) = numbered true group.Cert 2 (pos n ∷ [])
+cert_line (cert.BadLine n) = numbered true group.Cert 3 (pos n ∷ [])
+cert_line cert.NoEnd = numbered true group.Cert 4 []
+cert_line cert.NoMemory = numbered true group.Cert 5 []
+
+-- a tree that doesn't prove its bound
+abbrev pub bound_line : BoundNo → Line
+bound_line (bound.Multiplier node) = numbered true group.Bound 1 (pos node ∷ [])
+bound_line (bound.StepRow node) = numbered true group.Bound 2 (pos node ∷ [])
+bound_line (bound.BranchFixed node) = numbered true group.Bound 3 (pos node ∷ [])
+bound_line (bound.LeafShort node value needed) = numbered true group.Bound 4 (pos node ∷ value ∷ needed ∷ [])
+bound_line bound.TreeEnds = numbered true group.Bound 5 []
+bound_line bound.TreeTooLong = numbered true group.Bound 6 []
+bound_line bound.NoMemory = numbered true group.Bound 7 []
+
+-- a text that is no bay plan
+abbrev pub file_line : BaplieFault → Line
+file_line (Seg fault) = interchange_line fault
+file_line (At n cause) = message_line n cause
+file_line NoMemory = interchange_line seg.NoMemory

@@ -1,0 +1,26 @@
+//! What an order comes to before anything is written or printed.
+use crate::work::Work;
+use plain_inputs::Bookings;
+use stow_data::{Bytes, Ship};
+
+/// The answer to an order.
+#[derive(Debug, Drop)]
+pub enum Answer {
+    /// Files to be written, and a report to be printed after them.
+    Work(Work),
+    /// A written file or number is refused: the line that says so.
+    No(Bytes),
+    /// An input is refused: the line that says so.
+    Input(Bytes),
+    /// A limit is passed: the line that says so.
+    Large(Bytes),
+    /// What isn't built yet.
+    Unbuilt,
+}
+
+/// A plain ship and its plain bookings.
+#[derive(Drop)]
+pub struct PlainInputs {
+    pub ship: Ship,
+    pub bookings: Bookings,
+}

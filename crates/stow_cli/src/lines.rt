@@ -1,0 +1,131 @@
+//! The lines of refusals.
+ghost use Rattle.std.specs.Prelude.{◌≡◌, map, IfOk};
+ghost use Rattle.stow_report.specs.Refusals.{refusal_text};
+ghost use Rattle.stow_cli.specs.Lines.{numbered, limit_number, limit_line, cert_line, bound_line, file_line};
+
+use baplie_read::BaplieFault;
+use bound_checker::BoundNo;
+use certificate::CertFault;
+use edifact_segments::SegFault;
+use std::alloc::Global;
+use stow_data::{Bytes, Limit, NoMemory};
+use stow_report::{Field, FieldList, Group, Line, interchange_line, message_line, refusal};
+
+/// A line whose fields are numbers.
+fn numbered(
+    alloc: Global,
+    checked: bool,
+    group: Group,
+    number: u32,
+    numbers: &[i128],
+) -> Result<Line, NoMemory>
+    ensures { IfOk result (λ line. line ≡ numbered checked group number numbers.now) }
+{
+    let mut fields = FieldList::new(alloc);
+    for n in numbers {
+        fields.push(Field::Number(*n))?;
+    }
+    Ok(Line {
+        checked,
+        group,
+        number,
+        fields,
+    })
+}
+
+/// The number of a limit.
+fn limit_number(limit: Limit) -> u32
+    ensures { result ≡ limit_number limit }
+{
+    match limit {
+        Limit::Calls => 1,
+        Limit::Containers => 2,
+        Limit::Places => 3,
+        Limit::Variables => 4,
+        Limit::Rows => 5,
+        Limit::Certificate => 6,
+    }
+}
+
+/// The text of a limit that is passed, and of the number that passes it.
+pub fn limit_text(alloc: Global, limit: Limit, value: u64) -> Result<Bytes, NoMemory>
+    ensures { IfOk result (λ text. text ≡ refusal_text (limit_line limit value)) }
+{
+    let number = limit_number(limit);
+    let line = numbered(alloc, false, Group::Large, number, &[i128::from(value)])?;
+    refusal(alloc, &line)
+}
+
+/// The line of a text that is no certificate.
+fn cert_line(alloc: Global, fault: CertFault) -> Result<Line, NoMemory>
+    ensures { IfOk result (λ line. line ≡ cert_line fault) }
+{
+    match fault {
+        CertFault::NotCert => numbered(alloc, true, Group::Cert, 1, &[]),
+        CertFault::BadHead { line } => numbered(alloc, true, Group::Cert, 2, &[i128::from(line)]),
+        CertFault::BadLine { line } => numbered(alloc, true, Group::Cert, 3, &[i128::from(line)]),
+        CertFault::NoEnd => numbered(alloc, true, Group::Cert, 4, &[]),
+        CertFault::NoMemory => numbered(alloc, true, Group::Cert, 5, &[]),
+    }
+}
+
+/// The text of a fault of a certificate.
+pub fn cert_text(alloc: Global, fault: CertFault) -> Result<Bytes, NoMemory>
+    ensures { IfOk result (λ text. text ≡ refusal_text (cert_line fault)) }
+{
+    refusal(alloc, &cert_line(alloc, fault)?)
+}
+
+/// The line of a tree that doesn't prove its bound.
+fn bound_line(alloc: Global, no: BoundNo) -> Result<Line, NoMemory>
+    ensures { IfOk result (λ line. line ≡ bound_line no) }
+{
+    match no {
+        BoundNo::Multiplier { node } => {
+            numbered(alloc, true, Group::Bound, 1, &[i128::from(node)])
+        }
+        BoundNo::StepRow { node } => numbered(alloc, true, Group::Bound, 2, &[i128::from(node)]),
+        BoundNo::BranchFixed { node } => {
+            numbered(alloc, true, Group::Bound, 3, &[i128::from(node)])
+        }
+        BoundNo::LeafShort {
+            node,
+            value,
+            needed,
+        } => numbered(
+            alloc,
+            true,
+            Group::Bound,
+            4,
+            &[i128::from(node), value, needed],
+        ),
+        BoundNo::TreeEnds => numbered(alloc, true, Group::Bound, 5, &[]),
+        BoundNo::TreeTooLong => numbered(alloc, true, Group::Bound, 6, &[]),
+        BoundNo::NoMemory => numbered(alloc, true, Group::Bound, 7, &[]),
+    }
+}
+
+/// The text of what is wrong with a tree.
+pub fn bound_text(alloc: Global, no: BoundNo) -> Result<Bytes, NoMemory>
+    ensures { IfOk result (λ text. text ≡ refusal_text (bound_line no)) }
+{
+    refusal(alloc, &bound_line(alloc, no)?)
+}
+
+/// The line of a text that is no bay plan.
+fn file_line(alloc: Global, fault: BaplieFault) -> Result<Line, NoMemory>
+    ensures { IfOk result (λ line. line ≡ file_line fault) }
+{
+    match fault {
+        BaplieFault::Seg(fault) => interchange_line(alloc, fault),
+        BaplieFault::At { segment, cause } => message_line(alloc, segment, cause),
+        BaplieFault::NoMemory => interchange_line(alloc, SegFault::NoMemory),
+    }
+}
+
+/// The text of a fault of a bay plan.
+pub fn file_text(alloc: Global, fault: BaplieFault) -> Result<Bytes, NoMemory>
+    ensures { IfOk result (λ text. text ≡ refusal_text (file_line fault)) }
+{
+    refusal(alloc, &file_line(alloc, fault)?)
+}
