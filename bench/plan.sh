@@ -1,7 +1,8 @@
 #!/usr/bin/env bash
 # Times `stow plan` of the built program, with its peak memory, on
 #   feeder: sixteen stacks of six tiers, six calls, 120 containers;
-#   large:  3,000 places in stacks of six tiers, twelve calls, 2,000 containers.
+#   large:  3,000 places in stacks of six tiers, six calls, 2,000 containers: 72,000 variables;
+#   past:   the same ship over twelve calls, whose 0-1 program is past the limit of variables.
 # Aims: the feeder in at most 50 ms, the large ship in at most 2 s and 256 MB.
 set -eu
 root=$(cd "$(dirname "$(readlink -f "${BASH_SOURCE[0]}")")/.." && pwd)
@@ -56,10 +57,13 @@ PY
 profile 16 >feeder.ship
 bookings 6 1 6 24 1 4 24 1 2 24 2 3 24 4 5 24 >feeder.cargo
 profile 500 >large.ship
+bookings 6 1 6 400 1 4 400 1 2 400 2 3 400 4 5 400 >large.cargo
+cp large.ship past.ship
 lots=()
 for ((from = 1; from <= 10; from++)); do
     lots+=("$from" 12 100 "$from" $((from + 1)) 100)
 done
-bookings 12 "${lots[@]}" >large.cargo
+bookings 12 "${lots[@]}" >past.cargo
 measure feeder
 measure large
+measure past
