@@ -1,14 +1,13 @@
-//! The departure file of a call (ISO 9735, SMDG BAPLIE 2.2): its segments, and its text.
-ghost use Rattle.std.specs.Prelude.{◌≡◌, ◌<◌, ◌≤◌, ◌-◌, ◌+◌, ◌++◌, ◌∷◌, [], IfOk, OnOk, codes, length, map, flat_map, is_ok, if◌then◌else◌, Some, slice_get};
-ghost use Rattle.std.specs.Fmt.{decimal};
+//! The segments of the departure file of a call (ISO 9735, SMDG BAPLIE 2.2).
+ghost use Rattle.std.specs.Prelude.{◌≡◌, ◌<◌, ◌++◌, ◌∷◌, [], IfOk, OnOk, length, map};
 ghost use Rattle.stow_data.specs.Ship.{places};
-ghost use Rattle.plan_files.specs.DepartureFile.{unb, unh, bgm, dtm, tdt, loc, head, cell_segment, mea, rff, eqd, unt, unz, digit, group_segments, groups, group_of, booking_of, port_of, text_of, file_text, IsKnown};
+ghost use Rattle.plan_files.specs.DepartureFile.{unb, unh, bgm, dtm, tdt, loc, cell_segment, mea, rff, eqd, digit, group_segments, group_of, booking_of, port_of};
 
-use edifact_segments::{ElementList, Segment, SegmentList, write_segment};
+use edifact_segments::{ElementList, Segment, SegmentList};
 use itoa::Buffer;
-use plain_inputs::{Booking, Bookings};
+use plain_inputs::Bookings;
 use std::alloc::Global;
-use stow_data::{Bytes, CallNo, Cargo, Container, Name, NoMemory, Origin, PlaceNo, Plan, Ship};
+use stow_data::{CallNo, Cargo, Container, Name, NoMemory, Origin, PlaceNo, Ship};
 
 /// Appends an element of these components.
 fn compose(elements: &mut ElementList, components: &[&[u8]]) -> Result<(), NoMemory>
@@ -171,32 +170,6 @@ fn eqd(alloc: Global, id: &[u8], iso: &[u8]) -> Result<Segment, NoMemory>
     Ok(segment)
 }
 
-/// UNT+count+1
-#[tactic(auto, unfolding(crate::specs::DepartureFile::unt))]
-fn unt(alloc: Global, count: u32) -> Result<Segment, NoMemory>
-    ensures { IfOk result (λ s. s ≡ unt count) }
-{
-    let mut segment = Segment::new(alloc, *b"UNT");
-    segment
-        .elements
-        .push(Buffer::new().format(count).as_bytes())?;
-    segment.elements.push(b"1")?;
-    Ok(segment)
-}
-
-/// UNZ+1+call
-#[tactic(auto, unfolding(crate::specs::DepartureFile::unz))]
-fn unz(alloc: Global, call: u32) -> Result<Segment, NoMemory>
-    ensures { IfOk result (λ s. s ≡ unz call) }
-{
-    let mut segment = Segment::new(alloc, *b"UNZ");
-    segment.elements.push(b"1")?;
-    segment
-        .elements
-        .push(Buffer::new().format(call).as_bytes())?;
-    Ok(segment)
-}
-
 /// The port of a call, counted from 1.
 pub fn port_of(cargo: &Cargo, call: u32) -> Name
     ensures { result ≡ port_of cargo.now call }
@@ -219,47 +192,6 @@ pub fn iso_of(bookings: &Bookings, origin: Origin) -> Name
         }
         _ => Name::of(b""),
     }
-}
-
-/// Appends the written form of a segment.
-#[tactic(auto, unfolding(crate::specs::DepartureFile::text_of))]
-fn write_one(alloc: Global, out: &mut Bytes, segment: &Segment) -> Result<(), NoMemory>
-    ensures { OnOk result (out.new ≡ out.old ++ text_of segment.now) }
-{
-    write_segment(alloc, out, segment)
-}
-
-/// Appends the written forms of segments.
-fn write_all(alloc: Global, out: &mut Bytes, segments: &SegmentList) -> Result<(), NoMemory>
-    ensures { OnOk result (out.new ≡ out.old ++ flat_map text_of segments.now) }
-{
-    for segment in segments.as_slice() {
-        write_one(alloc, out, segment)?;
-    }
-    Ok(())
-}
-
-/// The segments from UNH to the one before the first group.
-#[tactic(auto, unfolding(crate::specs::DepartureFile::head))]
-fn head(
-    alloc: Global,
-    cargo: &Cargo,
-    bookings: &Bookings,
-    call: u32,
-) -> Result<SegmentList, NoMemory>
-    requires { call < length cargo.now.rotation }
-    ensures { IfOk result (λ list. list ≡ head cargo.now bookings.now call) }
-{
-    let _calls = cargo.calls();
-    let mut list = SegmentList::new(alloc);
-    list.push(unh(alloc)?)?;
-    list.push(bgm(alloc, call)?)?;
-    list.push(dtm(alloc, b"137", bookings.date.bytes())?)?;
-    list.push(tdt(alloc, bookings.voyage.bytes(), bookings.vessel.bytes())?)?;
-    list.push(loc(alloc, b"5", port_of(cargo, call).bytes())?)?;
-    list.push(loc(alloc, b"61", port_of(cargo, call + 1).bytes())?)?;
-    list.push(dtm(alloc, b"133", bookings.date.bytes())?)?;
-    Ok(list)
 }
 
 /// The segments of a container in its cell.
@@ -285,55 +217,4 @@ pub fn group(
     let iso = iso_of(bookings, container.origin);
     list.push(eqd(alloc, container.id.bytes(), iso.bytes())?)?;
     Ok(list)
-}
-
-/// Appends the groups of a plan, and gives their number.
-fn write_groups(
-    alloc: Global,
-    out: &mut Bytes,
-    ship: &Ship,
-    cargo: &Cargo,
-    bookings: &Bookings,
-    plan: &Plan,
-) -> Result<u32, NoMemory>
-    requires whole { length plan.now ≡ length (places ship.now) }
-    requires known { IsKnown cargo.now plan.now }
-    ensures text { IfOk result (λ _. out.new ≡ out.old ++ flat_map text_of (flat_map group_segments (groups ship.now cargo.now bookings.now plan.now))) }
-    ensures number { IfOk result (λ n. n ≡ length (groups ship.now cargo.now bookings.now plan.now)) }
-    ensures few { IfOk result (λ n. n ≤ 3000) }
-{
-    let mut count = 0;
-    for number in 0..ship.places() {
-        if let Some(c) = plan.at(PlaceNo(number)) {
-            let container = cargo.container(c);
-            let group = group(alloc, ship, cargo, bookings, PlaceNo(number), container)?;
-            write_all(alloc, out, &group)?;
-            count += 1;
-        }
-    }
-    Ok(count)
-}
-
-/// The text of the departure file of a call.
-pub fn departure_file(
-    alloc: Global,
-    ship: &Ship,
-    cargo: &Cargo,
-    bookings: &Bookings,
-    plan: &Plan,
-    call: u32,
-) -> Result<Bytes, NoMemory>
-    requires date { length bookings.now.date ≡ 10 }
-    requires departs { call < length cargo.now.rotation }
-    requires whole { length plan.now ≡ length (places ship.now) }
-    requires known { IsKnown cargo.now plan.now }
-    ensures { IfOk result (λ text. text ≡ file_text cargo.now bookings.now call (groups ship.now cargo.now bookings.now plan.now)) }
-{
-    let mut out = Bytes::new(alloc);
-    write_one(alloc, &mut out, &unb(alloc, bookings.date.bytes(), call)?)?;
-    write_all(alloc, &mut out, &head(alloc, cargo, bookings, call)?)?;
-    let count = write_groups(alloc, &mut out, ship, cargo, bookings, plan)?;
-    write_one(alloc, &mut out, &unt(alloc, 8 + 6 * count)?)?;
-    write_one(alloc, &mut out, &unz(alloc, call)?)?;
-    Ok(out)
 }

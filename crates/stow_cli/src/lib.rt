@@ -20,4 +20,6 @@ pub use status::Status;
 pub use top::stow;
 
 #[cfg(test)]
+mod model_tests;
+#[cfg(test)]
 mod tests;

@@ -8,10 +8,10 @@ use std::thread::Threads;
 use stow_data::{NoMemory, NumberList, Word, WordList};
 use stow_io::{MemFolder, MemSink, NoGate};
 
-const PLAN: &[&str] = &["stow", "plan", "ship.toml", "cargo.toml", "X"];
+pub const PLAN: &[&str] = &["stow", "plan", "ship.toml", "cargo.toml", "X"];
 
 /// A stack of two tiers on deck.
-const SHIP: &[u8] = b"name = \"V\"
+pub const SHIP: &[u8] = b"name = \"V\"
 [[stack]]
 bay = 2
 row = 1
@@ -100,7 +100,7 @@ UNZ+1+3'
 ";
 
 /// The second container stands on the first and leaves after it.
-const LATER_ON_EARLIER: &[u8] = b"vessel = \"V\"
+pub const LATER_ON_EARLIER: &[u8] = b"vessel = \"V\"
 voyage = \"1\"
 date = \"2601010000\"
 rotation = [\"AAAAA\", \"BBBBB\", \"CCCCC\", \"DDDDD\"]
@@ -204,7 +204,7 @@ const NO_CARGO: Case = Case {
     ..UNWRITTEN
 };
 
-fn words_of(alloc: Global, texts: &[&str]) -> Result<WordList, NoMemory> {
+pub fn words_of(alloc: Global, texts: &[&str]) -> Result<WordList, NoMemory> {
     let mut words = WordList::new(alloc);
     for text in texts {
         words.push(Word::of(alloc, *text)?)?;
@@ -212,7 +212,7 @@ fn words_of(alloc: Global, texts: &[&str]) -> Result<WordList, NoMemory> {
     Ok(words)
 }
 
-fn numbers_of(alloc: Global, list: &[u32]) -> Result<NumberList, NoMemory> {
+pub fn numbers_of(alloc: Global, list: &[u32]) -> Result<NumberList, NoMemory> {
     let mut numbers = NumberList::new(alloc);
     for number in list {
         numbers.push(*number)?;
@@ -421,7 +421,7 @@ fn a_failed_first_write_is_named<R: Threads + Wait + Sync + Abort>(
 }
 
 /// Sixteen stacks of six tiers.
-fn feeder_ship(alloc: Global) -> Result<String, NoMemory> {
+pub fn feeder_ship(alloc: Global) -> Result<String, NoMemory> {
     let mut text = String::from_str(alloc, "name = \"FEEDER\"\n")?;
     for stack in 0..16u32 {
         let bay = 2 + stack / 4 * 4;
