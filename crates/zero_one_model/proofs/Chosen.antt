@@ -1,19 +1,18 @@
 -- The variables among which those that touch a row of each family are found.
-use Rattle.std.proofs.Common.{◌≡◌, ◌≢◌, ℕ, ◌<◌, ◌≤◌, ◌+◌, ◌-◌, ◌*◌, true, List, [], ◌++◌, arith, refl, sym, ◌∙◌, ap, subst, length, ◌⊎◌, inl, inr, ⊎_elim}
-use Rattle.std.specs.Prelude.{slice_index_or, nat_lt}
+use Rattle.std.proofs.Common.{◌≡◌, ℕ, ◌<◌, ◌+◌, ◌-◌, ◌*◌, true, List, [], ◌++◌, arith, refl, sym, ◌∙◌, ap, subst, length, inl, inr, ⊎_elim}
+use Rattle.std.specs.Prelude.{slice_index_or}
 use Rattle.std.proofs.lemmas.Bool.{ltb-true, false≢true}
 use Rattle.stow_data.specs.declared.geometry.Half.{Half}
-use Rattle.stow_data.specs.Ship.{halves}
 use Rattle.stow_data.specs.Profile.{IsShip}
 use Rattle.zero_one_rows.specs.declared.program.Row.{Row}
 use Rattle.zero_one_rows.specs.declared.program.Row.TheVariants.{Flow, Start, Cell, Support, Twenty, Block, Hatch, Weight, Apart, Cross}
 use Rattle.zero_one_rows.specs.declared.program.Var.{Var}
-use Rattle.zero_one_rows.specs.Variables.{Voyage, all_kinds, place, variables, var}
+use Rattle.zero_one_rows.specs.Variables.{Voyage, all_kinds, place, var}
 use Rattle.zero_one_rows.specs.Rows.{half, stack, covers, below, above}
-use Rattle.zero_one_model.specs.Early.{early, Touches}
+use Rattle.zero_one_model.specs.Early.{early}
 use Rattle.zero_one_model.specs.Indexed.{place_shelf, half_shelf, shelf, IsIndex, IsCandidates, NamesHalf, first_of, second_of}
 use Rattle.zero_one_model.specs.declared.index.Index.{Index}
-use Rattle.zero_one_model.proofs.Sized.{first_true, second_true, early_in_range, halves_low, half_in, above_low}
+use Rattle.zero_one_model.proofs.Sized.{second_true, early_in_range, halves_low, half_in, above_low}
 use Rattle.zero_one_model.proofs.Touched.{one_key, two_keys, flow_near, cell_near, support_near, block_near, covers_shelf}
 
 shelf_low : (s t n : ℕ) → s < n → t < 40 → shelf s t < n * 40

@@ -11,3 +11,4 @@ pub mod Sized
 pub mod Touched
 pub mod Chosen
 pub mod Selected
+pub mod Reached

@@ -1,11 +1,10 @@
 -- The variables that touch a row, among those that may.
-use Rattle.std.proofs.Common.{◌≡◌, ◌≢◌, ℕ, ◌<◌, Bool, true, false, not, List, [], ◌++◌, arith, refl, sym, ◌∙◌, ap, subst, length, ⊎_elim, inl, inr, ◌⊎◌, ◌↔◌}
-use Rattle.std.specs.Prelude.{slice_index_or, filter, ℤ, pos, All, Contains}
+use Rattle.std.proofs.Common.{◌≡◌, ◌≢◌, ℕ, ◌<◌, Bool, true, false, not, List, ◌++◌, arith, refl, sym, ◌∙◌, ap, subst, length, ◌↔◌}
+use Rattle.std.specs.Prelude.{slice_index_or, filter, pos, All, Contains}
 use Rattle.std.specs.List.{AllPairs}
 use Rattle.std.specs.Ordering.{int_eq}
 use Rattle.std.specs.Cmp.{signed_Decides}
 use Rattle.std.proofs.lemmas.Bool.{false≢true}
-use Rattle.std.proofs.lemmas.List.Elements.{filter-append}
 use Rattle.std.proofs.lemmas.List.Kept.{AllPairs-filter}
 use Rattle.stow_data.proofs.Members.{Member, member_left, member_right}
 use Rattle.stow_data.specs.Profile.{IsShip}
@@ -24,11 +23,11 @@ use Rattle.zero_one_model.proofs.Chosen.{chosen}
 pub chosen_parts : (m : Voyage) → IsShip m.ship → (x : Index) → IsIndex m x → (r : Row) → (early m).has r ≡ true → (a b : List ℕ) → a ≡ first_of m.ship x r → b ≡ second_of m.ship x r → IsCandidates m r (a ++ b)
 chosen_parts m rules x is r has a b e f = rw (e, f) (chosen m rules x is r has)
 
-not_true : (b : Bool) → not b ≡ true → b ≡ true → ⊥
+pub not_true : (b : Bool) → not b ≡ true → b ≡ true → ⊥
 not_true true h k = false≢true h
 not_true false h k = false≢true k
 
-not_from : (b : Bool) → (b ≡ true → ⊥) → not b ≡ true
+pub not_from : (b : Bool) → (b ≡ true → ⊥) → not b ≡ true
 not_from true h = absurd (h refl)
 not_from false h = refl
 

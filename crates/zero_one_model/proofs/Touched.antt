@@ -1,7 +1,7 @@
 -- Which variables touch a row.
-use Rattle.std.proofs.Common.{◌≡◌, ◌≢◌, ℕ, zero, suc, ◌<◌, ◌≤◌, ◌+◌, ◌-◌, ◌*◌, Bool, true, false, cond, ◌&&◌, ◌==◌, List, [], ◌∷◌, ◌++◌, arith, refl, sym, ◌∙◌, ap, subst, length, ◌⊎◌, inl, inr, ⊎_elim}
-use Rattle.std.specs.Prelude.{slice_index_or, filter, map, ℤ, pos, ◌-ℤ◌, All, Contains, nat_lt}
-use Rattle.std.specs.List.{range_with_len, AllPairs}
+use Rattle.std.proofs.Common.{◌≡◌, ◌≢◌, ℕ, zero, suc, ◌<◌, Bool, true, false, ◌&&◌, ◌==◌, List, [], ◌∷◌, ◌++◌, arith, refl, sym, ◌∙◌, ap, subst, length, ◌⊎◌, inl, inr, ⊎_elim}
+use Rattle.std.specs.Prelude.{slice_index_or, map, pos, ◌-ℤ◌, All, Contains}
+use Rattle.std.specs.List.{range_with_len}
 use Rattle.std.proofs.lemmas.Bool.{ne_eqb, eqb-true, eq-eqb, cases_eq}
 use Rattle.std.proofs.lemmas.List.{length-map, append-nil}
 use Rattle.stow_data.specs.declared.geometry.Place.{Place}
@@ -11,12 +11,12 @@ use Rattle.stow_data.proofs.Distinct.{Each}
 use Rattle.zero_one_rows.specs.declared.program.Var.{Var}
 use Rattle.zero_one_rows.specs.declared.program.Row.{Row}
 use Rattle.zero_one_rows.specs.declared.program.Row.TheVariants.{Flow, Cell, Support, Block}
-use Rattle.zero_one_rows.specs.Variables.{Voyage, all_kinds, place, variables, var, no_var}
-use Rattle.zero_one_rows.specs.Rows.{half, covers, below, above, bit, turned, coef, active, stays, ends}
+use Rattle.zero_one_rows.specs.Variables.{Voyage, place, variables, var, no_var}
+use Rattle.zero_one_rows.specs.Rows.{half, covers, below, above, bit, turned, coef}
 use Rattle.zero_one_rows.proofs.Listing.{filter_at, filter_from, get_member, member_get}
-use Rattle.zero_one_model.specs.Early.{early, Touches}
+use Rattle.zero_one_model.specs.Early.{Touches}
 use Rattle.zero_one_model.specs.Grouping.{with_key, IsGrouped}
-use Rattle.zero_one_model.specs.Indexed.{place_shelf, half_shelf, shelf, IsCandidates}
+use Rattle.zero_one_model.specs.Indexed.{IsCandidates}
 use Rattle.zero_one_model.proofs.Rising.{Rising, rising_append, rising_filter, rising_range, rising_get}
 use Rattle.zero_one_model.proofs.Sized.{first_true, second_true}
 

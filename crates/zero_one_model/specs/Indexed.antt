@@ -1,5 +1,5 @@
 -- The variables and half-cells by what they touch.
-use Rattle.std.specs.Prelude.{◌≡◌, ◌≢◌, ℕ, ◌+◌, ◌*◌, ◌<◌, Bool, not, ◌&&◌, List, [], length, map, pos, All, Contains, slice_index_or}
+use Rattle.std.specs.Prelude.{◌≢◌, ℕ, ◌+◌, ◌*◌, ◌<◌, Bool, not, List, [], length, map, pos, All, Contains, slice_index_or}
 use Rattle.std.specs.List.{AllPairs}
 use Rattle.std.specs.Ordering.{int_eq}
 use Rattle.stow_data.specs.declared.geometry.Place.{Place}
@@ -10,7 +10,7 @@ use Rattle.zero_one_rows.specs.declared.program.Row.{Row}
 use Rattle.zero_one_rows.specs.declared.program.Row.TheVariants.{Flow, Start, Cell, Support, Twenty, Block, Hatch, Weight, Apart, Cross}
 use Rattle.zero_one_rows.specs.Variables.{Voyage, all_kinds, no_place, variables, var}
 use Rattle.zero_one_rows.specs.Rows.{coef, no_half, below, above}
-use Rattle.zero_one_model.specs.Early.{early, Touches}
+use Rattle.zero_one_model.specs.Early.{Touches}
 use Rattle.zero_one_model.specs.Grouping.{IsGrouped}
 use Rattle.zero_one_model.specs.declared.index.Index.{Index}
 

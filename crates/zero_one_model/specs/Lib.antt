@@ -6,3 +6,4 @@ pub mod Enumerated
 pub mod Built
 pub mod Counted
 pub mod Indexed
+pub mod Touching

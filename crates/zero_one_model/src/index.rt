@@ -1,8 +1,9 @@
 //! The variables and half-cells by what they touch.
-ghost use Rattle.std.specs.Prelude.{◌≡◌, ℕ, ◌+◌, ◌*◌, ◌<◌, ◌≤◌, ◌^◌, IfOk, All, length, map, slice_index_or};
+ghost use Rattle.std.specs.Prelude.{◌≡◌, ℕ, ◌+◌, ◌*◌, ◌<◌, ◌≤◌, ◌^◌, IfOk, All, [], length, map, slice_index_or};
 ghost use Rattle.stow_data.specs.Ship.{places, halves};
 ghost use Rattle.zero_one_rows.specs.Variables.{no_place};
 ghost use Rattle.zero_one_model.specs.Indexed.{shelf, place_shelf, half_shelf, IsIndexOf, NamesHalf, first_of, second_of};
+ghost use Rattle.zero_one_model.specs.Touching.{group_before};
 
 use crate::groups::{Groups, group};
 use std::alloc::Global;
@@ -125,5 +126,30 @@ impl Index {
             | Row::Apart { .. }
             | Row::Cross { .. } => &[],
         }
+    }
+
+    /// The half-cells of the next tier up.
+    pub fn above(&self, shelf: usize) -> &[u32]
+        requires { shelf < 2 ^ 63 }
+        ensures { result.now ≡ slice_index_or self.now.halves (shelf + 1) [] }
+    {
+        self.halves.of(shelf + 1)
+    }
+
+    /// The half-cells of a tier.
+    pub fn level(&self, shelf: usize) -> &[u32]
+        ensures { result.now ≡ slice_index_or self.now.halves shelf [] }
+    {
+        self.halves.of(shelf)
+    }
+
+    /// The half-cells of the next tier down.
+    pub fn below(&self, shelf: usize) -> &[u32]
+        ensures { result.now ≡ group_before self.now.halves shelf }
+    {
+        if shelf == 0 {
+            return &[];
+        }
+        self.halves.of(shelf - 1)
     }
 }

@@ -1,16 +1,16 @@
 //! The built program.
-ghost use Rattle.std.specs.Prelude.{◌≡◌, ℕ, ◌+◌, ◌-◌, ◌*◌, ◌<◌, ◌≤◌, ◌≢◌, ◌^◌, ◌↔◌, true, length, slice_get, Some, IfOk, MatchOption, OnOk, All, ◌++◌, filter, Contains, pos, unsigned_abs};
+ghost use Rattle.std.specs.Prelude.{◌≡◌, ℕ, ◌+◌, ◌-◌, ◌*◌, ◌<◌, ◌≤◌, ◌≢◌, ◌^◌, ◌↔◌, true, length, slice_get, Some, IfOk, MatchOption, OnOk, All, ◌++◌, ◌∷◌, [], filter, Contains, pos, unsigned_abs};
 ghost use Rattle.std.specs.List.{AllPairs};
 
 use crate::building::{MOST_ROWS, built_rows, built_variables};
 use crate::having::has_early;
-use crate::index::{Index, index_of};
+use crate::index::{Index, index_of, shelf_of};
 use crate::listing::push_var;
 use crate::refusals::ModelNo;
 use crate::row_lists::RowLists;
 use std::alloc::Global;
-use stow_data::{Cargo, Kinds, Limit, NoMemory, Seq, Ship, VarNo, kinds};
-use zero_one_rows::{Row, Var, VarList};
+use stow_data::{CallNo, Cargo, HalfNo, Kinds, Limit, NoMemory, Seq, Ship, VarNo, kinds};
+use zero_one_rows::{Row, RowList, Var, VarList, place_at};
 
 /// The 0-1 program of a voyage: the rows of the families flow, cell, support and block, for any ship and cargo. Contracts see the voyage.
 #[derive(Drop)]
@@ -37,10 +37,11 @@ impl<'a> std::marker::Model for Model<'a> {
 }
 
 impl<'a> Model<'a> {
-    ghost use Rattle.zero_one_rows.specs.Variables.{Voyage, variables, var, all_kinds, is_rehandled};
+    ghost use Rattle.zero_one_rows.specs.Variables.{Voyage, place, variables, var, all_kinds, is_rehandled};
     ghost use Rattle.zero_one_rows.specs.Rows.{bit, coef};
     ghost use Rattle.zero_one_model.specs.Early.{early, early_rows, Touches};
-    ghost use Rattle.zero_one_model.specs.Indexed.{stands};
+    ghost use Rattle.zero_one_model.specs.Indexed.{stands, place_shelf};
+    ghost use Rattle.zero_one_model.specs.Touching.{touching, flow_at, flows, rows_after, rows_on, rows_among};
     ghost use Rattle.zero_one_model.specs.Building.{Builds};
     ghost use Rattle.stow_data.specs.Ship.{places};
 
@@ -218,6 +219,108 @@ impl<'a> Model<'a> {
         let mut list = Seq::new(alloc);
         self.select(&mut list, r, self.index.first(self.ship, r))?;
         self.select(&mut list, r, self.index.second(self.ship, r))?;
+        Ok(list)
+    }
+
+    /// Appends a row where the program has it and the variable's coefficient in it isn't 0.
+    fn keep(&self, list: &mut RowList, r: Row, x: VarNo) -> Result<(), NoMemory>
+        requires { x < length (variables self.now) }
+        ensures { OnOk result (list.new ≡ list.old ++ filter (touching self.now x) (r ∷ [])) }
+    {
+        if self.has_row(&r) && self.coefficient(&r, x) != 0 {
+            list.push(r)
+        } else {
+            Ok(())
+        }
+    }
+
+    /// Of the rows of the variable's kind, those of a call.
+    fn keep_flow(&self, list: &mut RowList, x: VarNo, call: CallNo) -> Result<(), NoMemory>
+        requires { x < length (variables self.now) }
+        ensures { OnOk result (list.new ≡ list.old ++ filter (touching self.now x) (flow_at (var self.now x).kind call)) }
+    {
+        let kind = self.var(x).kind;
+        self.keep(list, Row::Flow { q: 0, call, kind }, x)?;
+        self.keep(list, Row::Flow { q: 1, call, kind }, x)?;
+        Ok(())
+    }
+
+    /// Of the rows of the variable's kind, those of its put and its lifting.
+    fn keep_flows(&self, list: &mut RowList, x: VarNo) -> Result<(), NoMemory>
+        requires { x < length (variables self.now) }
+        ensures { OnOk result (list.new ≡ list.old ++ filter (touching self.now x) (flows (var self.now x))) }
+    {
+        let v = self.var(x);
+        self.keep_flow(list, x, v.put)?;
+        self.keep_flow(list, x, v.lifted)?;
+        Ok(())
+    }
+
+    /// Of the rows of a half-cell, those that speak of what is there after a call.
+    fn keep_after(
+        &self,
+        list: &mut RowList,
+        x: VarNo,
+        half: HalfNo,
+        call: CallNo,
+    ) -> Result<(), NoMemory>
+        requires var { x < length (variables self.now) }
+        requires call { call + 1 < 2 ^ 32 }
+        ensures { OnOk result (list.new ≡ list.old ++ filter (touching self.now x) (rows_after half call)) }
+    {
+        let next = CallNo(call.0 + 1);
+        self.keep(list, Row::Cell { call, half }, x)?;
+        self.keep(list, Row::Support { call, half }, x)?;
+        self.keep(list, Row::Block { call: next, half }, x)?;
+        Ok(())
+    }
+
+    /// Of the rows of a half-cell, those of the calls after which the variable's container is there.
+    fn keep_on(&self, list: &mut RowList, x: VarNo, half: HalfNo) -> Result<(), NoMemory>
+        requires { x < length (variables self.now) }
+        ensures { OnOk result (list.new ≡ list.old ++ filter (touching self.now x) (rows_on (var self.now x) half)) }
+    {
+        let v = self.var(x);
+        for i in v.put.0..v.lifted.0 {
+            self.keep_after(list, x, half, CallNo(i))?;
+        }
+        Ok(())
+    }
+
+    /// The same of several half-cells.
+    fn keep_among(&self, list: &mut RowList, x: VarNo, halves: &[u32]) -> Result<(), NoMemory>
+        requires { x < length (variables self.now) }
+        ensures { OnOk result (list.new ≡ list.old ++ filter (touching self.now x) (rows_among (var self.now x) halves.now)) }
+    {
+        for h in halves {
+            self.keep_on(list, x, HalfNo(*h))?;
+        }
+        Ok(())
+    }
+
+    /// The number of the tier at which a variable stands.
+    fn shelf_at(&self, x: VarNo) -> usize
+        requires { x < length (variables self.now) }
+        ensures value { result ≡ place_shelf (place self.now (var self.now x).place) }
+        ensures size { result < 2 ^ 63 }
+    {
+        let place = place_at(self.ship, self.var(x).place);
+        shelf_of(place.stack, place.tier)
+    }
+
+    /// The rows in which the coefficient of a variable isn't 0, each once.
+    pub fn rows_of(&self, alloc: Global, x: VarNo) -> Result<RowList, NoMemory>
+        requires { x < length (variables self.now) }
+        ensures each { IfOk result (λ rs. (r : Row) → Contains rs r ↔ Touches self.now r x) }
+        ensures once { IfOk result (λ rs. AllPairs (λ r s. r ≢ s) rs) }
+    {
+        let _places = self.ship.places();
+        let shelf = self.shelf_at(x);
+        let mut list = Seq::new(alloc);
+        self.keep_flows(&mut list, x)?;
+        self.keep_among(&mut list, x, self.index.above(shelf))?;
+        self.keep_among(&mut list, x, self.index.level(shelf))?;
+        self.keep_among(&mut list, x, self.index.below(shelf))?;
         Ok(list)
     }
 }

@@ -1,11 +1,9 @@
-use Rattle.std.proofs.Common.{◌≡◌, ◌≢◌, ◌<◌, ◌∙◌, ◌++◌, ℕ, List, true, ap, sym, subst, refl, length, ◌↔◌}
-use Rattle.std.specs.Prelude.{filter, All, Contains}
-use Rattle.std.specs.List.{AllPairs}
+use Rattle.std.proofs.Common.{◌≡◌, ◌<◌, ◌∙◌, ◌++◌, ℕ, List, true, ap, sym, subst, refl, length}
+use Rattle.std.specs.Prelude.{filter, All}
 use Rattle.std.proofs.lemmas.List.Elements.{filter-append}
-use Rattle.stow_data.specs.Profile.{IsShip}
 use Rattle.zero_one_rows.specs.Variables.{Voyage, variables}
 use Rattle.zero_one_model.specs.Built.{voyage_of}
-use Rattle.zero_one_model.specs.Early.{early, Touches}
+use Rattle.zero_one_model.specs.Early.{early}
 use Rattle.zero_one_model.specs.Indexed.{IsCandidates, second_of, stands}
 use Rattle.zero_one_model.proofs.Selected.{chosen_parts, left_inside, right_inside, selected_each, selected_once}
 use Rattle.zero_one_model.proofs.model.Model.vars_of.Goals as goal
