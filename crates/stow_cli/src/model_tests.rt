@@ -162,6 +162,9 @@ fn variables_of_rows<R: Abort>(rt: &R, alloc: Global) -> Result<(), Fail> {
     assert!(rt; lists(alloc, &model, &row(0, 0, 1, 0), &flow)?);
     assert!(rt; lists(alloc, &model, &row(3, 0, 2, 0), &[VarNo(0), VarNo(3)])?);
     assert!(rt; !Box01::free(alloc, &model)?.is_full());
+    assert!(rt; model.vars() == 12);
+    // Two rows of flow at each of its calls; of its two half-cells cell and block, and support of those above.
+    assert!(rt; model.rows_of(alloc, VarNo(0))?.len() == 10);
     Ok(())
 }
 
