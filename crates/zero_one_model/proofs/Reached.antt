@@ -1,11 +1,11 @@
 -- The rows that a variable touches, among those that it may.
-use Rattle.std.proofs.Common.{◌≡◌, ◌≢◌, ℕ, zero, suc, ◌<◌, ◌≤◌, ◌+◌, ◌-◌, ◌*◌, Bool, true, false, ◌&&◌, List, [], ◌∷◌, ◌++◌, arith, refl, sym, ◌∙◌, ap, subst, length, ◌⊎◌, inl, inr, ⊎_elim, ◌↔◌, take}
+use Rattle.std.proofs.Common.{◌≡◌, ◌≢◌, ℕ, zero, suc, ◌<◌, ◌≤◌, ◌+◌, ◌-◌, ◌*◌, Bool, true, false, ◌&&◌, List, [], ◌∷◌, ◌++◌, arith, refl, sym, ◌∙◌, ap, subst, length, ◌⊎◌, inl, inr, ⊎_elim, ◌↔◌}
 use Rattle.std.specs.Prelude.{slice_index_or, filter, flat_map, map, pos, Contains}
 use Rattle.std.specs.List.{range_with_len, AllPairs}
 use Rattle.std.specs.Ordering.{int_eq}
 use Rattle.std.specs.Cmp.{signed_Decides}
 use Rattle.std.proofs.lemmas.Bool.{ltb-true, lt-ltb, leb-true, eqb-true, ne_eqb, cases_eq, cases_lt, false≢true}
-use Rattle.std.proofs.lemmas.List.{append_assoc, append-nil, get_or_past, take_more}
+use Rattle.std.proofs.lemmas.List.{append_assoc, get_or_past}
 use Rattle.std.proofs.lemmas.Grind.{flat_map-append}
 use Rattle.std.proofs.lemmas.List.Elements.{filter-append}
 use Rattle.stow_data.specs.Ship.{halves}
@@ -30,6 +30,7 @@ use Rattle.zero_one_model.proofs.Touched.{group_at, group_from, group_rises, con
 pub kept_more : {X : Type 0} (t : X → Bool) (a b c xs ys : List X) → b ≡ a ++ filter t xs → c ≡ b ++ filter t ys → c ≡ a ++ filter t (xs ++ ys)
 kept_more {X} t a b c xs ys h k = k ∙ ap (λ (zs : List X). zs ++ filter t ys) h ∙ append_assoc a (filter t xs) (filter t ys) ∙ ap (λ (zs : List X). a ++ zs) (sym (filter-append t xs ys))
 
+-- those of one call more
 pub on_more : (t : Row → Bool) (h p i : ℕ) (a b c : List Row) → p ≤ i → b ≡ a ++ filter t (flat_map (rows_after h) (range_with_len p (i - p))) → c ≡ b ++ filter t (rows_after h i) → c ≡ a ++ filter t (flat_map (rows_after h) (range_with_len p (i + 1 - p)))
 on_more t h p i a b c l e f =
     let n : i + 1 - p ≡ i - p + 1 = omega (arith, l) in
@@ -38,13 +39,7 @@ on_more t h p i a b c l e f =
     ap (λ (z : ℕ). flat_map (rows_after h) (range_with_len p z)) n ∙ ap (flat_map (rows_after h)) (range-more p (i - p) ∙ ap (λ (z : ℕ). range_with_len p (i - p) ++ z ∷ []) k) ∙ flat_map-append (rows_after h) (range_with_len p (i - p)) (i ∷ []) in
     subst (λ (rs : List Row). c ≡ a ++ filter t rs) (sym longer) (kept_more t a b c (flat_map (rows_after h) (range_with_len p (i - p))) (rows_after h i) e f)
 
-pub among_more : (t : Row → Bool) (x : Var) (hs : List ℕ) (k d : ℕ) (a b c : List Row) → k < length hs → b ≡ a ++ filter t (rows_among x (take k hs)) → c ≡ b ++ filter t (rows_on x (slice_index_or hs k d)) → c ≡ a ++ filter t (rows_among x (take (k + 1) hs))
-among_more t x hs k d a b c l e f =
-    let longer : rows_among x (take (k + 1) hs) ≡ rows_among x (take k hs) ++ rows_on x (slice_index_or hs k d) =
-    ap (rows_among x) (take_more hs k d l) ∙ flat_map-append (rows_on x) (take k hs) (slice_index_or hs k d ∷ []) ∙ ap (λ (rs : List Row). rows_among x (take k hs) ++ rs) (append-nil (rows_on x (slice_index_or hs k d))) in
-    subst (λ (rs : List Row). c ≡ a ++ filter t rs) (sym longer) (kept_more t a b c (rows_among x (take k hs)) (rows_on x (slice_index_or hs k d)) e f)
-
--- what tells the rows apart
+-- what tells the rows apart: family, half-cell, call
 abbrev family : Row → ℕ
 family (Flow q i g) = q
 family (Start q p) = 5
