@@ -1,12 +1,17 @@
 //! The 0-1 program of a stack of two tiers and two containers, 1 to 3 and 2 to 4 of four calls, with values written
 //! out by hand; and a program past its limit of variables.
+ghost use Rattle.std.specs.Prelude.{◌≡◌, length, IfOk, IfSome};
+ghost use Rattle.stow_data.specs.Ship.{places};
+ghost use Rattle.plain_voyages.specs.Plain.{IsPlainShip};
+ghost use Rattle.plain_inputs.specs.PlainBookings.{IsBookings};
+
 use super::*;
 use crate::tests::{LATER_ON_EARLIER, PLAN, SHIP, feeder_ship, numbers_of, words_of};
-use plain_inputs::{cargo_of, plain_bookings, plain_ship};
+use plain_inputs::{Bookings, cargo_of, plain_bookings, plain_ship};
 use std::alloc::Global;
 use std::process::Abort;
 use std::test::Fail;
-use stow_data::{CallNo, HalfNo, KindNo, NoMemory, PlaceNo, VarNo};
+use stow_data::{CallNo, Cargo, HalfNo, KindNo, NoMemory, PlaceNo, Ship, VarNo};
 use stow_io::{MemFolder, MemSink, NoGate};
 use zero_one_model::{Box01, Model};
 use zero_one_rows::{Row, Var};
@@ -104,18 +109,37 @@ fn too_many_variables(rt: HostRuntime) -> Result<(), Fail> {
     Ok(())
 }
 
+fn is_right<R: Abort>(rt: &R, alloc: Global, ship: &Ship, cargo: &Cargo) -> Result<(), NoMemory>
+    requires { length cargo.now.arrival ≡ length (places ship.now) }
+{
+    if let Ok(model) = Model::build(alloc, ship, cargo) {
+        has_variables(rt, &model);
+        has_flows(rt, &model);
+        has_rows_of_half_cells(rt, &model);
+        return has_rows_of_a_variable(rt, alloc, &model);
+    }
+    Err(NoMemory)
+}
+
+fn plain_inputs_of(alloc: Global) -> Result<Option<(Ship, Bookings)>, NoMemory>
+    ensures { IfOk result (λ found. IfSome found (λ x. IsPlainShip x.0 × IsBookings x.1)) }
+{
+    let Some(ship) = plain_ship(alloc, SHIP)? else {
+        return Ok(None);
+    };
+    let Some(bookings) = plain_bookings(alloc, LATER_ON_EARLIER)? else {
+        return Ok(None);
+    };
+    Ok(Some((ship, bookings)))
+}
+
 #[test]
 fn the_program_of_two_containers(rt: HostRuntime) -> Result<(), Fail> {
     let alloc = rt.alloc();
-    let ship = plain_ship(alloc, SHIP)?.ok_or("not plain")?;
-    let bookings = plain_bookings(alloc, LATER_ON_EARLIER)?.ok_or("not plain")?;
-    let cargo = cargo_of(alloc, &ship, &bookings)?;
-    let Ok(model) = Model::build(alloc, &ship, &cargo) else {
-        return Err("no model".into());
+    let Some((ship, bookings)) = plain_inputs_of(alloc)? else {
+        return Err("not plain".into());
     };
-    has_variables(&rt, &model);
-    has_flows(&rt, &model);
-    has_rows_of_half_cells(&rt, &model);
-    has_rows_of_a_variable(&rt, alloc, &model)?;
+    let cargo = cargo_of(alloc, &ship, &bookings)?;
+    is_right(&rt, alloc, &ship, &cargo)?;
     Ok(())
 }
