@@ -27,7 +27,12 @@ fn main(rt: HostRuntime) -> io::Result<()> {
     let alloc = rt.alloc();
     let mut folder = RealFolder::new(&rt, alloc);
     let mut writes = false;
+    let mut is_program = true;
     for arg in env::args(&rt)? {
+        if is_program {
+            is_program = false;
+            continue;
+        }
         if arg.as_str() == "write" {
             writes = true;
             continue;
