@@ -3,6 +3,7 @@ pub mod CanonicalLemmas
 pub mod WrittenLemmas
 pub mod Determined
 pub mod DraftLemmas
+pub mod RunLemmas
 pub mod ScanLemmas
 pub mod GrammarLemmas
 pub mod OneReading

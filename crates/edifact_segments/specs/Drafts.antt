@@ -41,6 +41,10 @@ pub record IsDraft (d : Draft) (closed : List (List (List ℕ))) (now : List (Li
 abbrev pub Drafts : Service → Draft → List Character → Type 0
 Drafts s d cs = (closed : List (List (List ℕ))) × (now : List (List ℕ)) × IsDraft d closed now × (elements_of s cs ≡ closed ++ (now ++ d.text.items ∷ []) ∷ [])
 
+-- The same, where these bytes of the last component aren't kept yet.
+abbrev pub DraftsWith : Service → Draft → List Character → List ℕ → Type 0
+DraftsWith s d cs run = (closed : List (List (List ℕ))) × (now : List (List ℕ)) × IsDraft d closed now × (elements_of s cs ≡ closed ++ (now ++ (d.text.items ++ run) ∷ []) ∷ [])
+
 -- The draft holds what these characters stand for, all of them.
 abbrev pub Holds : Service → Draft → List Character → Type 0
 Holds s d cs = (closed : List (List (List ℕ))) × IsDraft d closed [] × (elements_of s cs ≡ closed)

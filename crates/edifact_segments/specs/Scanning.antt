@@ -1,5 +1,5 @@
 -- What the reader finds from a place on. No public clause cites this module.
-use Rattle.std.specs.Prelude.{ℕ, Bool, true, false, ◌==◌, List, [], ◌∷◌, if◌then◌else◌}
+use Rattle.std.specs.Prelude.{ℕ, Bool, true, false, ◌&&◌, ◌==◌, not, List, [], ◌∷◌, if◌then◌else◌}
 use Rattle.edifact_segments.specs.Characters.{Character, Plain, Released, is_control, is_release}
 use Rattle.edifact_segments.specs.Grammar.{is_gap_byte}
 use Rattle.edifact_segments.specs.declared.service.Service.{Service}
@@ -8,6 +8,11 @@ use Rattle.edifact_segments.specs.declared.service.Service.{Service}
 abbrev pub skip : List ℕ → List ℕ
 skip [] = []
 skip (b ∷ bs) = if is_gap_byte b then skip bs else b ∷ bs
+
+-- a byte that stands as it is: no control byte, and no service character
+abbrev pub is_ordinary : Service → ℕ → Bool
+is_ordinary s b =
+    not (is_control b) && not (is_release s b) && not (b == s.terminator) && not (b == s.element) && not (b == s.component)
 
 -- what the text of a segment comes to: its terminator, a control byte or the end
 pub data Front : Type 0 where

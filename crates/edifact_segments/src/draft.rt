@@ -20,7 +20,7 @@ pub(crate) struct Draft {
     pub element: usize,
     pub component: usize,
 
-    /// The bytes of the next component.
+    /// The bytes of the next component up to its last released one: none where no byte was released.
     pub text: Vec<u8>,
 }
 
@@ -38,60 +38,85 @@ impl Draft {
         }
     }
 
-    /// A component ends.
-    pub(crate) fn end_component(&mut self) -> Result<(), NoMemory>
+    /// A byte behind the release character, and the bytes before it that stand as they are.
+    pub(crate) fn release(&mut self, run: &[u8], byte: u8) -> Result<(), NoMemory>
+        ensures draft { (closed : List (List (List ℕ))) (now : List (List ℕ)) → IsDraft self.old closed now → IsDraft self.new closed now }
+        ensures element { self.new.element ≡ self.old.element }
+        ensures component { self.new.component ≡ self.old.component }
+        ensures text { OnOk result (self.new.text.items ≡ (self.old.text.items ++ run.now) ++ byte ∷ []) }
+    {
+        self.text.extend_from_slice(run)?;
+        self.text.push(byte)?;
+        Ok(())
+    }
+
+    /// A component ends with these bytes.
+    pub(crate) fn end_component(&mut self, run: &[u8]) -> Result<(), NoMemory>
         requires { self.old.component < 2 ^ 63 }
         ensures draft { (closed : List (List (List ℕ))) (now : List (List ℕ)) → IsDraft self.old closed now
-            → OnOk result (IsDraft self.new closed (now ++ self.old.text.items ∷ [])) }
+            → OnOk result (IsDraft self.new closed (now ++ (self.old.text.items ++ run.now) ∷ [])) }
         ensures element { OnOk result (self.new.element ≡ self.old.element) }
         ensures component { OnOk result (self.new.component ≡ self.old.component + 1) }
         ensures text { OnOk result (self.new.text.items ≡ []) }
     {
-        keep(
-            &mut self.elements,
-            self.element,
-            self.component,
-            self.text.as_slice(),
-        )?;
+        lengthen(&mut self.text, run)?;
+        let text = joined(self.text.as_slice(), run);
+        keep(&mut self.elements, self.element, self.component, text)?;
         self.component += 1;
         self.text.clear();
         Ok(())
     }
 
-    /// An element ends.
-    pub(crate) fn end_element(&mut self) -> Result<(), NoMemory>
+    /// An element ends with these bytes.
+    pub(crate) fn end_element(&mut self, run: &[u8]) -> Result<(), NoMemory>
         requires { self.old.element < 2 ^ 63 }
         ensures draft { (closed : List (List (List ℕ))) (now : List (List ℕ)) → IsDraft self.old closed now
-            → OnOk result (IsDraft self.new (closed ++ (now ++ self.old.text.items ∷ []) ∷ []) []) }
+            → OnOk result (IsDraft self.new (closed ++ (now ++ (self.old.text.items ++ run.now) ∷ []) ∷ []) []) }
         ensures element { OnOk result (self.new.element ≡ self.old.element + 1) }
         ensures component { OnOk result (self.new.component ≡ 0) }
         ensures text { OnOk result (self.new.text.items ≡ []) }
     {
-        keep(
-            &mut self.elements,
-            self.element,
-            self.component,
-            self.text.as_slice(),
-        )?;
-        self.tag = self.next_tag();
+        lengthen(&mut self.text, run)?;
+        let text = joined(self.text.as_slice(), run);
+        keep(&mut self.elements, self.element, self.component, text)?;
+        self.tag = next_tag(self.tag, self.element, self.component, text);
         self.element += 1;
         self.component = 0;
         self.text.clear();
         Ok(())
     }
+}
 
-    /// The tag, once the element that is read ends.
-    fn next_tag(&self) -> Option<[u8; 3]>
-        ensures { (closed : List (List (List ℕ))) (now : List (List ℕ)) → self.now.element ≡ length closed → self.now.component ≡ length now
-            → IsTagKept self.now.tag closed → IsTagNext result closed (now ++ self.now.text.items ∷ []) }
-    {
-        if self.element > 0 {
-            self.tag
-        } else if self.component > 0 {
-            None
-        } else {
-            tag_of(self.text.as_slice())
-        }
+/// Appends the run to the text where there is one.
+fn lengthen(text: &mut Vec<u8>, run: &[u8]) -> Result<(), NoMemory>
+    ensures none { text.old.items ≡ [] → text.new.items ≡ [] }
+    ensures some { 0 < length text.old.items → OnOk result (text.new.items ≡ text.old.items ++ run.now) }
+{
+    if !text.is_empty() {
+        text.extend_from_slice(run)?;
+    }
+    Ok(())
+}
+
+/// The bytes of a component: the text where there is one, which has the run already, and else the run alone.
+fn joined<'a>(text: &'a [u8], run: &'a [u8]) -> &'a [u8]
+    ensures none { text.now ≡ [] → result.now ≡ run.now }
+    ensures some { 0 < length text.now → result.now ≡ text.now }
+{
+    if text.is_empty() { run } else { text }
+}
+
+/// The tag, once this element ends with this component.
+fn next_tag(tag: Option<[u8; 3]>, element: usize, component: usize, text: &[u8]) -> Option<[u8; 3]>
+    ensures { (closed : List (List (List ℕ))) (now : List (List ℕ)) → element ≡ length closed → component ≡ length now
+        → IsTagKept tag closed → IsTagNext result closed (now ++ text.now ∷ []) }
+{
+    if element > 0 {
+        tag
+    } else if component > 0 {
+        None
+    } else {
+        tag_of(text)
     }
 }
 

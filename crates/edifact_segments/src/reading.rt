@@ -1,12 +1,12 @@
 //! Interchanges as they are read.
-ghost use Rattle.std.specs.Prelude.{◌≡◌, ◌≢◌, ◌⊎◌, ℕ, ◌+◌, ◌<◌, ◌≤◌, ◌^◌, false, List, [], ◌∷◌, ◌++◌, length, drop, IfErr, IfOk, IsTrue, OnOk};
+ghost use Rattle.std.specs.Prelude.{◌≡◌, ◌≢◌, ◌⊎◌, ℕ, ◌+◌, ◌<◌, ◌≤◌, ◌^◌, ◌==◌, ◌||◌, true, false, List, [], ◌∷◌, ◌++◌, length, drop, slice_range, slice_index, IfErr, IfOk, IsTrue, OnOk};
 ghost use Rattle.edifact_segments.specs.Characters.{Character, Plain};
-ghost use Rattle.edifact_segments.specs.Drafts.{Drafts, Finds, Reads};
+ghost use Rattle.edifact_segments.specs.Drafts.{Drafts, DraftsWith, Finds, Reads};
 ghost use Rattle.edifact_segments.specs.Grammar.{HasFault, HasUna, IsHeaded, IsInterchange, Starts, unb, unz};
 ghost use Rattle.edifact_segments.specs.ReadBack.{AreWritable, IsWritable};
 ghost use Rattle.edifact_segments.specs.Written.{written};
-ghost use Rattle.std.specs.List.{flat_map};
-ghost use Rattle.edifact_segments.specs.Scanning.{skip};
+ghost use Rattle.std.specs.List.{flat_map, list_all};
+ghost use Rattle.edifact_segments.specs.Scanning.{is_ordinary, skip};
 ghost use Rattle.edifact_segments.specs.declared.faults.SegFault.{SegFault};
 ghost use Rattle.edifact_segments.specs.declared.segments.Segment.{Segment};
 
@@ -134,6 +134,21 @@ fn skip_gap(bytes: &[u8], from: usize) -> usize
     at
 }
 
+/// Where the ordinary bytes from a place on end: at the first that is none, or with the text.
+fn run_end(service: &Service, bytes: &[u8], from: usize) -> usize
+    requires { from ≤ length bytes.now }
+    ensures least { from ≤ result }
+    ensures within { result ≤ length bytes.now }
+    ensures run { list_all (is_ordinary service.now) (slice_range bytes.now from result) ≡ true }
+    ensures ends { result < length bytes.now → is_ordinary service.now (slice_index bytes.now result) ≡ false }
+{
+    let mut at = from;
+    while at < bytes.len() && service.is_ordinary(bytes[at]) {
+        at += 1;
+    }
+    at
+}
+
 /// The segment that begins at a place, and the place behind its terminator.
 fn read_segment(
     alloc: Global,
@@ -148,46 +163,49 @@ fn read_segment(
     let mut draft = Draft::new(alloc);
     let mut at = from;
     while at < bytes.len() {
-        let byte = bytes[at];
+        let end = run_end(service, bytes, at);
+        if end == bytes.len() {
+            return Err(SegFault::Unterminated { at: from as u64 });
+        }
+        let run = &bytes[at..end];
+        let byte = bytes[end];
         if is_control_byte(byte) {
-            return Err(SegFault::ControlByte { at: at as u64 });
+            return Err(SegFault::ControlByte { at: end as u64 });
         }
         if service.releases(byte) {
-            if at + 1 == bytes.len() {
+            if end + 1 == bytes.len() {
                 return Err(SegFault::Unterminated { at: from as u64 });
             }
-            let next = bytes[at + 1];
+            let next = bytes[end + 1];
             if is_control_byte(next) {
-                return Err(SegFault::ControlByte { at: at as u64 + 1 });
+                return Err(SegFault::ControlByte { at: end as u64 + 1 });
             }
-            draft.text.push(next)?;
-            at += 2;
+            draft.release(run, next)?;
+            at = end + 2;
         } else if byte == service.terminator {
-            draft.end_element()?;
-            return Ok((draft, at + 1));
+            draft.end_element(run)?;
+            return Ok((draft, end + 1));
         } else {
-            take_plain(&mut draft, service, byte)?;
-            at += 1;
+            separate(&mut draft, service, byte, run)?;
+            at = end + 1;
         }
     }
     Err(SegFault::Unterminated { at: from as u64 })
 }
 
-/// A byte that isn't released and no terminator.
-fn take_plain(draft: &mut Draft, service: &Service, byte: u8) -> Result<(), NoMemory>
+/// A separator behind ordinary bytes.
+fn separate(draft: &mut Draft, service: &Service, byte: u8, run: &[u8]) -> Result<(), NoMemory>
+    requires separator { (byte == service.now.element || byte == service.now.component) ≡ true }
     requires element { draft.old.element < 2 ^ 63 }
     requires component { draft.old.component < 2 ^ 63 }
-    ensures draft { (cs : List Character) → Drafts service.now draft.old cs → OnOk result (Drafts service.now draft.new (cs ++ Plain byte ∷ [])) }
+    ensures draft { (cs : List Character) → DraftsWith service.now draft.old cs run.now → OnOk result (Drafts service.now draft.new (cs ++ Plain byte ∷ [])) }
     ensures element { OnOk result (draft.new.element ≤ draft.old.element + 1) }
     ensures component { OnOk result (draft.new.component ≤ draft.old.component + 1) }
 {
     if byte == service.element {
-        draft.end_element()
-    } else if byte == service.component {
-        draft.end_component()
+        draft.end_element(run)
     } else {
-        draft.text.push(byte)?;
-        Ok(())
+        draft.end_component(run)
     }
 }
 

@@ -1,6 +1,7 @@
 //! Service characters.
 ghost use Rattle.std.specs.Prelude.{◌≡◌, ◌↔◌, IsTrue};
 ghost use Rattle.edifact_segments.specs.Characters.{is_control, is_release, default_service};
+ghost use Rattle.edifact_segments.specs.Scanning.{is_ordinary};
 ghost use Rattle.edifact_segments.specs.Grammar.{IsService, are_apart, are_marks, is_gap_byte, is_mark};
 
 /// The service characters of an interchange that separate (ISO 9735).
@@ -32,6 +33,17 @@ impl Service {
         ensures { result ≡ is_release self.now byte }
     {
         byte == self.release && byte != b' '
+    }
+
+    /// Whether the byte stands as it is, outside a release: no control byte, and none of these characters.
+    pub(crate) fn is_ordinary(&self, byte: u8) -> bool
+        ensures { result ≡ is_ordinary self.now byte }
+    {
+        !is_control_byte(byte)
+            && !self.releases(byte)
+            && byte != self.terminator
+            && byte != self.element
+            && byte != self.component
     }
 
     /// Whether these can serve: marks, of which no two are equal, and only the release character is a space.
