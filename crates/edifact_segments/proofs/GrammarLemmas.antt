@@ -111,19 +111,19 @@ tells-front s xs f e =
     let P : Front → Type 0 = λ x. Tells s x xs in
     subst P e (tells s false xs not_true)
 
-pub finds-err : (s : Service) (bytes : List ℕ) (from number : ℕ) (e : SegFault) → Reads s bytes from (Err e) → Finds s bytes from number (Err e)
-finds-err s bytes from number (Unterminated at) h = (tells-front s (drop from bytes) Unended h.0, h.1)
-finds-err s bytes from number (ControlByte at) h =
+pub finds-err : (s : Service) (bytes : List ℕ) (from number : ℕ) (d : Draft) (e : SegFault) → Reads s bytes from d (Err e) → Finds s bytes from number (Err e)
+finds-err s bytes from number d (Unterminated at) h = (tells-front s (drop from bytes) Unended h.0, h.1)
+finds-err s bytes from number d (ControlByte at) h =
     let t = tells-front s (drop from bytes) (Broken (drop at bytes)) h.0 in
     let left : length (drop at bytes) ≡ length bytes - at = length-drop at bytes in
     let place : at + length (drop at bytes) ≡ length bytes = omega (arith, h.1, left) in
     (t.0, t.1, t.2, t.4 ∙ ap (λ x. t.0 ++ x) t.5, t.3, t.6, ap (λ x. at + length x) (sym t.5) ∙ place)
-finds-err s bytes from number NoMemory h = tt
-finds-err s bytes from number NoHeader h = h
-finds-err s bytes from number BadUna h = h
-finds-err s bytes from number (BadTag n) h = absurd h
-finds-err s bytes from number (NoTrailer n) h = h
-finds-err s bytes from number (Trailing at) h = h
+finds-err s bytes from number d NoMemory h = tt
+finds-err s bytes from number d NoHeader h = h
+finds-err s bytes from number d BadUna h = h
+finds-err s bytes from number d (BadTag n) h = absurd h
+finds-err s bytes from number d (NoTrailer n) h = h
+finds-err s bytes from number d (Trailing at) h = h
 
 module _ (d : Draft) (elements : List (List (List ℕ))) where
   pub no_tag : (closed : List (List (List ℕ))) → IsDraft d closed [] → elements ≡ closed → d.tag ≡ None → (s : Segment) → IsSegmentOf elements s → ⊥

@@ -58,18 +58,18 @@ abbrev pub placed : List (List (List ℕ)) → ℕ → ℕ → List ℕ → List
 placed es n k text =
     on_last (λ e. e ++ text ∷ []) (on_last (λ e. e ++ replicate (k - length (slice_index_or (padded es n) (n - 1) [])) []) (padded es n))
 
--- What the reader of a segment answers for the bytes from a place on: a draft and the place behind the
--- terminator, or the fault.
-abbrev pub Reads : Service → List ℕ → ℕ → Result (Draft × ℕ) SegFault → Type 0
-Reads s bytes from (Ok x) = (cs : List Character) × (front s false (drop from bytes) ≡ Complete cs (drop x.1 bytes)) × Holds s x.0 cs × (from < x.1) × (x.1 ≤ length bytes)
-Reads s bytes from (Err (Unterminated at)) = (front s false (drop from bytes) ≡ Unended) × (at ≡ from)
-Reads s bytes from (Err (ControlByte at)) = (front s false (drop from bytes) ≡ Broken (drop at bytes)) × (at < length bytes)
-Reads s bytes from (Err NoMemory) = Unit {0}
-Reads s bytes from (Err NoHeader) = ⊥
-Reads s bytes from (Err BadUna) = ⊥
-Reads s bytes from (Err (BadTag n)) = ⊥
-Reads s bytes from (Err (NoTrailer n)) = ⊥
-Reads s bytes from (Err (Trailing at)) = ⊥
+-- What the reader of a segment answers for the bytes from a place on, and what its draft then holds: the
+-- place behind the terminator, or the fault.
+abbrev pub Reads : Service → List ℕ → ℕ → Draft → Result ℕ SegFault → Type 0
+Reads s bytes from d (Ok next) = (cs : List Character) × (front s false (drop from bytes) ≡ Complete cs (drop next bytes)) × Holds s d cs × (from < next) × (next ≤ length bytes)
+Reads s bytes from d (Err (Unterminated at)) = (front s false (drop from bytes) ≡ Unended) × (at ≡ from)
+Reads s bytes from d (Err (ControlByte at)) = (front s false (drop from bytes) ≡ Broken (drop at bytes)) × (at < length bytes)
+Reads s bytes from d (Err NoMemory) = Unit {0}
+Reads s bytes from d (Err NoHeader) = ⊥
+Reads s bytes from d (Err BadUna) = ⊥
+Reads s bytes from d (Err (BadTag n)) = ⊥
+Reads s bytes from d (Err (NoTrailer n)) = ⊥
+Reads s bytes from d (Err (Trailing at)) = ⊥
 
 -- What the reader of a segment with its tag answers for the bytes from a place on, where no gap is.
 abbrev pub Finds : Service → List ℕ → ℕ → ℕ → Result (Segment × ℕ) SegFault → Type 0

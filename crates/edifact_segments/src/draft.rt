@@ -4,7 +4,7 @@ ghost use Rattle.edifact_segments.specs.Drafts.{IsDraft, IsTagKept, IsTagNext, I
 ghost use Rattle.edifact_segments.specs.Grammar.{IsTag, is_capital};
 ghost use Rattle.edifact_segments.specs.Pieces.{on_last};
 
-use crate::elements::ElementList;
+use crate::buffer::ElementBuffer;
 use std::alloc::Global;
 use stow_data::NoMemory;
 
@@ -14,7 +14,7 @@ use stow_data::NoMemory;
 pub(crate) struct Draft {
     /// The tag, once the first element is read and is one.
     pub tag: Option<[u8; 3]>,
-    pub elements: ElementList,
+    pub elements: ElementBuffer,
 
     /// How many elements are read, the tag's included, and how many components of the next.
     pub element: usize,
@@ -31,11 +31,23 @@ impl Draft {
     {
         Draft {
             tag: None,
-            elements: ElementList::new(alloc),
+            elements: ElementBuffer::new(alloc),
             element: 0,
             component: 0,
             text: Vec::new(alloc),
         }
+    }
+
+    /// Nothing is read yet. The room is kept.
+    pub(crate) fn clear(&mut self)
+        ensures draft { IsDraft self.new [] [] }
+        ensures text { self.new.text.items ≡ [] }
+    {
+        self.tag = None;
+        self.elements.clear();
+        self.element = 0;
+        self.component = 0;
+        self.text.clear();
     }
 
     /// A byte behind the release character, and the bytes before it that stand as they are.
@@ -122,7 +134,7 @@ fn next_tag(tag: Option<[u8; 3]>, element: usize, component: usize, text: &[u8])
 
 /// Keeps a component behind so many components of the element with this number, counted from the tag's.
 fn keep(
-    elements: &mut ElementList,
+    elements: &mut ElementBuffer,
     element: usize,
     component: usize,
     text: &[u8],
@@ -140,7 +152,7 @@ fn keep(
 
 /// Puts a component behind so many components of the element with this number, counted from 1.
 fn place(
-    elements: &mut ElementList,
+    elements: &mut ElementBuffer,
     element: usize,
     component: usize,
     text: &[u8],
@@ -155,7 +167,7 @@ fn place(
 }
 
 /// Appends empty elements, up to so many.
-fn pad_elements(elements: &mut ElementList, count: usize) -> Result<(), NoMemory>
+fn pad_elements(elements: &mut ElementBuffer, count: usize) -> Result<(), NoMemory>
     ensures { OnOk result (elements.new ≡ padded elements.old count) }
 {
     for _index in elements.len()..count {
@@ -165,7 +177,7 @@ fn pad_elements(elements: &mut ElementList, count: usize) -> Result<(), NoMemory
 }
 
 /// Appends empty components to the last element, where so many are present, up to so many.
-fn pad_components(elements: &mut ElementList, present: usize, count: usize) -> Result<(), NoMemory>
+fn pad_components(elements: &mut ElementBuffer, present: usize, count: usize) -> Result<(), NoMemory>
     requires { 0 < length elements.old }
     ensures padded { OnOk result (elements.new ≡ on_last (λ e. e ++ replicate (count - present) []) elements.old) }
     ensures length { OnOk result (length elements.new ≡ length elements.old) }

@@ -1,6 +1,6 @@
 //! The elements of a segment.
 ghost use Rattle.std.specs.Prelude.{◌≡◌, ◌+◌, ◌<◌, ◌≤◌, ◌↔◌, [], ◌∷◌, ◌++◌, length, is_ok, IfOk, if◌then◌else◌, slice_index, slice_index_or, IsTrue};
-ghost use Rattle.edifact_segments.specs.Pieces.{on_last, IsAscending, first_or};
+ghost use Rattle.edifact_segments.specs.Pieces.{on_last, pieces, IsAscending, first_or};
 ghost use Rattle.edifact_segments.specs.Elements.{component_at};
 
 use smallvec::SmallVec;
@@ -44,6 +44,24 @@ impl ElementList {
             components: SmallVec::new(alloc),
             elements: SmallVec::new(alloc),
         }
+    }
+
+    /// The elements that begin at these places in the components, which begin at these places in the bytes.
+    pub(crate) fn of_pieces(
+        alloc: Global,
+        bytes: &[u8],
+        components: &[usize],
+        elements: &[usize],
+    ) -> Result<ElementList, NoMemory>
+        requires elements { IsAscending elements.now (length components.now) }
+        requires components { IsAscending components.now (length bytes.now) }
+        ensures { IfOk result (λ e. e ≡ pieces elements.now (pieces components.now bytes.now)) }
+    {
+        Ok(ElementList {
+            bytes: SmallVec::from_slice(alloc, bytes)?,
+            components: SmallVec::from_slice(alloc, components)?,
+            elements: SmallVec::from_slice(alloc, elements)?,
+        })
     }
 
     /// The number of elements.
@@ -138,7 +156,7 @@ impl ElementList {
 }
 
 /// Where a piece begins and where it ends.
-fn piece(starts: &[usize], end: usize, i: usize) -> (usize, usize)
+pub(crate) fn piece(starts: &[usize], end: usize, i: usize) -> (usize, usize)
     requires within { i < length starts.now }
     requires ascending { IsAscending starts.now end }
     ensures from { result.0 ≡ slice_index starts.now i }

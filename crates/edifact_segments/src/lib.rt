@@ -1,6 +1,7 @@
 //! Segments of an EDIFACT interchange (ISO 9735): what they are, how they are written and read.
 #![tactic(auto)]
 
+mod buffer;
 mod draft;
 mod elements;
 mod faults;

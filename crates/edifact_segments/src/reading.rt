@@ -26,10 +26,11 @@ pub fn read_interchange(alloc: Global, bytes: &[u8]) -> Result<SegmentList, SegF
 {
     let (service, start) = read_advice(bytes)?;
     let mut segments = SegmentList::new(alloc);
+    let mut draft = Draft::new(alloc);
     let mut at = skip_gap(bytes, start);
     while at < bytes.len() {
         let number = segments.len() as u32 + 1;
-        let (segment, next) = next_segment(alloc, &service, bytes, at, number)?;
+        let (segment, next) = next_segment(alloc, &mut draft, &service, bytes, at, number)?;
         if !is_headed(&segments, &segment) {
             return Err(SegFault::NoHeader);
         }
@@ -102,6 +103,7 @@ fn has_una(bytes: &[u8]) -> bool
 /// The segment that begins at a place, which has this number, and the place behind its terminator.
 fn next_segment(
     alloc: Global,
+    draft: &mut Draft,
     service: &Service,
     bytes: &[u8],
     from: usize,
@@ -111,12 +113,12 @@ fn next_segment(
     requires small { length bytes.now ≤ 2 ^ 29 }
     ensures { Finds service.now bytes.now from number result }
 {
-    let (draft, next) = read_segment(alloc, service, bytes, from)?;
+    let next = read_segment(draft, service, bytes, from)?;
     let tag = match draft.tag {
         Some(tag) => tag,
         None => return Err(SegFault::BadTag { segment: number }),
     };
-    let elements = draft.elements;
+    let elements = draft.elements.list(alloc)?;
     Ok((Segment { tag, elements }, next))
 }
 
@@ -149,18 +151,18 @@ fn run_end(service: &Service, bytes: &[u8], from: usize) -> usize
     at
 }
 
-/// The segment that begins at a place, and the place behind its terminator.
+/// Reads the segment that begins at a place into the draft: the place behind its terminator.
 fn read_segment(
-    alloc: Global,
+    draft: &mut Draft,
     service: &Service,
     bytes: &[u8],
     from: usize,
-) -> Result<(Draft, usize), SegFault>
+) -> Result<usize, SegFault>
     requires within { from ≤ length bytes.now }
     requires small { length bytes.now ≤ 2 ^ 29 }
-    ensures { Reads service.now bytes.now from result }
+    ensures { Reads service.now bytes.now from draft.new result }
 {
-    let mut draft = Draft::new(alloc);
+    draft.clear();
     let mut at = from;
     while at < bytes.len() {
         let end = run_end(service, bytes, at);
@@ -184,9 +186,9 @@ fn read_segment(
             at = end + 2;
         } else if byte == service.terminator {
             draft.end_element(run)?;
-            return Ok((draft, end + 1));
+            return Ok(end + 1);
         } else {
-            separate(&mut draft, service, byte, run)?;
+            separate(draft, service, byte, run)?;
             at = end + 1;
         }
     }
