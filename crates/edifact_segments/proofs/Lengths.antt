@@ -1,5 +1,5 @@
 -- An interchange has no more segments than bytes.
-use Rattle.std.proofs.Common.{◌≡◌, ◌⊎◌, inl, inr, ℕ, ◌+◌, ◌≤◌, ◌<◌, arith, refl, ap, List, [], ◌∷◌, ◌++◌, length, length-append}
+use Rattle.std.proofs.Common.{inl, inr, ℕ, ◌+◌, ◌≤◌, ◌<◌, arith, ap, List, [], ◌∷◌, ◌++◌, length, length-append}
 use Rattle.edifact_segments.specs.declared.segments.Segment.{Segment}
 use Rattle.edifact_segments.specs.declared.service.Service.{Service}
 use Rattle.edifact_segments.specs.Characters.{spelling}

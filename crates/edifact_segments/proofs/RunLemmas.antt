@@ -5,7 +5,7 @@ use Rattle.std.proofs.lemmas.Bool.{false≢true, true≢false}
 use Rattle.std.proofs.lemmas.List.{append-nil, get_or-drop, length-drop}
 use Rattle.std.proofs.lemmas.List.Folds.{list_all_more, drop_split}
 use Rattle.edifact_segments.specs.Characters.{Character, Plain, is_control, is_release, elements_of}
-use Rattle.edifact_segments.specs.Scanning.{Front, front, is_ordinary, with_character}
+use Rattle.edifact_segments.specs.Scanning.{front, is_ordinary, with_character}
 use Rattle.edifact_segments.specs.declared.service.Service.{Service}
 use Rattle.edifact_segments.proofs.ScanLemmas.{opened, behind, with_characters, with_characters-push, elements_of-push, opened-byte}
 

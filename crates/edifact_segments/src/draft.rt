@@ -177,7 +177,11 @@ fn pad_elements(elements: &mut ElementBuffer, count: usize) -> Result<(), NoMemo
 }
 
 /// Appends empty components to the last element, where so many are present, up to so many.
-fn pad_components(elements: &mut ElementBuffer, present: usize, count: usize) -> Result<(), NoMemory>
+fn pad_components(
+    elements: &mut ElementBuffer,
+    present: usize,
+    count: usize,
+) -> Result<(), NoMemory>
     requires { 0 < length elements.old }
     ensures padded { OnOk result (elements.new ≡ on_last (λ e. e ++ replicate (count - present) []) elements.old) }
     ensures length { OnOk result (length elements.new ≡ length elements.old) }

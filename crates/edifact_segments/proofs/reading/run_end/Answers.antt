@@ -1,4 +1,4 @@
-use Rattle.std.proofs.Common.{◌≤◌, sym, ◌∙◌, arith}
+use Rattle.std.proofs.Common.{sym, ◌∙◌, arith}
 use Rattle.edifact_segments.specs.Scanning.{is_ordinary}
 use Rattle.edifact_segments.proofs.RunLemmas.{range-all-more}
 use Rattle.edifact_segments.proofs.reading.run_end.Goals as goal
