@@ -1,6 +1,7 @@
--- What a list of segments gives as a message (SMDG BAPLIE 2.2).
+-- What a list of segments, and a text, gives as a message (SMDG BAPLIE 2.2).
 use Rattle.std.specs.Prelude.{◌≡◌, ℕ, List, map, Some, slice_get}
 use Rattle.edifact_segments.specs.declared.segments.Segment.{Segment}
+use Rattle.edifact_segments.specs.Grammar.{IsInterchange}
 use Rattle.baplie_model.specs.declared.parts.Message.{Message}
 use Rattle.baplie_model.specs.declared.causes.Cause.{Cause}
 use Rattle.baplie_model.specs.Groups.{cell_group}
@@ -17,3 +18,9 @@ pub record IsMessage (segments : List Segment) (message : Message) : Type 0 wher
 -- the list gives a message
 abbrev pub IsRead : List Segment → Type 0
 IsRead segments = (message : Message) × IsMessage segments message
+
+-- the bytes are an interchange with this message
+pub record IsMessageOf (bytes : List ℕ) (message : Message) : Type 0 where
+  pub segments : List Segment
+  pub interchange : IsInterchange bytes segments
+  pub is_message : IsMessage segments message

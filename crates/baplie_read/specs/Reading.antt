@@ -3,9 +3,7 @@ use Rattle.std.specs.Prelude.{◌≡◌, ℕ, List, Option, Some}
 use Rattle.edifact_segments.specs.declared.segments.Segment.{Segment}
 use Rattle.edifact_segments.specs.Grammar.{IsInterchange, HasFault}
 use Rattle.baplie_model.specs.declared.causes.Cause.{Cause}
-use Rattle.baplie_model.specs.declared.parts.Message.{Message}
 use Rattle.baplie_model.specs.Faults.{IsLeastFault}
-use Rattle.baplie_model.specs.Messages.{IsMessage}
 use Rattle.baplie_read.specs.declared.faults.BaplieFault.{BaplieFault}
 use Rattle.baplie_read.specs.declared.faults.BaplieFault.TheVariants.{Seg, At, NoMemory}
 
@@ -20,12 +18,6 @@ abbrev pub IsFaultOf : List Segment → BaplieFault → Type 0
 IsFaultOf segments (Seg e) = ⊥
 IsFaultOf segments (At n cause) = IsLeastFault segments n cause
 IsFaultOf segments NoMemory = Unit {0}
-
--- The bytes are an interchange with this message.
-pub record IsMessageOf (bytes : List ℕ) (message : Message) : Type 0 where
-  pub segments : List Segment
-  pub interchange : IsInterchange bytes segments
-  pub is_message : IsMessage segments message
 
 -- The bytes are an interchange whose segments have this least fault.
 pub record IsFaultIn (bytes : List ℕ) (n : ℕ) (cause : Cause) : Type 0 where

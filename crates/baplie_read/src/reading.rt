@@ -3,8 +3,8 @@ ghost use Rattle.std.specs.Prelude.{◌≡◌, ◌+◌, ◌<◌, ◌≤◌, ◌^
 ghost use Rattle.baplie_model.specs.Faults.{body, groups, head, is_titled};
 ghost use Rattle.baplie_model.specs.Finding.{groups_fault};
 ghost use Rattle.baplie_model.specs.Groups.{cell_group};
-ghost use Rattle.baplie_model.specs.Messages.{IsMessage};
-ghost use Rattle.baplie_read.specs.Reading.{IsBaplieFault, IsFaultOf, IsFound, IsMessageOf};
+ghost use Rattle.baplie_model.specs.Messages.{IsMessage, IsMessageOf};
+ghost use Rattle.baplie_read.specs.Reading.{IsBaplieFault, IsFaultOf, IsFound};
 
 use crate::endings::end_fault;
 use crate::faults::BaplieFault;

@@ -11,10 +11,11 @@ use Rattle.stow_data.specs.declared.geometry.Lengths.TheVariants.{Forty}
 use Rattle.stow_data.specs.declared.geometry.Place.{Place}
 use Rattle.stow_data.specs.declared.geometry.Span.{Span}
 use Rattle.stow_data.specs.declared.shipments.Container.{Container}
+use Rattle.stow_data.specs.Kinds.{rounded}
 use Rattle.stow_data.specs.Ship.{Ship, places, spans, stack_places, tier_places}
 use Rattle.stow_data.specs.Shipment.{Cargo}
 use Rattle.voyage_specs.specs.Plan.{Holds}
-use Rattle.voyage_specs.specs.Departure.{rounded, weight_in, IsWithinLimits}
+use Rattle.voyage_specs.specs.Departure.{weight_in, IsWithinLimits}
 use Rattle.plain_voyages.specs.Plain.{IsPlainShip}
 use Rattle.greedy_loader.specs.Loader.{Stowage}
 

@@ -16,7 +16,7 @@ use Rattle.baplie_model.specs.Faults as faults
 use Rattle.baplie_model.specs.Finding.{groups_fault}
 use Rattle.baplie_model.specs.Groups.{cell_group}
 use Rattle.baplie_model.specs.Segments.{closes}
-use Rattle.baplie_read.specs.Reading.{IsMessageOf}
+use Rattle.baplie_model.specs.Messages.{IsMessageOf}
 use Rattle.plan_files.specs.DepartureFile as file
 use Rattle.plan_files.specs.DepartureFile.{Group, one, port_of, unb, unh, bgm, dtm, tdt, loc, cell_segment, mea, rff, eqd, group_segments, unt, unz, message, file_segments, file_text, text_of}
 use Rattle.baplie_write.specs.Whole as whole

@@ -6,7 +6,7 @@ ghost use Rattle.greedy_loader.specs.Loader.{Stowage};
 ghost use Rattle.plain_inputs.specs.declared.bookings_text.Bookings.{Bookings};
 ghost use Rattle.plain_inputs.specs.PlainBookings.{IsBookings, plain_cargo};
 ghost use Rattle.plan_files.specs.DepartureFile.{IsKnown, file_segments, file_text, groups};
-ghost use Rattle.baplie_read.specs.Reading.{IsMessageOf};
+ghost use Rattle.baplie_model.specs.Messages.{IsMessageOf};
 ghost use Rattle.baplie_write.specs.Whole.{IsWhole, segments_of};
 ghost use Rattle.plan_messages.specs.Departure.{message_of};
 

@@ -1,7 +1,7 @@
 //! The message of the departure of a call, and its text.
 ghost use Rattle.std.specs.Prelude.{◌≡◌, ◌<◌, drop, length, map, IfOk};
 ghost use Rattle.stow_data.specs.Ship.{places};
-ghost use Rattle.baplie_read.specs.Reading.{IsMessageOf};
+ghost use Rattle.baplie_model.specs.Messages.{IsMessageOf};
 ghost use Rattle.plain_inputs.specs.PlainBookings.{IsBookings, plain_cargo};
 ghost use Rattle.plan_files.specs.DepartureFile.{IsKnown, file_text, group_of, groups, head, number_at};
 ghost use Rattle.plan_messages.specs.Departure.{booked_facts, cell_group_of, message_of};

@@ -19,7 +19,8 @@ use Rattle.bound_checker.specs.Faults.{first_fault}
 use Rattle.baplie_model.specs.declared.parts.Message.{Message}
 use Rattle.baplie_read.specs.declared.faults.BaplieFault.{BaplieFault}
 use Rattle.baplie_read.specs.declared.faults.BaplieFault.TheVariants.{NoMemory}
-use Rattle.baplie_read.specs.Reading.{IsMessageOf, IsBaplieFault}
+use Rattle.baplie_model.specs.Messages.{IsMessageOf}
+use Rattle.baplie_read.specs.Reading.{IsBaplieFault}
 use Rattle.stow_report.specs.Refusals.{refusal_text}
 use Rattle.stow_report.specs.Listings.{listing_text}
 use Rattle.stow_cli.specs.declared.answer.Answer.{Answer}

@@ -1,5 +1,5 @@
 -- The lines of refusals: the group, the refusal's number, and its fields in their order.
-use Rattle.std.specs.Prelude.{ℕ, ℤ, pos, Bool, true, false, List, [], ◌∷◌, map}
+use Rattle.std.specs.Prelude.{ℕ, pos, true, false, [], ◌∷◌}
 use Rattle.stow_data.specs.declared.limits.Limit.{Limit}
 use Rattle.stow_data.specs.declared.limits.Limit.TheVariants.{Calls, Containers, Places, Variables, Rows, Certificate}
 use Rattle.certificate.specs.declared.faults.CertFault.{CertFault}
@@ -9,15 +9,10 @@ use Rattle.bound_checker.specs.declared.refusals.BoundNo.TheVariants as bound
 use Rattle.baplie_read.specs.declared.faults.BaplieFault.{BaplieFault}
 use Rattle.baplie_read.specs.declared.faults.BaplieFault.TheVariants.{Seg, At, NoMemory}
 use Rattle.edifact_segments.specs.declared.faults.SegFault.TheVariants as seg
-use Rattle.stow_report.specs.declared.lines.Group.{Group}
 use Rattle.stow_report.specs.declared.lines.Group.TheVariants as group
-use Rattle.stow_report.specs.declared.lines.Field.TheVariants.{Number}
 use Rattle.stow_report.specs.declared.lines.Line.{Line}
+use Rattle.stow_report.specs.Refusals.{numbered}
 use Rattle.stow_report.specs.Faults.{interchange_line, message_line}
-
--- a line whose fields are numbers
-abbrev pub numbered : Bool → Group → ℕ → List ℤ → Line
-numbered checked group n numbers = record { checked = checked; group = group; number = n; fields = map (λ z. Number z) numbers }
 
 -- the limits by their numbers
 abbrev pub limit_number : Limit → ℕ

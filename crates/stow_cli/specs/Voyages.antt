@@ -7,7 +7,7 @@ use Rattle.voyage_specs.specs.Shown.{CellGroup, IsLegalFileSet}
 use Rattle.baplie_model.specs.declared.parts.CellGroup as baplie
 use Rattle.baplie_model.specs.declared.parts.Facts.{Facts}
 use Rattle.baplie_model.specs.declared.parts.Message.{Message}
-use Rattle.baplie_read.specs.Reading.{IsMessageOf}
+use Rattle.baplie_model.specs.Messages.{IsMessageOf}
 use Rattle.stow_cli.specs.declared.writing.NamedFile.{NamedFile}
 use Rattle.voyage_specs.specs.Voyage.{HasCount}
 use Rattle.plain_inputs.specs.declared.bookings_text.Bookings.{Bookings}

@@ -1,7 +1,7 @@
 //! The lines of refusals.
-ghost use Rattle.std.specs.Prelude.{◌≡◌, map, IfOk};
+ghost use Rattle.std.specs.Prelude.{◌≡◌, IfOk};
 ghost use Rattle.stow_report.specs.Refusals.{refusal_text};
-ghost use Rattle.stow_cli.specs.Lines.{numbered, limit_number, limit_line, cert_line, bound_line, file_line};
+ghost use Rattle.stow_cli.specs.Lines.{limit_number, limit_line, cert_line, bound_line, file_line};
 
 use baplie_read::BaplieFault;
 use bound_checker::BoundNo;
@@ -9,29 +9,7 @@ use certificate::CertFault;
 use edifact_segments::SegFault;
 use std::alloc::Global;
 use stow_data::{Bytes, Limit, NoMemory};
-use stow_report::{Field, FieldList, Group, Line, interchange_line, message_line, refusal};
-
-/// A line whose fields are numbers.
-fn numbered(
-    alloc: Global,
-    checked: bool,
-    group: Group,
-    number: u32,
-    numbers: &[i128],
-) -> Result<Line, NoMemory>
-    ensures { IfOk result (λ line. line ≡ numbered checked group number numbers.now) }
-{
-    let mut fields = FieldList::new(alloc);
-    for n in numbers {
-        fields.push(Field::Number(*n))?;
-    }
-    Ok(Line {
-        checked,
-        group,
-        number,
-        fields,
-    })
-}
+use stow_report::{Group, Line, interchange_line, message_line, numbered, refusal};
 
 /// The number of a limit.
 fn limit_number(limit: Limit) -> u32

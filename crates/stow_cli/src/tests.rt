@@ -11,7 +11,7 @@ use stow_io::{MemFolder, MemSink, NoGate};
 pub const PLAN: &[&str] = &["stow", "plan", "ship.toml", "cargo.toml", "X"];
 
 /// A stack of two tiers on deck.
-pub const SHIP: &[u8] = b"name = \"V\"
+const SHIP: &[u8] = b"name = \"V\"
 [[stack]]
 bay = 2
 row = 1
@@ -100,7 +100,7 @@ UNZ+1+3'
 ";
 
 /// The second container stands on the first and leaves after it.
-pub const LATER_ON_EARLIER: &[u8] = b"vessel = \"V\"
+const LATER_ON_EARLIER: &[u8] = b"vessel = \"V\"
 voyage = \"1\"
 date = \"2601010000\"
 rotation = [\"AAAAA\", \"BBBBB\", \"CCCCC\", \"DDDDD\"]

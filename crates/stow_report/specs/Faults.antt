@@ -1,29 +1,24 @@
 -- The lines of the faults of a bay plan.
-use Rattle.std.specs.Prelude.{ℕ, ℤ, pos, false, List, [], ◌∷◌, map}
+use Rattle.std.specs.Prelude.{ℕ, ℤ, pos, false, List, [], ◌∷◌}
 use Rattle.edifact_segments.specs.declared.faults.SegFault.{SegFault}
 use Rattle.edifact_segments.specs.declared.faults.SegFault.TheVariants.{NoHeader, BadUna, Unterminated, ControlByte, BadTag, NoTrailer, Trailing, NoMemory}
 use Rattle.baplie_model.specs.declared.causes.Cause.{Cause}
 use Rattle.baplie_model.specs.declared.causes.Cause.TheVariants.{CountWrong}
 use Rattle.baplie_model.specs.Faults.{number}
-use Rattle.stow_report.specs.declared.lines.Group.{Group}
 use Rattle.stow_report.specs.declared.lines.Group.TheVariants.{Edifact, Baplie}
-use Rattle.stow_report.specs.declared.lines.Field.TheVariants.{Number}
 use Rattle.stow_report.specs.declared.lines.Line.{Line}
-
--- a line whose fields are numbers
-abbrev pub numbered : Group → ℕ → List ℤ → Line
-numbered group n numbers = record { checked = false; group = group; number = n; fields = map (λ z. Number z) numbers }
+use Rattle.stow_report.specs.Refusals.{numbered}
 
 -- the place of a byte or the number of a segment, where the fault has one
 abbrev pub interchange_line : SegFault → Line
-interchange_line NoHeader = numbered Edifact 1 []
-interchange_line BadUna = numbered Edifact 2 []
-interchange_line (Unterminated at) = numbered Edifact 3 (pos at ∷ [])
-interchange_line (ControlByte at) = numbered Edifact 4 (pos at ∷ [])
-interchange_line (BadTag segment) = numbered Edifact 5 (pos segment ∷ [])
-interchange_line (NoTrailer segments) = numbered Edifact 6 (pos segments ∷ [])
-interchange_line (Trailing at) = numbered Edifact 7 (pos at ∷ [])
-interchange_line NoMemory = numbered Edifact 8 []
+interchange_line NoHeader = numbered false Edifact 1 []
+interchange_line BadUna = numbered false Edifact 2 []
+interchange_line (Unterminated at) = numbered false Edifact 3 (pos at ∷ [])
+interchange_line (ControlByte at) = numbered false Edifact 4 (pos at ∷ [])
+interchange_line (BadTag segment) = numbered false Edifact 5 (pos segment ∷ [])
+interchange_line (NoTrailer segments) = numbered false Edifact 6 (pos segments ∷ [])
+interchange_line (Trailing at) = numbered false Edifact 7 (pos at ∷ [])
+interchange_line NoMemory = numbered false Edifact 8 []
 
 -- what a cause tells
 abbrev pub told : Cause → List ℤ
@@ -32,4 +27,4 @@ told _ = []
 
 -- the cause's number, then the segment's, then what the cause tells
 abbrev pub message_line : ℕ → Cause → Line
-message_line segment cause = numbered Baplie (number cause) (pos segment ∷ told cause)
+message_line segment cause = numbered false Baplie (number cause) (pos segment ∷ told cause)

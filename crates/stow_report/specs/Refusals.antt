@@ -1,11 +1,15 @@
--- The text of a refusal.
-use Rattle.std.specs.Prelude.{ℕ, Bool, true, false, codes, List, [], ◌∷◌, ◌++◌, flat_map}
+-- A refusal as a line, and its text.
+use Rattle.std.specs.Prelude.{ℕ, ℤ, Bool, true, false, codes, List, [], ◌∷◌, ◌++◌, map, flat_map}
 use Rattle.std.specs.Fmt.{decimal, signed_decimal}
 use Rattle.stow_report.specs.declared.lines.Group.{Group}
 use Rattle.stow_report.specs.declared.lines.Group.TheVariants.{Words, Profile, Bookings, Edifact, Baplie, Arrival, Large, Cert, Plan, Bound, Numbers}
 use Rattle.stow_report.specs.declared.lines.Field.{Field}
 use Rattle.stow_report.specs.declared.lines.Field.TheVariants.{Number, Named}
 use Rattle.stow_report.specs.declared.lines.Line.{Line}
+
+-- a line whose fields are numbers
+abbrev pub numbered : Bool → Group → ℕ → List ℤ → Line
+numbered checked group n numbers = record { checked = checked; group = group; number = n; fields = map (λ z. Number z) numbers }
 
 abbrev pub group_word : Group → List ℕ
 group_word Words = codes "words"

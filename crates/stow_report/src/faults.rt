@@ -1,9 +1,9 @@
 //! Refusals of bay plans.
-ghost use Rattle.std.specs.Prelude.{◌≡◌, map, IfOk, false};
+ghost use Rattle.std.specs.Prelude.{◌≡◌, IfOk};
 ghost use Rattle.baplie_model.specs.Faults.{number};
-ghost use Rattle.stow_report.specs.Faults.{interchange_line, message_line, numbered};
+ghost use Rattle.stow_report.specs.Faults.{interchange_line, message_line};
 
-use crate::lines::{Field, FieldList, Group, Line};
+use crate::lines::{Group, Line, numbered};
 use baplie_model::Cause;
 use edifact_segments::SegFault;
 use std::alloc::Global;
@@ -14,16 +14,34 @@ pub fn interchange_line(alloc: Global, fault: SegFault) -> Result<Line, NoMemory
     ensures { IfOk result (λ line. line ≡ interchange_line fault) }
 {
     match fault {
-        SegFault::NoHeader => numbered(alloc, Group::Edifact, 1, &[]),
-        SegFault::BadUna => numbered(alloc, Group::Edifact, 2, &[]),
-        SegFault::Unterminated { at } => numbered(alloc, Group::Edifact, 3, &[i128::from(at)]),
-        SegFault::ControlByte { at } => numbered(alloc, Group::Edifact, 4, &[i128::from(at)]),
-        SegFault::BadTag { segment } => numbered(alloc, Group::Edifact, 5, &[i128::from(segment)]),
+        SegFault::NoHeader => numbered(alloc, false, Group::Edifact, 1, &[]),
+        SegFault::BadUna => numbered(alloc, false, Group::Edifact, 2, &[]),
+        SegFault::Unterminated { at } => numbered(
+            alloc,
+            false,
+            Group::Edifact,
+            3,
+            &[i128::from(at)],
+        ),
+        SegFault::ControlByte { at } => numbered(
+            alloc,
+            false,
+            Group::Edifact,
+            4,
+            &[i128::from(at)],
+        ),
+        SegFault::BadTag { segment } => numbered(
+            alloc,
+            false,
+            Group::Edifact,
+            5,
+            &[i128::from(segment)],
+        ),
         SegFault::NoTrailer { segments } => {
-            numbered(alloc, Group::Edifact, 6, &[i128::from(segments)])
+            numbered(alloc, false, Group::Edifact, 6, &[i128::from(segments)])
         }
-        SegFault::Trailing { at } => numbered(alloc, Group::Edifact, 7, &[i128::from(at)]),
-        SegFault::NoMemory => numbered(alloc, Group::Edifact, 8, &[]),
+        SegFault::Trailing { at } => numbered(alloc, false, Group::Edifact, 7, &[i128::from(at)]),
+        SegFault::NoMemory => numbered(alloc, false, Group::Edifact, 8, &[]),
     }
 }
 
@@ -37,11 +55,12 @@ pub fn message_line(alloc: Global, segment: u32, cause: Cause) -> Result<Line, N
     match cause {
         Cause::CountWrong { said, found } => numbered(
             alloc,
+            false,
             Group::Baplie,
             number,
             &[at, i128::from(said), i128::from(found)],
         ),
-        _ => numbered(alloc, Group::Baplie, number, &[at]),
+        _ => numbered(alloc, false, Group::Baplie, number, &[at]),
     }
 }
 
@@ -67,20 +86,4 @@ fn cause_number(cause: Cause) -> u32
         Cause::CountWrong { .. } => 15,
         Cause::ReferenceWrong => 16,
     }
-}
-
-/// A line whose fields are numbers.
-fn numbered(alloc: Global, group: Group, number: u32, numbers: &[i128]) -> Result<Line, NoMemory>
-    ensures { IfOk result (λ line. line ≡ numbered group number numbers.now) }
-{
-    let mut fields = FieldList::new(alloc);
-    for n in numbers {
-        fields.push(Field::Number(*n))?;
-    }
-    Ok(Line {
-        checked: false,
-        group,
-        number,
-        fields,
-    })
 }

@@ -8,7 +8,7 @@ mod listings;
 
 pub use faults::{interchange_line, message_line};
 pub use law::read_is_listable;
-pub use lines::{Field, FieldList, Group, Line, refusal};
+pub use lines::{Field, FieldList, Group, Line, numbered, refusal};
 pub use listings::listing;
 
 #[cfg(test)]

@@ -1,7 +1,7 @@
 //! Lines of what is refused.
 ghost use Rattle.std.specs.Prelude.{◌≡◌, ◌∷◌, ◌++◌, flat_map, IfOk, OnOk};
 ghost use Rattle.std.specs.Fmt.{decimal};
-ghost use Rattle.stow_report.specs.Refusals.{group_word, field_text, refusal_text};
+ghost use Rattle.stow_report.specs.Refusals.{numbered, group_word, field_text, refusal_text};
 
 use itoa::Buffer;
 use std::alloc::Global;
@@ -66,6 +66,28 @@ pub struct Line {
 
     /// Its fields, in the order of their declaration.
     pub fields: FieldList,
+}
+
+/// A line whose fields are numbers.
+pub fn numbered(
+    alloc: Global,
+    checked: bool,
+    group: Group,
+    number: u32,
+    numbers: &[i128],
+) -> Result<Line, NoMemory>
+    ensures { IfOk result (λ line. line ≡ numbered checked group number numbers.now) }
+{
+    let mut fields = FieldList::new(alloc);
+    for n in numbers {
+        fields.push(Field::Number(*n))?;
+    }
+    Ok(Line {
+        checked,
+        group,
+        number,
+        fields,
+    })
 }
 
 /// The text of a line, with its line feed: `refused`, or `check no` in a check, then the group, the

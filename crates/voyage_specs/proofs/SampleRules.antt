@@ -10,17 +10,17 @@ use Rattle.stow_data.proofs.CoverLemmas.{contains_member}
 use Rattle.stow_data.proofs.Distinct.{Each}
 use Rattle.voyage_specs.specs.Samples as samples
 
-all_from : {X : Type 0} (P : X → Type 0) (xs : List X) → Each P xs → (k : ℕ) (d : X) → k < length xs → P (slice_index_or xs k d)
+pub all_from : {X : Type 0} (P : X → Type 0) (xs : List X) → Each P xs → (k : ℕ) (d : X) → k < length xs → P (slice_index_or xs k d)
 all_from P [] e k d l = absurd (omega arith)
 all_from P (x ∷ xs) e zero d l = e.0
 all_from P (x ∷ xs) e (suc k) d l = all_from P xs e.1 k d (omega arith)
 
 -- a relation of each item to each later one
-abbrev Later : {X : Type 0} → (X → X → Type 0) → List X → Type 0
+abbrev pub Later : {X : Type 0} → (X → X → Type 0) → List X → Type 0
 Later R [] = Unit {0}
 Later R (x ∷ xs) = Each (R x) xs × Later R xs
 
-pairs_from : {X : Type 0} (R : X → X → Type 0) (xs : List X) → Later R xs → (i j : ℕ) (d : X) → i < j → j < length xs → R (slice_index_or xs i d) (slice_index_or xs j d)
+pub pairs_from : {X : Type 0} (R : X → X → Type 0) (xs : List X) → Later R xs → (i j : ℕ) (d : X) → i < j → j < length xs → R (slice_index_or xs i d) (slice_index_or xs j d)
 pairs_from R [] e i j d l m = absurd (omega arith)
 pairs_from R (x ∷ xs) e i zero d l m = absurd (omega arith)
 pairs_from R (x ∷ xs) e zero (suc j) d l m = all_from (R x) xs e.0 j d (omega arith)

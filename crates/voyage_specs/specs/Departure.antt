@@ -1,5 +1,5 @@
 -- The five rules of a departure, and when a plan is a departure of a call (cells as in ISO 9711).
-use Rattle.std.specs.Prelude.{◌≡◌, ℕ, ◌+◌, ◌-◌, ◌*◌, ◌/◌, ◌≤◌, suc, List, [], ◌∷◌, Bool, true, false, ◌&&◌, ◌||◌, not, ◌==◌, cond, Option, Some, None, slice_get, IsTrue, ◌↔◌, zip, sum_by}
+use Rattle.std.specs.Prelude.{◌≡◌, ℕ, ◌+◌, ◌≤◌, suc, List, [], ◌∷◌, Bool, true, false, ◌&&◌, ◌||◌, not, ◌==◌, cond, Option, Some, None, slice_get, IsTrue, ◌↔◌, zip, sum_by}
 use Rattle.stow_data.specs.declared.geometry.Stack.{Stack}
 use Rattle.stow_data.specs.declared.geometry.Separation.{Separation}
 use Rattle.stow_data.specs.declared.geometry.Half.{Half}
@@ -8,6 +8,7 @@ use Rattle.stow_data.specs.declared.geometry.Span.{Span}
 use Rattle.stow_data.specs.declared.geometry.Span.TheVariants.{Fore, Aft, Both}
 use Rattle.stow_data.specs.declared.geometry.Length.TheVariants.{Twenty}
 use Rattle.stow_data.specs.declared.shipments.Container.{Container}
+use Rattle.stow_data.specs.Kinds.{rounded}
 use Rattle.stow_data.specs.Ship.{Ship, places}
 use Rattle.stow_data.specs.Shipment.{Cargo, IsAboard}
 use Rattle.voyage_specs.specs.Plan.{Plan, Holds, Fills, Stands, IsWellFormed}
@@ -31,10 +32,6 @@ IsTwentyOnTwenty ship cargo plan = (stack tier : ℕ) (aft : Bool) (c d : ℕ) �
 -- plug: a reefer stands in a place with a plug
 abbrev pub IsPlugged : Ship → Cargo → Plan → Type 0
 IsPlugged ship cargo plan = (p c : ℕ) (place : Place) (container : Container) → Stands ship cargo plan p c place container → IsTrue container.reefer → IsTrue place.plug
-
--- a weight rounded up to the ship's step
-abbrev pub rounded : ℕ → ℕ → ℕ
-rounded step kg = step * ((kg + step - 1) / step)
 
 -- the rounded weight of what stands at a place, where that is in the stack
 abbrev pub weight_in : ℕ → Cargo → ℕ → Place × Option ℕ → ℕ

@@ -1,9 +1,10 @@
 //! The five rules of a departure: plain, slow tests of a plan.
 ghost use Rattle.std.specs.Prelude.{◌≡◌, ◌↔◌, ◌<◌, ◌≤◌, ℕ, IsTrue, MatchOption, Some, length, slice_get};
+ghost use Rattle.stow_data.specs.Kinds.{rounded};
 ghost use Rattle.stow_data.specs.Profile.{IsShip};
 ghost use Rattle.stow_data.specs.Ship.{places};
 ghost use Rattle.stow_data.specs.Shipment.{IsCargo};
-ghost use Rattle.voyage_specs.specs.Departure.{IsSupported, IsTwentyOnTwenty, IsPlugged, IsWithinLimits, IsSeparatedBy, has_column_in_common, meets, adjoins, near, rounded, stack_weight, weight_in};
+ghost use Rattle.voyage_specs.specs.Departure.{IsSupported, IsTwentyOnTwenty, IsPlugged, IsWithinLimits, IsSeparatedBy, has_column_in_common, meets, adjoins, near, stack_weight, weight_in};
 ghost use Rattle.voyage_specs.specs.Places.{RestsOn, RestsOnTwenty, SupportedAt, TwentyAt, PluggedAt, WithinAt, WeighsAt, BreaksFirst, ObeysAll};
 
 use crate::half_cells::{has_twenty_only, is_taken, is_twenty, takes_side};

@@ -12,3 +12,4 @@ pub mod Touched
 pub mod Chosen
 pub mod Selected
 pub mod Reached
+pub mod SampleRules

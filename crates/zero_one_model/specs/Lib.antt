@@ -7,3 +7,4 @@ pub mod Built
 pub mod Counted
 pub mod Indexed
 pub mod Touching
+pub mod Samples

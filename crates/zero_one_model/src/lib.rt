@@ -11,6 +11,8 @@ mod model;
 mod offers;
 mod refusals;
 mod row_lists;
+#[cfg(test)]
+mod tests;
 
 pub use boxes::Box01;
 pub use model::Model;

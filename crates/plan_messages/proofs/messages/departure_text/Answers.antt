@@ -3,7 +3,7 @@ use Rattle.std.specs.List.{flat_map}
 use Rattle.std.proofs.lemmas.Result.{IfOk-weaker}
 use Rattle.edifact_segments.specs.Written.{written}
 use Rattle.baplie_model.specs.declared.parts.Message.{Message}
-use Rattle.baplie_read.specs.Reading.{IsMessageOf}
+use Rattle.baplie_model.specs.Messages.{IsMessageOf}
 use Rattle.baplie_write.specs.Whole.{IsWhole, segments_of}
 use Rattle.plan_files.specs.DepartureFile.{file_text, groups}
 use Rattle.plan_messages.specs.Departure.{message_of}
