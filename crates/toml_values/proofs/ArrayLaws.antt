@@ -1,7 +1,7 @@
 -- The items of an array, read one after the other.
-use Rattle.std.proofs.Common.{◌≡◌, ℕ, suc, ◌+◌, ◌<◌, ◌≤◌, Bool, true, false, List, [], ◌∷◌, ◌++◌, length, get_or, drop, Result, Ok, Err, refl, sym, ap, subst, ◌∙◌}
+use Rattle.std.proofs.Common.{◌≡◌, ℕ, suc, ◌+◌, ◌<◌, ◌≤◌, Bool, true, false, List, [], ◌∷◌, ◌++◌, length, get_or, drop, Result, Ok, Err, refl, sym, ap, subst, ◌∙◌, arith}
 use Rattle.std.specs.Prelude.{is_ok}
-use Rattle.std.proofs.lemmas.List.{drop_all}
+use Rattle.std.proofs.lemmas.List.{drop_all, length-append}
 use Rattle.toml.specs.Data.{Data, Items, no_items, item}
 use Rattle.toml.specs.View.{view, items_view}
 use Rattle.toml.specs.declared.value.Value.{Value}
@@ -61,3 +61,12 @@ pub tables_done : (vs : List Value) (i : ℕ) (total : Bool) → length vs ≤ i
 tables_done vs i total le so_far =
     let one : all_tables (items_view (drop i vs)) ≡ true = rw (drop_all i vs le) refl in
     sym so_far ∙ one
+
+-- as many as there were before, and one for each item
+pub each_count : {X E : Type 0} (read : List X → Data → Result X E) (before : List X) (ds : Items) (xs : List X) → each_after read before ds ≡ Ok xs → length xs ≡ length before + item_count ds
+unfolding each_after
+each_count read before no_items xs h = let same = ap (λ ys. length ys) (same_Ok before xs h) in omega (arith, same)
+each_count read before (item d ds) xs h =
+    let one = bound (read before d) (λ x. each_after read (before ++ x ∷ []) ds) xs h in
+    let rest = each_count read (before ++ one.value ∷ []) ds xs one.goes_on in
+    omega (arith, rest, length-append before (one.value ∷ []))

@@ -1,0 +1,2 @@
+pub mod BookingLaws
+pub mod RuleLaws
