@@ -1,5 +1,5 @@
 -- Bookings that were read obey the rules.
-use Rattle.std.proofs.Common.{◌≡◌, ◌≢◌, ℕ, suc, ◌+◌, ◌<◌, ◌≤◌, Bool, true, false, ◌||◌, ◌&&◌, List, Ok, Err, [], ◌∷◌, ◌++◌, get_or, length, Option, Some, None, Result, refl, sym, ap, subst, ◌∙◌, arith}
+use Rattle.std.proofs.Common.{◌≡◌, ◌≢◌, ℕ, suc, ◌+◌, ◌<◌, ◌≤◌, Bool, true, false, ◌||◌, ◌&&◌, List, Ok, Err, [], ◌∷◌, ◌++◌, length, Option, Some, None, Result, refl, sym, ap, subst, ◌∙◌, arith}
 use Rattle.std.specs.Prelude.{All, AllPairs, IfOk, IfSome, ℤ, ◌≤ℤ◌, codes, if◌then◌else◌, int_le, nat_le, nat_lt, negsuc, not, ok_or, pos}
 use Rattle.std.specs.Str.{bytes_eq}
 use Rattle.std.proofs.lemmas.Bool.{false≢true, leb-true}
@@ -8,7 +8,6 @@ use Rattle.std.proofs.lemmas.List.Elements.{All-cons, All-get_or, All-nil, All-p
 use Rattle.std.proofs.lemmas.List.Quantifiers.{all_pairs_push}
 use Rattle.std.proofs.lemmas.Slice.Eq.{bytes_eq-Decides}
 use Rattle.toml.specs.Data.{Data, integer, Items, Members, no_items}
-use Rattle.stow_data.specs.declared.geometry.Length.{Length}
 use Rattle.stow_data.specs.Profile.{is_class, is_name}
 use Rattle.toml_values.specs.declared.of_values.Unread.{Unread}
 use Rattle.toml_values.specs.declared.of_values.Unread.TheVariants as unread

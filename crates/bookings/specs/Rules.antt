@@ -1,5 +1,5 @@
 -- What bookings obey that were read.
-use Rattle.std.specs.Prelude.{All, AllPairs, IfSome, IsTrue, List, Some, length, negsuc, pos, ℕ, ◌<◌, ◌≡◌, ◌≢◌, ◌≤ℤ◌, ◌≤◌}
+use Rattle.std.specs.Prelude.{All, AllPairs, IfSome, IsTrue, Some, length, negsuc, pos, ℕ, ◌<◌, ◌≡◌, ◌≢◌, ◌≤ℤ◌, ◌≤◌}
 use Rattle.stow_data.specs.Profile.{is_class, is_name}
 use Rattle.toml_values.specs.Values.{is_code, is_digits}
 use Rattle.bookings.specs.declared.shipment.Booking.{Booking}

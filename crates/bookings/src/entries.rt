@@ -1,16 +1,17 @@
 //! The entries of bookings.
 ghost use Rattle.std.specs.Prelude.{◌≡◌, ◌+◌, ◌<◌, ◌≤◌, [], length};
-ghost use Rattle.std.specs.List.{list_any};
-ghost use Rattle.std.specs.Str.{bytes_eq};
 ghost use Rattle.toml.specs.View.{array_view, table_view, view};
 ghost use Rattle.toml_values.specs.Arrays.{each_after, item_count};
-ghost use Rattle.bookings.specs.Reading.{Gives, booking_at, booking_of, has_id, length_of};
+ghost use Rattle.bookings.specs.Ids.{AreIds};
+ghost use Rattle.bookings.specs.Reading.{Gives, booking_at, booking_of, length_of};
 
 use crate::booking_keys::BookingKey;
 use crate::faults::BookingFault;
+use crate::ids::{enter, is_among, no_ids};
 use crate::keyed;
 use crate::shipment::{Booking, BookingList};
 use std::alloc::Global;
+use std::collections::BTreeSet;
 use stow_data::{CallNo, Length, Name};
 use toml::value::Array;
 use toml::{Table, Value};
@@ -27,16 +28,16 @@ fn length_of(iso: &[u8]) -> Option<Length>
     }
 }
 
-fn has_id(id: &Name, bookings: &[Booking]) -> bool
-    ensures { result ≡ has_id id.now bookings.now }
-{
-    bookings.iter().any(|b| b.id.bytes() == id.bytes())
-}
-
-/// The booking of an entry, which comes after these.
+/// The booking of an entry, which comes after these bookings with these ids.
 #[tactic(auto, unfolding(crate::specs::Reading::booking_of))]
-fn booking_of(entry: &Table, calls: u32, before: &[Booking]) -> Result<Booking, BookingFault>
-    requires { length before.now < 2000 }
+fn booking_of(
+    entry: &Table,
+    calls: u32,
+    before: &[Booking],
+    ids: &BTreeSet<Name>,
+) -> Result<Booking, BookingFault>
+    requires few { length before.now < 2000 }
+    requires ids { AreIds ids.now before.now }
     ensures { result ≡ booking_of calls before.now (table_view entry.now) }
 {
     let index = before.len() as u32 + 1;
@@ -56,7 +57,7 @@ fn booking_of(entry: &Table, calls: u32, before: &[Booking]) -> Result<Booking, 
     let Some(long) = length_of(iso.bytes()) else {
         return Err(BookingFault::LengthUnknown { index });
     };
-    if has_id(&id, before) {
+    if is_among(ids, &id) {
         return Err(BookingFault::DuplicateId { index });
     }
     Ok(Booking {
@@ -75,12 +76,18 @@ fn booking_of(entry: &Table, calls: u32, before: &[Booking]) -> Result<Booking, 
 }
 
 #[tactic(auto, unfolding(crate::specs::Reading::booking_at))]
-fn booking_at(value: &Value, calls: u32, before: &[Booking]) -> Result<Booking, BookingFault>
-    requires { length before.now < 2000 }
+fn booking_at(
+    value: &Value,
+    calls: u32,
+    before: &[Booking],
+    ids: &BTreeSet<Name>,
+) -> Result<Booking, BookingFault>
+    requires few { length before.now < 2000 }
+    requires ids { AreIds ids.now before.now }
     ensures { result ≡ booking_at calls before.now (view value.now) }
 {
     let entry = keyed::of_key(table_of(value), BookingKey::Container, 0)?;
-    booking_of(entry, calls, before)
+    booking_of(entry, calls, before, ids)
 }
 
 /// The bookings of entries.
@@ -89,8 +96,10 @@ pub fn bookings_of(alloc: Global, entries: &Array, calls: u32) -> Result<Booking
     ensures { Gives result (each_after (booking_at calls) [] (array_view entries.now)) }
 {
     let mut found = BookingList::new(alloc);
+    let mut ids = no_ids(alloc);
     for entry in entries {
-        let booking = booking_at(entry, calls, found.as_slice())?;
+        let booking = booking_at(entry, calls, found.as_slice(), &ids)?;
+        enter(&mut ids, booking.id.copy())?;
         found.push(booking)?;
     }
     Ok(found)

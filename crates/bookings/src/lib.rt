@@ -4,6 +4,7 @@
 mod booking_keys;
 mod entries;
 mod faults;
+mod ids;
 mod keyed;
 mod reader;
 mod shipment;

@@ -1,7 +1,5 @@
-use Rattle.std.proofs.Common.{◌≡◌, Ok, ap, sym, ◌∙◌}
-use Rattle.std.specs.Prelude.{ok_or}
 use Rattle.toml.specs.View.{table_view}
-use Rattle.bookings.specs.Reading.{bookings_in, bookings_of}
+use Rattle.bookings.specs.Reading.{bookings_in}
 use Rattle.bookings.specs.Rules.{IsBookings}
 use Rattle.bookings.proofs.RuleLaws.{bookings_in_are, valid_where}
 use Rattle.bookings.proofs.reader.read_bookings.Goals as goal
