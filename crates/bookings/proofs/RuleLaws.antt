@@ -3,17 +3,16 @@ use Rattle.std.proofs.Common.{◌≡◌, ◌≢◌, ℕ, suc, ◌+◌, ◌<◌, 
 use Rattle.std.specs.Prelude.{All, AllPairs, IfOk, IfSome, ℤ, ◌≤ℤ◌, codes, if◌then◌else◌, int_le, nat_le, nat_lt, negsuc, not, ok_or, pos}
 use Rattle.std.specs.Str.{bytes_eq}
 use Rattle.std.proofs.lemmas.Bool.{false≢true, leb-true}
-use Rattle.std.proofs.lemmas.Float.{T_from_true}
 use Rattle.std.proofs.lemmas.List.Elements.{All-cons, All-get_or, All-nil, All-push}
 use Rattle.std.proofs.lemmas.List.Quantifiers.{all_pairs_push}
 use Rattle.std.proofs.lemmas.Slice.Eq.{bytes_eq-Decides}
-use Rattle.toml.specs.Data.{Data, integer, Items, Members, no_items}
+use Rattle.toml.specs.Data.{Data, Items, Members, no_items}
 use Rattle.stow_data.specs.Profile.{is_class, is_name}
 use Rattle.toml_values.specs.declared.of_values.Unread.{Unread}
 use Rattle.toml_values.specs.declared.of_values.Unread.TheVariants as unread
 use Rattle.toml_values.specs.Values.{◌>>=◌, array_of, at_key, document_of, flag_of, if_there, is_code, is_digits, number_of, or_default, passing, signed_of, table_of, text_that}
 use Rattle.toml_values.specs.Arrays.{each_after, each_of, item_count, tables_of}
-use Rattle.toml_values.proofs.ValueLaws.{bound, default_or, err_is_no_ok, number_within, passes, same_Ok, text_passes, under_key}
+use Rattle.toml_values.proofs.ValueLaws.{bound, default_or, err_is_no_ok, if_there_or, number_within, passed, passes, same_Ok, signed_within, text_passes, under_key}
 use Rattle.toml_values.proofs.ArrayLaws.{each_count, each_keeps}
 use Rattle.bookings.specs.declared.booking_keys.BookingKey.{BookingKey}
 use Rattle.bookings.specs.declared.booking_keys.BookingKey.TheVariants as key
@@ -40,15 +39,10 @@ defaulted P d key read p f index entry x h =
     let r = at_key read (spelling key) entry in
     default_or P d r x p (λ y k. under_key read P f (spelling key) entry y k) (key_read key index (or_default d r) x h)
 
-there : {X : Type 0} (P : X → Type 0) (r : Result X Unread) (o : Option X) → ((x : X) → r ≡ Ok x → P x) → if_there r ≡ Ok o → IfSome o P
-there P (Ok x) o f h = subst (λ o. IfSome o P) (same_Ok (Some x) o h) (f x refl)
-there P (Err unread.Missing) o f h = subst (λ o. IfSome o P) (same_Ok None o h) tt
-there P (Err unread.BadValue) o f h = absurd (err_is_no_ok unread.BadValue o h)
-
 allowed : {X : Type 0} (P : X → Type 0) (key : BookingKey) (read : Data → Result X Unread) → ((d : Data) (x : X) → read d ≡ Ok x → P x) → (index : ℕ) (entry : Members) (o : Option X) → may key read index entry ≡ Ok o → IfSome o P
 allowed P key read f index entry o h =
     let r = at_key read (spelling key) entry in
-    there P r o (λ x k. under_key read P f (spelling key) entry x k) (key_read key index (if_there r) o h)
+    if_there_or P r o (λ x k. under_key read P f (spelling key) entry x k) (key_read key index (if_there r) o h)
 
 wanted : {X : Type 0} (o : Option X) (fault : BookingFault) (x : X) → ok_or o fault ≡ Ok x → o ≡ Some x
 wanted (Some y) fault x h = ap (λ z. Some z) (same_Ok y x h)
@@ -73,19 +67,6 @@ others id (b ∷ bs) h =
 pub record IsNext (calls : ℕ) (before : List Booking) (b : Booking) : Type 0 where
   pub rules : IsBooking calls b
   pub other_ids : All (λ c. c.id ≢ b.id) before
-
-both : (a b : Bool) → (a && b) ≡ true → (a ≡ true) × (b ≡ true)
-both true b h = (refl, h)
-both false b h = absurd (false≢true h)
-
-at_most : (a b : ℤ) → int_le a b ≡ true → a ≤ℤ b
-at_most a b h = record { le = T_from_true (int_le a b) h }
-
-signed_within : (low high : ℤ) (d : Data) (z : ℤ) → signed_of low high d ≡ Ok z → (low ≤ℤ z) × (z ≤ℤ high)
-signed_within low high (integer y) z h =
-    let b = both (int_le low z) (int_le z high) (passes (λ k. int_le low k && int_le k high) y z h) in
-    (at_most low z b.0, at_most z high b.1)
-signed_within low high _ z h = absurd (err_is_no_ok unread.BadValue z h)
 
 -- an entry's last steps, after its keys
 checked_of : List Booking → ℕ → List ℕ → ℕ → ℕ → List ℕ → ℕ → Bool → Bool → Option ℤ → Option (List ℕ) → ℕ → Result Booking BookingFault
@@ -153,18 +134,14 @@ checked_is before index id load dest iso kg vgm empty temperature class unno b h
     }
 
 record IsNoted (before : List Booking) (id : List ℕ) (load dest : ℕ) (iso : List ℕ) (kg : ℕ) (b : Booking) : Type 0 where
-  pub id_is : id ≡ b.id
-  pub load_is : load ≡ b.load
-  pub dest_is : dest ≡ b.dest
-  pub iso_is : iso ≡ b.iso
-  pub kg_is : kg ≡ b.kg
+  pub temperature : Option ℤ
+  pub class : Option (List ℕ)
+  pub unno : ℕ
+  pub checked : IsChecked before id load dest iso kg temperature class unno b
   pub temperature_from : IfSome b.temperature (λ t. negsuc 98 ≤ℤ t)
   pub temperature_to : IfSome b.temperature (λ t. t ≤ℤ pos 99)
   pub classed : IfSome b.class (λ s. is_class s ≡ true)
   pub unno_to : b.unno ≤ 9999
-  pub later : b.load < b.dest
-  pub long : length_of b.iso ≡ Some b.long
-  pub other_ids : All (λ c. c.id ≢ b.id) before
 
 noted_is : (before : List Booking) (index : ℕ) (entry : Members) (id : List ℕ) (load dest : ℕ) (iso : List ℕ) (kg : ℕ) (b : Booking) → noted_of before index entry id load dest iso kg ≡ Ok b → IsNoted before id load dest iso kg b
 unfolding noted_of
@@ -180,18 +157,14 @@ noted_is before index entry id load dest iso kg b h =
     let classed = allowed (λ s. is_class s ≡ true) key.Class (text_that is_class) (text_passes is_class) index entry class.value class.is in
     let unno_to = defaulted (λ n. n ≤ 9999) 0 key.Unno (number_of 0 9999) (omega arith) (λ d n k. (number_within 0 9999 d n k).1) index entry unno.value unno.is in
     record {
-      id_is = c.id_is;
-      load_is = c.load_is;
-      dest_is = c.dest_is;
-      iso_is = c.iso_is;
-      kg_is = c.kg_is;
+      temperature = temperature.value;
+      class = class.value;
+      unno = unno.value;
+      checked = c;
       temperature_from = subst (λ o. IfSome o (λ t. negsuc 98 ≤ℤ t)) c.temperature_is least;
       temperature_to = subst (λ o. IfSome o (λ t. t ≤ℤ pos 99)) c.temperature_is most;
       classed = subst (λ o. IfSome o (λ s. is_class s ≡ true)) c.class_is classed;
       unno_to = subst (λ n. n ≤ 9999) c.unno_is unno_to;
-      later = c.later;
-      long = c.long;
-      other_ids = c.other_ids;
     }
 
 keyed_is : (calls : ℕ) (before : List Booking) (index : ℕ) (entry : Members) (b : Booking) → keyed_of calls before index entry ≡ Ok b → IsNext calls before b
@@ -201,7 +174,8 @@ keyed_is calls before index entry b h =
     let dest = bound (need key.To (number_of 1 calls) index entry) _ b load.goes_on in
     let iso = bound (need key.IsoType (text_that (is_code 10)) index entry) _ b dest.goes_on in
     let kg = bound (need key.Kg (number_of 0 99999) index entry) _ b iso.goes_on in
-    let c = noted_is before index entry id.value load.value dest.value iso.value kg.value b kg.goes_on in
+    let n = noted_is before index entry id.value load.value dest.value iso.value kg.value b kg.goes_on in
+    let c = n.checked in
     let identified = needed (λ s. is_code 17 s ≡ true) key.Id (text_that (is_code 17)) (text_passes (is_code 17)) index entry id.value id.is in
     let least = needed (λ n. 1 ≤ n) key.From (number_of 1 calls) (λ d n k. (number_within 1 calls d n k).0) index entry load.value load.is in
     let most = needed (λ n. n ≤ calls) key.To (number_of 1 calls) (λ d n k. (number_within 1 calls d n k).1) index entry dest.value dest.is in
@@ -216,10 +190,10 @@ keyed_is calls before index entry b h =
         typed = subst (λ s. is_code 10 s ≡ true) c.iso_is typed;
         long = c.long;
         kg_to = subst (λ n. n ≤ 99999) c.kg_is kg_to;
-        temperature_from = c.temperature_from;
-        temperature_to = c.temperature_to;
-        classed = c.classed;
-        unno_to = c.unno_to;
+        temperature_from = n.temperature_from;
+        temperature_to = n.temperature_to;
+        classed = n.classed;
+        unno_to = n.unno_to;
       };
       other_ids = c.other_ids;
     }
@@ -272,13 +246,6 @@ rotation_is top ports h =
       calls_to = leb-true (length read.value) 12 few.0;
       each_port = subst (All (λ port. is_code 35 port ≡ true)) (passed (λ ports. nat_le 2 (length ports)) all.value read.value all.goes_on) each;
     }
-  where
-    passed : (test : List (List ℕ) → Bool) (xs ys : List (List ℕ)) → passing test xs ≡ Ok ys → xs ≡ ys
-    passed test xs ys h = by_test (test xs) h
-      where
-        by_test : (b : Bool) → (if b then Ok xs else Err unread.BadValue) ≡ Ok ys → xs ≡ ys
-        by_test true h = same_Ok xs ys h
-        by_test false h = absurd (err_is_no_ok unread.BadValue ys h)
 
 -- what is true of the containers
 record AreContainers (calls : ℕ) (bs : List Booking) : Type 0 where
