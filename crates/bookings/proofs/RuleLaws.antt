@@ -1,6 +1,6 @@
 -- Bookings that were read obey the rules.
-use Rattle.std.proofs.Common.{◌≡◌, ◌≢◌, ℕ, suc, ◌+◌, ◌<◌, ◌≤◌, Bool, true, false, ◌||◌, ◌&&◌, List, Ok, Err, [], ◌∷◌, ◌++◌, length, Option, Some, None, Result, refl, sym, ap, subst, ◌∙◌, arith}
-use Rattle.std.specs.Prelude.{All, AllPairs, IfOk, IfSome, ℤ, ◌≤ℤ◌, codes, if◌then◌else◌, int_le, nat_le, nat_lt, negsuc, not, ok_or, pos}
+use Rattle.std.proofs.Common.{◌≡◌, ◌≢◌, ℕ, suc, ◌+◌, ◌<◌, ◌≤◌, Bool, true, false, ◌||◌, List, Ok, Err, [], ◌∷◌, ◌++◌, length, Option, Some, None, Result, refl, sym, ap, subst, ◌∙◌, arith}
+use Rattle.std.specs.Prelude.{All, AllPairs, IfOk, IfSome, ℤ, ◌≤ℤ◌, codes, nat_le, nat_lt, negsuc, not, ok_or, pos}
 use Rattle.std.specs.Str.{bytes_eq}
 use Rattle.std.proofs.lemmas.Bool.{false≢true, leb-true}
 use Rattle.std.proofs.lemmas.List.Elements.{All-cons, All-get_or, All-nil, All-push}
@@ -9,8 +9,7 @@ use Rattle.std.proofs.lemmas.Slice.Eq.{bytes_eq-Decides}
 use Rattle.toml.specs.Data.{Data, Items, Members, no_items}
 use Rattle.stow_data.specs.Profile.{is_class, is_name}
 use Rattle.toml_values.specs.declared.of_values.Unread.{Unread}
-use Rattle.toml_values.specs.declared.of_values.Unread.TheVariants as unread
-use Rattle.toml_values.specs.Values.{◌>>=◌, array_of, at_key, document_of, flag_of, if_there, is_code, is_digits, number_of, or_default, passing, signed_of, table_of, text_that}
+use Rattle.toml_values.specs.Values.{◌>>=◌, array_of, at_key, document_of, flag_of, if_there, is_code, is_digits, number_of, or_default, signed_of, table_of, text_that}
 use Rattle.toml_values.specs.Arrays.{each_after, each_of, item_count, tables_of}
 use Rattle.toml_values.proofs.ValueLaws.{bound, default_or, err_is_no_ok, if_there_or, number_within, passed, passes, same_Ok, signed_within, text_passes, under_key}
 use Rattle.toml_values.proofs.ArrayLaws.{each_count, each_keeps}

@@ -25,12 +25,14 @@ pub fn of_key<T>(read: Result<T, Unread>, key: BookingKey, index: u32) -> Result
     }
 }
 
+/// The name under a key.
 pub fn name(entry: &Table, index: u32, key: BookingKey) -> Result<Name, BookingFault>
     ensures { result ≡ need key (text_that is_name) index (table_view entry.now) }
 {
     of_key(name_at(entry, key.spelling()), key, index)
 }
 
+/// The name under a key that may be missing and then stands for a default.
 pub fn name_or(
     entry: &Table,
     index: u32,
@@ -46,6 +48,7 @@ pub fn name_or(
     )
 }
 
+/// The code under a key: 1 to `high` bytes of capital letters and digits.
 pub fn code(entry: &Table, index: u32, key: BookingKey, high: usize) -> Result<Name, BookingFault>
     requires { high ≤ 35 }
     ensures { result ≡ need key (text_that (is_code high)) index (table_view entry.now) }
@@ -53,6 +56,7 @@ pub fn code(entry: &Table, index: u32, key: BookingKey, high: usize) -> Result<N
     of_key(code_at(entry, key.spelling(), high), key, index)
 }
 
+/// The text of exactly `count` digits under a key.
 pub fn digits(
     entry: &Table,
     index: u32,
@@ -65,12 +69,14 @@ pub fn digits(
     of_key(digits_at(entry, key.spelling(), count), key, index)
 }
 
+/// The class of dangerous goods under a key, if there is one.
 pub fn class(entry: &Table, index: u32, key: BookingKey) -> Result<Option<Name>, BookingFault>
     ensures { result ≡ may key (text_that is_class) index (table_view entry.now) }
 {
     of_key(if_there(class_at(entry, key.spelling())), key, index)
 }
 
+/// The whole number from `low` to `high` under a key.
 pub fn number(
     entry: &Table,
     index: u32,
@@ -83,6 +89,7 @@ pub fn number(
     of_key(number_at(entry, key.spelling(), low, high), key, index)
 }
 
+/// The whole number up to `high` under a key that may be missing and then stands for 0.
 pub fn number_or_zero(
     entry: &Table,
     index: u32,
@@ -98,6 +105,7 @@ pub fn number_or_zero(
     )
 }
 
+/// The whole number from `low` to `high` under a key, if there is one. It may be negative.
 pub fn signed(
     entry: &Table,
     index: u32,
@@ -114,6 +122,7 @@ pub fn signed(
     )
 }
 
+/// The truth value under a key that may be missing and then stands for false.
 pub fn flag(entry: &Table, index: u32, key: BookingKey) -> Result<bool, BookingFault>
     ensures { result ≡ or_else false key flag_of index (table_view entry.now) }
 {

@@ -36,11 +36,13 @@ pub type BookingList = Seq<Booking>;
 pub struct Bookings {
     pub vessel: Name,
     pub voyage: Name,
+    /// Who sends the messages of the voyage; `STOW` where the text doesn't say.
     pub sender: Name,
+    /// Who gets them; `STOW` where the text doesn't say.
     pub recipient: Name,
     /// Ten digits, YYMMDDHHMM.
     pub date: Name,
-    /// The ports of the calls, from call 1.
+    /// The ports of the calls, from call 1: 2 to 12, of which one may stand twice.
     pub rotation: NameList,
     /// The booked containers, in the order of the text.
     pub containers: BookingList,
