@@ -1,0 +1,3 @@
+pub mod BookingLaws
+pub mod IdLaws
+pub mod RuleLaws

@@ -1,0 +1,18 @@
+//! The reader of bookings (TOML): a voyage's rotation and its containers, or the first fault of the text.
+#![tactic(auto)]
+
+mod booking_keys;
+mod entries;
+mod faults;
+mod ids;
+mod keyed;
+mod reader;
+mod shipment;
+
+pub use booking_keys::BookingKey;
+pub use faults::BookingFault;
+pub use reader::read_bookings;
+pub use shipment::{Booking, BookingList, Bookings};
+
+#[cfg(test)]
+mod bookings_tests;
