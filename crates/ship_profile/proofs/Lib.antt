@@ -1,0 +1,4 @@
+pub mod Bound
+pub mod Items
+pub mod Rising
+pub mod Columns

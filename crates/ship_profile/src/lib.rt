@@ -1,0 +1,9 @@
+//! The reader of a ship's profile (TOML): the ship, or the first fault of the text.
+#![tactic(auto)]
+
+mod covers;
+mod faults;
+mod keys;
+mod stacks;
+
+pub use faults::{ProfileFault, ProfileKey};
