@@ -2,3 +2,5 @@ pub mod Bound
 pub mod Items
 pub mod Rising
 pub mod Columns
+pub mod Apart
+pub mod Pairs

@@ -1,7 +1,7 @@
 -- The hatch covers of a profile.
 use Rattle.std.specs.Prelude.{ℕ, ◌==◌, Bool, true, false, ◌&&◌, ℤ, pos, negsuc, List, [], ◌∷◌, ◌++◌, map, filter, find, flat_map, Option, Some, None, Result, Ok, Err}
 use Rattle.std.specs.List.{enumerate_from}
-use Rattle.toml.specs.Data.{Data, integer, array, Items, no_items, item, Members}
+use Rattle.toml.specs.Data.{Data, integer, Items, no_items, item, Members}
 use Rattle.toml_values.specs.declared.of_values.Unread.{Unread}
 use Rattle.toml_values.specs.declared.of_values.Unread.TheVariants.{BadValue}
 use Rattle.toml_values.specs.Values.{◌>>=◌, array_of}
@@ -22,9 +22,12 @@ integer_of (integer z) = Ok z
 integer_of _ = Err BadValue
 
 -- a pair of whole numbers: bay and row
+abbrev pub pair_in : Items → Result (ℤ × ℤ) Unread
+pair_in (item bay (item row no_items)) = integer_of bay >>= λ b. integer_of row >>= λ r. Ok (b, r)
+pair_in _ = Err BadValue
+
 abbrev pub pair_of : Data → Result (ℤ × ℤ) Unread
-pair_of (array (item bay (item row no_items))) = integer_of bay >>= λ b. integer_of row >>= λ r. Ok (b, r)
-pair_of _ = Err BadValue
+pair_of d = array_of d >>= pair_in
 
 abbrev pub pairs_of : Data → Result (List (ℤ × ℤ)) Unread
 pairs_of d = array_of d >>= each_of pair_of
@@ -38,9 +41,12 @@ abbrev pub stands_at : ℤ → ℤ → Stack → Bool
 stands_at (pos bay) (pos row) s = (s.bay == bay) && (s.row == row)
 stands_at _ _ s = false
 
--- the numbers of the stacks in one part of the ship that stand at a bay and row
+-- the numbers of the stacks in one part of the ship that stand at a bay and row, counted from some number
+abbrev pub stacks_from : ℕ → Part → List Stack → ℤ × ℤ → List ℕ
+stacks_from number part stacks pair = map (λ s. s.0) (filter (λ s. is_in part s.1 && stands_at pair.0 pair.1 s.1) (enumerate_from number stacks))
+
 abbrev pub stacks_at : Part → List Stack → ℤ × ℤ → List ℕ
-stacks_at part stacks pair = map (λ s. s.0) (filter (λ s. is_in part s.1 && stands_at pair.0 pair.1 s.1) (enumerate_from 0 stacks))
+stacks_at part stacks pair = stacks_from 0 part stacks pair
 
 -- these stacks, where none of them was named before
 abbrev pub unless_again : List ℕ → Option ℕ → Result (List ℕ) ProfileFault

@@ -102,13 +102,17 @@ is_in_hold s = nat_lt s.lowest 80
 abbrev pub is_on_deck : Stack → Bool
 is_on_deck s = nat_le 80 s.lowest
 
+-- both in the hold or both on deck
+abbrev pub same_part : Stack → Stack → Bool
+same_part s t = (is_in_hold s && is_in_hold t) || (is_on_deck s && is_on_deck t)
+
 -- the odd bays of a stack's half-cells, the lower one first: fore is bay - 1, aft is bay + 1
 abbrev pub odd_bays : Stack → List ℕ
 odd_bays s = map (λ aft. if aft then s.bay + 1 else s.bay - 1) (sides s.lengths)
 
 -- a stack has a cell in this odd bay, in the row of another stack and in the same part of the ship
 abbrev pub has_cell_of : Stack → ℕ → Stack → Bool
-has_cell_of s odd t = ((t.row == s.row) && ((is_in_hold t && is_in_hold s) || (is_on_deck t && is_on_deck s))) && is_among (odd_bays t) odd
+has_cell_of s odd t = ((t.row == s.row) && same_part t s) && is_among (odd_bays t) odd
 
 -- the lowest odd bay in which a stack has a cell of one of these
 abbrev pub shared_bay : List Stack → Stack → Option ℕ

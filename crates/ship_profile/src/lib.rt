@@ -1,6 +1,7 @@
 //! The reader of a ship's profile (TOML): the ship, or the first fault of the text.
 #![tactic(auto)]
 
+mod cells;
 mod covers;
 mod faults;
 mod keys;
