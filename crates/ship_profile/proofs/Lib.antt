@@ -4,3 +4,5 @@ pub mod Rising
 pub mod Columns
 pub mod Apart
 pub mod Pairs
+pub mod Named
+pub mod Counted

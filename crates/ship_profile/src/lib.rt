@@ -5,6 +5,8 @@ mod cells;
 mod covers;
 mod faults;
 mod keys;
+mod profile_text;
+mod separations;
 mod stacks;
 
 pub use faults::{ProfileFault, ProfileKey};
