@@ -1,17 +1,19 @@
 -- The number of places of stacks.
 use Rattle.std.proofs.Common.{◌≡◌, ℕ, suc, ◌+◌, ◌*◌, ◌<◌, ◌≤◌, List, [], ◌∷◌, ◌++◌, length, get_or, drop, map, refl, sym, ap, ◌∙◌, arith, length-append}
-use Rattle.std.specs.Prelude.{All, flat_map, slice_index_or}
+use Rattle.std.specs.Prelude.{All, false, flat_map, slice_index_or}
 use Rattle.std.specs.List.{enumerate_from, range_with_len}
-use Rattle.std.proofs.lemmas.List.{drop_all, length-map, length-range_with_len}
+use Rattle.std.proofs.lemmas.List.{drop_all, length-map}
+use Rattle.std.proofs.lemmas.List.FromFn.{length-range_with_len}
 use Rattle.std.proofs.Math.Nat.{mul-le-mul}
 use Rattle.stow_data.specs.declared.geometry.Stack.{Stack}
-use Rattle.stow_data.specs.declared.geometry.Span.{Span}
+use Rattle.stow_data.specs.declared.geometry.Lengths.{Lengths}
+use Rattle.stow_data.specs.declared.geometry.Lengths.TheVariants.{Forty, Twenty, Mixed, ForeOnly, AftOnly}
 use Rattle.stow_data.specs.declared.geometry.Place.{Place}
 use Rattle.stow_data.specs.Ship.{spans, tier_places, stack_places}
 use Rattle.ship_profile.proofs.Rising.{front_is}
 
 same_lengths : (f : ℕ → List Place) (n : ℕ) → ((t : ℕ) → length (f t) ≡ n) → (ts : List ℕ) → length (flat_map f ts) ≡ length ts * n
-same_lengths f n each [] = refl
+same_lengths f n each [] = omega arith
 same_lengths f n each (t ∷ ts) = let more = same_lengths f n each ts in let now = each t in simp length-append (omega arith)
 
 pub stack_count : (number : ℕ) (s : Stack) → length (stack_places (number, s)) ≡ s.tiers * length (spans s.lengths)
@@ -28,10 +30,17 @@ count_on ss i s lt is =
 pub at_most : (a b : ℕ) → a ≤ 98 → b ≤ 3 → a * b ≤ 294
 at_most a b h k = let m = mul-le-mul h k in m
 
-some_span : (s : Stack) → 1 ≤ length (spans s.lengths)
-some_span s = ?
+some_span : (l : Lengths) → 1 ≤ length (spans l)
+some_span Forty = omega arith
+some_span Twenty = omega arith
+some_span Mixed = omega arith
+some_span ForeOnly = omega arith
+some_span AftOnly = omega arith
 
 -- each stack with a tier has a place
 pub few_stacks : (n : ℕ) (ss : List Stack) → All (λ s. 1 ≤ s.tiers) ss → length ss ≤ length (flat_map stack_places (enumerate_from n ss))
 few_stacks n [] h = omega arith
-few_stacks n (s ∷ ss) h = ?
+few_stacks n (s ∷ ss) h =
+    let more = few_stacks (n + 1) ss (λ k d lt. h (suc k) d (omega arith)) in
+    let here : 1 * 1 ≤ s.tiers * length (spans s.lengths) = mul-le-mul (h 0 s (omega arith)) (some_span s.lengths) in
+    omega (arith, here, more, stack_count n s, length-append (stack_places (n, s)) (flat_map stack_places (enumerate_from (n + 1) ss)))

@@ -5,4 +5,5 @@ pub mod Columns
 pub mod Apart
 pub mod Pairs
 pub mod Named
+pub mod Classes
 pub mod Counted

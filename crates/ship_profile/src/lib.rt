@@ -10,3 +10,4 @@ mod separations;
 mod stacks;
 
 pub use faults::{ProfileFault, ProfileKey};
+pub use profile_text::read_profile;

@@ -33,6 +33,42 @@ fn places_of_tier(lengths: Lengths) -> u64
     }
 }
 
+/// The ship of a document.
+#[tactic(auto, unfolding(crate::specs::ShipText::ship_of, crate::specs::ShipText::unless_large))]
+fn ship_of(alloc: Global, top: &Table) -> Result<Ship, ProfileFault>
+    ensures { Gives (λ ship. ship) result (ship_of (table_view top.now)) }
+{
+    let name = keyed(name_at(top, "name"), ProfileKey::Name, 0)?;
+    let step = or_default(number_at(top, "weight_step", 1, 10_000), 1_000);
+    let weight_step = keyed(step, ProfileKey::WeightStep, 0)?;
+    let stacks = stacks_in(alloc, top)?;
+    refuse_shared(stacks.as_slice())?;
+    let covers = covers_in(alloc, stacks.as_slice(), top)?;
+    let separations = separations_in(alloc, top)?;
+    let value = places_in(stacks.as_slice());
+    if value > MOST_PLACES {
+        return Err(ProfileFault::TooLarge {
+            limit: Limit::Places,
+            value,
+        });
+    }
+    Ok(Ship::new(alloc, name, weight_step, stacks, covers, separations)?)
+}
+
+/// The ship of a profile, or the first fault of the text, in the order of the keys: `name`, `weight_step`, `stack` with
+/// its entries, cells that two stacks share, `cover`, `separate`, and the number of places.
+pub fn read_profile(alloc: Global, bytes: &[u8]) -> Result<Ship, ProfileFault>
+    ensures ship { IfOk result (λ ship. profile_of bytes.now ≡ Ok ship) }
+    ensures fault { IfErr result (λ e. e ≢ WantOfMemory → profile_of bytes.now ≡ Err e) }
+    ensures rules { IfOk result IsShip }
+{
+    match document(alloc, bytes) {
+        Ok(top) => ship_of(alloc, &top),
+        Err(NoDocument::NotToml) => Err(ProfileFault::NotToml),
+        Err(NoDocument::NoMemory) => Err(ProfileFault::NoMemory),
+    }
+}
+
 /// The number of places of the stacks.
 fn places_in(stacks: &[Stack]) -> u64
     requires few { length stacks.now < 2 ^ 32 }
