@@ -7,3 +7,4 @@ pub mod Pairs
 pub mod Named
 pub mod Classes
 pub mod Counted
+pub mod Made
