@@ -11,3 +11,6 @@ mod stacks;
 
 pub use faults::{ProfileFault, ProfileKey};
 pub use profile_text::read_profile;
+
+#[cfg(test)]
+mod tests;
