@@ -1,18 +1,17 @@
 -- Stacks, each looked at beside the earlier ones.
-use Rattle.std.proofs.Common.{◌≡◌, ◌≢◌, ℕ, suc, zero, ◌+◌, ◌-◌, ◌<◌, ◌≤◌, Bool, true, false, ◌||◌, ◌&&◌, List, [], ◌∷◌, ◌++◌, length, get_or, take, drop, map, Option, Some, None, Ok, Err, ◌⊎◌, ⊎_elim, append_assoc, inl, inr, refl, sym, ap, ◌∙◌, subst, arith}
-use Rattle.std.specs.Prelude.{All, AllPairs, Contains, find, Result, ◌==◌, nat_le, nat_lt, nat_eq, cond, if◌then◌else◌}
+use Rattle.std.proofs.Common.{◌≡◌, ℕ, suc, zero, ◌+◌, ◌-◌, ◌<◌, ◌≤◌, Bool, true, false, ◌&&◌, List, [], ◌∷◌, ◌++◌, length, get_or, take, drop, map, Option, Some, None, Ok, Err, ◌⊎◌, ⊎_elim, append_assoc, inl, inr, refl, sym, ap, ◌∙◌, subst, arith}
+use Rattle.std.specs.Prelude.{AllPairs, Contains, find, Result, ◌==◌, cond, if◌then◌else◌}
 use Rattle.std.specs.List.{list_any}
 use Rattle.std.proofs.lemmas.List.{drop_all, take_more, append-nil}
 use Rattle.std.proofs.lemmas.Bool.{false≢true, le-leb, eq-eqb, eqb-true}
 use Rattle.std.proofs.lemmas.Option.{none-some}
 use Rattle.std.proofs.lemmas.List.Quantifiers.{all_pairs_push}
-use Rattle.toml_values.specs.Values.{◌>>=◌}
 use Rattle.toml_values.proofs.ValueLaws.{bound, err_is_no_ok}
 use Rattle.stow_data.specs.declared.geometry.Stack.{Stack}
 use Rattle.stow_data.specs.declared.geometry.Lengths.{Lengths}
 use Rattle.stow_data.specs.declared.geometry.Lengths.TheVariants.{Forty, Twenty, Mixed, ForeOnly, AftOnly}
 use Rattle.stow_data.specs.Ship.{sides}
-use Rattle.stow_data.specs.Profile.{IsStack, IsInHold, IsOnDeck, HasOddBay, SharesCell}
+use Rattle.stow_data.specs.Profile.{IsInHold, IsOnDeck, HasOddBay, SharesCell}
 use Rattle.ship_profile.specs.declared.faults.ProfileFault.{ProfileFault}
 use Rattle.ship_profile.specs.declared.faults.ProfileFault.TheVariants.{DuplicateCell}
 use Rattle.ship_profile.specs.Stacks.{apart_after, refused_at, shared_bay, has_cell_of, same_part, is_in_hold, is_on_deck, is_among, odd_bays}
@@ -92,14 +91,14 @@ aft_found bay odd AftOnly e h = or_left ((bay + 1) == odd) _ (eq-eqb (bay + 1) o
 aft_found bay odd ForeOnly e h = absurd (h refl)
 
 -- an odd bay that a stack has is among its odd bays
-bay_found : (s : Stack) (odd : ℕ) → HasOddBay s odd → is_among (odd_bays s) odd ≡ true
+pub bay_found : (s : Stack) (odd : ℕ) → HasOddBay s odd → is_among (odd_bays s) odd ≡ true
 bay_found s odd (inl h) = fore_found s.bay odd s.lengths h.0 (false_side s.lengths h.1)
 bay_found s odd (inr h) = aft_found s.bay odd s.lengths h.0 (true_side s.lengths h.1)
 
-cell_found : (s e : Stack) (h : SharesCell e s) → has_cell_of s h.odd e ≡ true
+pub cell_found : (s e : Stack) (h : SharesCell e s) → has_cell_of s h.odd e ≡ true
 cell_found s e h = and_true ((e.row == s.row) && same_part e s) _ (and_true (e.row == s.row) _ (eq-eqb e.row s.row h.same_row) (same_part_found e s h.same_part)) (bay_found e h.odd h.in_first)
 
-none_shared : (earlier : List Stack) (s : Stack) → shared_bay earlier s ≡ None → (k : ℕ) (d : Stack) → k < length earlier → SharesCell (get_or earlier k d) s → ⊥
+pub none_shared : (earlier : List Stack) (s : Stack) → shared_bay earlier s ≡ None → (k : ℕ) (d : Stack) → k < length earlier → SharesCell (get_or earlier k d) s → ⊥
 none_shared earlier s none k d lt h =
     let free = none_among (λ odd. list_any (has_cell_of s odd) earlier) (odd_bays s) h.odd none (bay_found s h.odd h.in_second) in
     false≢true (sym free ∙ any_at (has_cell_of s h.odd) earlier k d lt (cell_found s (get_or earlier k d) h))

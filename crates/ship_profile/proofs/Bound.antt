@@ -1,14 +1,13 @@
 -- What a test or a chain of steps that came out well tells of its parts.
-use Rattle.std.proofs.Common.{◌≡◌, ℕ, suc, ◌+◌, ◌≤◌, Bool, true, false, ◌||◌, ◌&&◌, List, [], ◌∷◌, ◌++◌, length, get_or, Err, Ok, ◌⊎◌, inl, inr, refl, sym, ◌∙◌, arith}
+use Rattle.std.proofs.Common.{◌≡◌, ℕ, suc, ◌+◌, Bool, true, false, ◌||◌, ◌&&◌, List, [], ◌∷◌, ◌++◌, length, get_or, Err, Ok, ◌⊎◌, inl, inr, refl, arith}
 use Rattle.std.specs.Prelude.{All, Result, if◌then◌else◌}
 use Rattle.std.proofs.lemmas.Bool.{false≢true}
 use Rattle.std.proofs.lemmas.List.Elements.{All-cons, All-nil}
 use Rattle.toml.specs.Data.{Data, Items, Members}
 use Rattle.toml_values.specs.declared.of_values.Unread.{Unread}
 use Rattle.toml_values.specs.declared.of_values.Unread.TheVariants as unread
-use Rattle.toml_values.specs.Values.{◌>>=◌, at_key, or_default, passing, table_of}
-use Rattle.toml_values.specs.Arrays.{each_after}
-use Rattle.toml_values.proofs.ValueLaws.{IsBound, bound, same_Ok, err_is_no_ok, under_key, default_or}
+use Rattle.toml_values.specs.Values.{at_key, or_default, passing, table_of}
+use Rattle.toml_values.proofs.ValueLaws.{bound, same_Ok, err_is_no_ok, under_key, default_or}
 use Rattle.toml_values.proofs.ArrayLaws.{each_keeps}
 use Rattle.ship_profile.specs.declared.faults.ProfileKey.{ProfileKey}
 use Rattle.ship_profile.specs.declared.faults.ProfileFault.{ProfileFault}

@@ -1,5 +1,5 @@
 -- Separations that were read obey the rules.
-use Rattle.std.proofs.Common.{◌≡◌, ℕ, ◌<◌, ◌≤◌, Bool, true, false, ◌&&◌, List, [], ◌∷◌, ◌++◌, length, get_or, Ok, Err, ◌⊎◌, inl, inr, subst, refl, sym, ◌∙◌, arith}
+use Rattle.std.proofs.Common.{◌≡◌, ℕ, ◌≤◌, Bool, true, false, ◌&&◌, List, [], ◌∷◌, ◌++◌, get_or, Ok, Err, inl, inr, subst, refl, sym, ◌∙◌, arith}
 use Rattle.std.specs.Prelude.{All, AllPairs, bytes_eq, Result, if◌then◌else◌}
 use Rattle.std.specs.List.{list_any}
 use Rattle.std.proofs.lemmas.Bool.{false≢true}
@@ -8,12 +8,11 @@ use Rattle.std.proofs.lemmas.List.Quantifiers.{all_pairs_push}
 use Rattle.std.proofs.lemmas.Slice.Eq.{bytes_eq-Decides}
 use Rattle.toml.specs.Data.{Items, Members}
 use Rattle.toml_values.specs.declared.of_values.Unread.{Unread}
-use Rattle.toml_values.specs.Values.{◌>>=◌, at_key, number_of, text_that}
+use Rattle.toml_values.specs.Values.{at_key, number_of, text_that}
 use Rattle.toml_values.proofs.ValueLaws.{bound, same_Ok, err_is_no_ok, text_passes, number_within, under_key}
 use Rattle.stow_data.specs.declared.geometry.Separation.{Separation}
 use Rattle.stow_data.specs.Profile.{is_class, IsSeparation, SamePair}
 use Rattle.ship_profile.specs.declared.faults.ProfileKey.TheVariants as key
-use Rattle.ship_profile.specs.declared.faults.ProfileFault.{ProfileFault}
 use Rattle.ship_profile.specs.declared.faults.ProfileFault.TheVariants.{BadSeparation}
 use Rattle.ship_profile.specs.Keys.{spelling}
 use Rattle.ship_profile.specs.Separations.{classes_and_level, is_same_pair, unless_again, unless_unread, separation_of, separations_of}

@@ -1,5 +1,5 @@
 -- The tiers of a stack that was read, and the stack.
-use Rattle.std.proofs.Common.{◌≡◌, ℕ, suc, ◌+◌, ◌-◌, ◌*◌, ◌%◌, ◌<◌, ◌≤◌, Bool, true, false, ◌&&◌, ◌||◌, List, [], ◌∷◌, length, map, Ok, ◌⊎◌, ⊎_elim, inl, inr, subst, refl, sym, ap, ◌∙◌, arith}
+use Rattle.std.proofs.Common.{◌≡◌, ℕ, ◌+◌, ◌-◌, ◌*◌, ◌%◌, ◌≤◌, Bool, true, ◌&&◌, ◌||◌, List, [], ◌∷◌, length, Ok, ◌⊎◌, ⊎_elim, inl, inr, subst, sym, arith}
 use Rattle.std.specs.Prelude.{All, ◌==◌, nat_le, slice_index}
 use Rattle.std.specs.List.{list_all}
 use Rattle.std.proofs.lemmas.Bool.{false≢true, leb-true, eqb-true}
@@ -10,12 +10,12 @@ use Rattle.toml_values.specs.Values.{◌>>=◌, array_of, number_of, passing}
 use Rattle.toml_values.specs.Arrays.{each_of}
 use Rattle.toml_values.proofs.ValueLaws.{bound, same_Ok, passes, number_within}
 use Rattle.stow_data.specs.declared.geometry.Stack.{Stack}
-use Rattle.stow_data.specs.Profile.{IsStack, IsInHold, IsOnDeck}
+use Rattle.stow_data.specs.Profile.{IsStack}
 use Rattle.ship_profile.specs.declared.faults.ProfileKey.TheVariants as key
 use Rattle.ship_profile.specs.declared.faults.ProfileFault.TheVariants.{GapInStack}
-use Rattle.ship_profile.specs.Keys.{need, may, unless, some_tables_of}
-use Rattle.ship_profile.specs.Stacks.{is_even, is_hold_tier, is_deck_tier, are_tiers, tiers_of, rises_from, bay_of, column_of, lengths_of, plugs_of, is_among, stack_of, stacks_of, stacks_in}
-use Rattle.ship_profile.proofs.Bound.{unless_is, need_is, may_is, both, either, entries_keep, passed, All-push}
+use Rattle.ship_profile.specs.Keys.{need, may, unless}
+use Rattle.ship_profile.specs.Stacks.{is_even, is_hold_tier, is_deck_tier, are_tiers, tiers_of, rises_from, bay_of, column_of, lengths_of, plugs_of, is_among, stack_of, stacks_of}
+use Rattle.ship_profile.proofs.Bound.{unless_is, need_is, both, either, entries_keep, passed, All-push}
 
 -- the tiers of a stack
 pub record IsColumn (tiers : List ℕ) : Type 0 where

@@ -22,9 +22,9 @@ first_entry key entry_of vs = record { counted = refl; same = refl }
 pub entry_on : {X : Type 0} (key : ProfileKey) (entry_of : ℕ → List X → Members → Result X ProfileFault) (vs : List Value) (i index : ℕ) (before : List X) (v : Value) (x : X) → i < length vs → v ≡ get_or vs i v
     → entry_at key (entry_of index before) (view v) ≡ Ok x → IsAtEntry key entry_of vs i index before → IsAtEntry key entry_of vs (i + 1) (index + 1) (before ++ x ∷ [])
 entry_on key entry_of vs i index before v x lt is h so_far = record {
-      counted = ap (λ n. n + 1) (so_far.counted ∙ sym (length-append before (x ∷ [])));
-      same = goes_on (entry_after key entry_of) before vs i v x (entries key entry_of (items_view vs)) lt is (ap (λ n. entry_at key (entry_of n before) (view v)) (sym so_far.counted) ∙ h) so_far.same;
-    }
+  counted = ap (λ n. n + 1) (so_far.counted ∙ sym (length-append before (x ∷ [])));
+  same = goes_on (entry_after key entry_of) before vs i v x (entries key entry_of (items_view vs)) lt is (ap (λ n. entry_at key (entry_of n before) (view v)) (sym so_far.counted) ∙ h) so_far.same;
+}
 
 pub entry_stops : {X : Type 0} (e : ProfileFault) (key : ProfileKey) (entry_of : ℕ → List X → Members → Result X ProfileFault) (vs : List Value) (i index : ℕ) (before : List X) (v : Value) → i < length vs → v ≡ get_or vs i v
     → (e ≢ NoMemory → entry_at key (entry_of index before) (view v) ≡ Err e) → IsAtEntry key entry_of vs i index before → e ≢ NoMemory → entries key entry_of (items_view vs) ≡ Err e

@@ -8,3 +8,4 @@ pub mod Named
 pub mod Classes
 pub mod Counted
 pub mod Made
+pub mod FirstShared

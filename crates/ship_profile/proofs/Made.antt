@@ -1,19 +1,17 @@
 -- A ship of parts that were read obeys the rules of a profile.
-use Rattle.std.proofs.Common.{◌≡◌, ℕ, ◌+◌, ◌-◌, ◌*◌, ◌<◌, ◌≤◌, ◌^◌, Bool, true, false, List, [], ◌∷◌, ◌++◌, length, length-append, get_or, Ok, Err, ⊎_elim, subst, refl, sym, ap, ◌∙◌, arith}
-use Rattle.std.specs.Prelude.{All, flat_map, nat_le, Result, if◌then◌else◌}
+use Rattle.std.proofs.Common.{◌≡◌, ℕ, ◌+◌, ◌<◌, ◌≤◌, ◌^◌, true, List, [], ◌∷◌, ◌++◌, length, length-append, get_or, Ok, Err, ⊎_elim, refl, ap, arith}
+use Rattle.std.specs.Prelude.{All, flat_map, Result}
 use Rattle.std.specs.List.{enumerate_from}
 use Rattle.std.proofs.lemmas.Bool.{lt-leb, false≢true}
 use Rattle.toml.specs.Data.{Data, Items, no_items, item, Members}
 use Rattle.toml.specs.Text.{has_items}
-use Rattle.toml_values.specs.Values.{◌>>=◌, number_of, passing, text_that}
+use Rattle.toml_values.specs.Values.{number_of, passing, text_that}
 use Rattle.toml_values.specs.Arrays.{each_after, item_count, tables_of}
 use Rattle.toml_values.proofs.ValueLaws.{bound, same_Ok, passes, text_passes, number_within}
 use Rattle.stow_data.specs.declared.geometry.Stack.{Stack}
-use Rattle.stow_data.specs.declared.geometry.Cover.{Cover}
-use Rattle.stow_data.specs.declared.geometry.Separation.{Separation}
 use Rattle.stow_data.specs.declared.limits.Limit.TheVariants.{Places}
 use Rattle.stow_data.specs.Ship.{Ship, places, stack_places}
-use Rattle.stow_data.specs.Profile.{IsStack, IsInHold, IsOnDeck, IsCover, IsShip, highest, is_name}
+use Rattle.stow_data.specs.Profile.{IsStack, IsInHold, IsOnDeck, IsShip, is_name}
 use Rattle.ship_profile.specs.declared.faults.ProfileKey.TheVariants as key
 use Rattle.ship_profile.specs.declared.faults.ProfileFault.{ProfileFault}
 use Rattle.ship_profile.specs.declared.faults.ProfileFault.TheVariants.{TooLarge}

@@ -1,6 +1,6 @@
 -- The stacks that covers name: each stands in its part of the ship, and is named once.
-use Rattle.std.proofs.Common.{◌≡◌, ◌≢◌, ℕ, suc, zero, ◌+◌, ◌<◌, ◌≤◌, Bool, true, false, ◌&&◌, ◌||◌, List, [], ◌∷◌, ◌++◌, length, get_or, map, Option, Some, None, Ok, Err, ◌⊎◌, ⊎_elim, inl, inr, refl, sym, ap, ◌∙◌, subst, arith, append_assoc, length-append}
-use Rattle.std.specs.Prelude.{All, AllPairs, Contains, filter, find, flat_map, slice_get, ℤ, cond, if◌then◌else◌, ◌==◌, Result}
+use Rattle.std.proofs.Common.{◌≡◌, ◌≢◌, ℕ, suc, zero, ◌+◌, ◌<◌, ◌≤◌, Bool, true, false, ◌&&◌, ◌||◌, List, [], ◌∷◌, ◌++◌, length, get_or, map, Option, Some, None, Ok, ◌⊎◌, ⊎_elim, inl, inr, refl, sym, ap, ◌∙◌, subst, arith, append_assoc, length-append}
+use Rattle.std.specs.Prelude.{All, AllPairs, Contains, filter, find, flat_map, slice_get, ℤ, cond, if◌then◌else◌, ◌==◌}
 use Rattle.std.specs.List.{enumerate_from}
 use Rattle.std.proofs.lemmas.List.{append-nil}
 use Rattle.std.proofs.lemmas.Option.{slice_get_within, get_or_from_slice_get}
@@ -8,21 +8,20 @@ use Rattle.std.proofs.lemmas.List.Elements.{All-cons, All-nil}
 use Rattle.std.proofs.lemmas.List.Kept.{AllPairs-cons}
 use Rattle.std.proofs.lemmas.Bool.{false≢true, eqb-true, eq-eqb, ne_eqb, leb-true}
 use borrow.Author.Tests.{ltb-true}
-use Rattle.toml.specs.Data.{Data, Items, Members}
+use Rattle.toml.specs.Data.{Items, Members}
 use Rattle.toml_values.proofs.ValueLaws.{bound, same_Ok, err_is_no_ok}
 use Rattle.stow_data.specs.declared.geometry.Stack.{Stack}
 use Rattle.stow_data.specs.declared.geometry.Cover.{Cover}
 use Rattle.stow_data.specs.Profile.{IsStack, IsInHold, IsOnDeck, IsCover, stacks_named}
 use Rattle.stow_data.specs.Ship.{Ship}
 use Rattle.ship_profile.specs.declared.faults.ProfileKey.TheVariants as key
-use Rattle.ship_profile.specs.declared.faults.ProfileFault.{ProfileFault}
 use Rattle.ship_profile.specs.declared.faults.ProfileFault.TheVariants.{CoverUnknownStack, CoverTwice}
 use Rattle.ship_profile.specs.declared.covers.Part.{Part}
 use Rattle.ship_profile.specs.declared.covers.Part.TheVariants.{Hold, Deck}
-use Rattle.ship_profile.specs.Keys.{need, entries}
+use Rattle.ship_profile.specs.Keys.{need}
 use Rattle.ship_profile.specs.Stacks.{is_among}
 use Rattle.ship_profile.specs.Covers.{is_in, stands_at, stacks_from, stacks_at, unless_again, newly_named, all_named, cover_of, covers_of, named_by, pairs_of}
-use Rattle.ship_profile.proofs.Bound.{both, either, or_left, or_right, entries_keep, All-push}
+use Rattle.ship_profile.proofs.Bound.{both, entries_keep, All-push}
 use Rattle.ship_profile.proofs.Apart.{none_among}
 
 pub named_push : (cs : List Cover) (c : Cover) → named_by (cs ++ c ∷ []) ≡ named_by cs ++ (c.under ++ c.on)
@@ -93,10 +92,10 @@ with_front : (b : Bool) (part : Part) (stacks : List Stack) (i : ℕ) (s : Stack
     → AreStacksAt part stacks (i + 1) (map (λ s. s.0) rest) → AreStacksAt part stacks i (map (λ s. s.0) (cond b ((i, s) ∷ rest) rest))
 unfolding times
 with_front true part stacks i s rest is h more = record {
-      once = record { at_most = λ n. first_once n (i == n) (λ e. more.from n (let same = eqb-true i n e in omega arith)) (more.once.at_most n) };
-      from = λ n lt. let other : (i == n) ≡ false = ne_eqb i n (λ (e : i ≡ n). omega arith) in rw other (let none = more.from n (omega arith) in omega arith);
-      parts = All-cons (StandsIn part stacks) i (map (λ s. s.0) rest) (record { stack = s; is_stack = is; in_part = h refl }) more.parts;
-    }
+  once = record { at_most = λ n. first_once n (i == n) (λ e. more.from n (let same = eqb-true i n e in omega arith)) (more.once.at_most n) };
+  from = λ n lt. let other : (i == n) ≡ false = ne_eqb i n (λ (e : i ≡ n). omega arith) in rw other (let none = more.from n (omega arith) in omega arith);
+  parts = All-cons (StandsIn part stacks) i (map (λ s. s.0) rest) (record { stack = s; is_stack = is; in_part = h refl }) more.parts;
+}
   where
     first_once : (n : ℕ) (b : Bool) → (b ≡ true → times n (map (λ (s : ℕ × Stack). s.0) rest) ≡ 0) → times n (map (λ (s : ℕ × Stack). s.0) rest) ≤ 1 → (if b then 1 else 0) + times n (map (λ (s : ℕ × Stack). s.0) rest) ≤ 1
     first_once n true none le = let e = none refl in omega arith
@@ -131,8 +130,10 @@ among_times n xs = of_test (is_among xs n) refl
     of_test false e = inr (times_none n xs e)
 
 once_more : (named these : List ℕ) → find (is_among named) these ≡ None → IsOnce named → IsOnce these → IsOnce (named ++ these)
-once_more named these none h k = record { at_most = λ n. let both = times-append n named these in let first = h.at_most n in let second = k.at_most n in
-      ⊎_elim (λ (e : is_among these n ≡ true). let gone = times_none n named (none_among (is_among named) these n none e) in omega arith) (λ (e : times n these ≡ 0). omega arith) (among_times n these) }
+once_more named these none h k = record {
+  at_most = λ n. let both = times-append n named these in let first = h.at_most n in let second = k.at_most n in
+      ⊎_elim (λ (e : is_among these n ≡ true). let gone = times_none n named (none_among (is_among named) these n none e) in omega arith) (λ (e : times n these ≡ 0). omega arith) (among_times n these);
+}
 
 -- stacks that are named once, those found in their part
 pub record AreNamed (part : Part) (stacks : List Stack) (named found : List ℕ) : Type 0 where
@@ -199,10 +200,10 @@ named_once cs h = distinct (stacks_named cs) (record { at_most = λ n. let same 
 stack_at_is : (stacks : List Stack) (n : ℕ) (s : Stack) → All IsStack stacks → slice_get stacks n ≡ Some s → IsStack s
 stack_at_is stacks n s h is = subst IsStack (get_or_from_slice_get stacks n s s is) (h n s (slice_get_within stacks n s is))
 
-in_hold : (s : Stack) → IsStack s → is_in Hold s ≡ true → IsInHold s
+pub in_hold : (s : Stack) → IsStack s → is_in Hold s ≡ true → IsInHold s
 in_hold s h e = let low = ltb-true s.lowest 80 e in ⊎_elim (λ (p : IsInHold s). p) (λ (p : IsOnDeck s). absurd (let high = p.0 in omega arith)) h.part
 
-on_deck : (s : Stack) → IsStack s → is_in Deck s ≡ true → IsOnDeck s
+pub on_deck : (s : Stack) → IsStack s → is_in Deck s ≡ true → IsOnDeck s
 on_deck s h e = let high = leb-true 80 s.lowest e in ⊎_elim (λ (p : IsInHold s). absurd (let low = p.1 in omega arith)) (λ (p : IsOnDeck s). p) h.part
 
 each_named : (part : Part) (stacks : List Stack) (P : Stack → Type 0) → All IsStack stacks → ((s : Stack) → IsStack s → is_in part s ≡ true → P s) → (ns : List ℕ) → All (StandsIn part stacks) ns

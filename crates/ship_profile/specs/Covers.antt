@@ -1,5 +1,5 @@
 -- The hatch covers of a profile.
-use Rattle.std.specs.Prelude.{ℕ, ◌==◌, Bool, true, false, ◌&&◌, ℤ, pos, negsuc, List, [], ◌∷◌, ◌++◌, map, filter, find, flat_map, Option, Some, None, Result, Ok, Err}
+use Rattle.std.specs.Prelude.{ℕ, ◌==◌, Bool, false, ◌&&◌, ℤ, pos, List, [], ◌∷◌, ◌++◌, map, filter, find, flat_map, Option, Some, None, Result, Ok, Err}
 use Rattle.std.specs.List.{enumerate_from}
 use Rattle.toml.specs.Data.{Data, integer, Items, no_items, item, Members}
 use Rattle.toml_values.specs.declared.of_values.Unread.{Unread}

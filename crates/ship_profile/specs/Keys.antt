@@ -1,5 +1,5 @@
 -- What stands under a key of a profile: a value, or the first fault.
-use Rattle.std.specs.Prelude.{◌≡◌, ◌≢◌, Bool, codes, ℕ, ◌+◌, List, [], length, Result, Ok, Err, if◌then◌else◌, ◌&&◌}
+use Rattle.std.specs.Prelude.{◌≡◌, ◌≢◌, Bool, codes, ℕ, ◌+◌, List, [], length, Result, Ok, Err, if◌then◌else◌}
 use Rattle.toml.specs.Data.{Data, Items, Members}
 use Rattle.toml.specs.Text.{has_items}
 use Rattle.toml_values.specs.declared.of_values.Unread.{Unread}

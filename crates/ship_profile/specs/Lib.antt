@@ -3,3 +3,4 @@ pub mod Stacks
 pub mod Covers
 pub mod Separations
 pub mod ShipText
+pub mod SharedCells

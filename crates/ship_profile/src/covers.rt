@@ -48,10 +48,7 @@ fn pair_of(value: &Value) -> Result<(i64, i64), Unread>
     pair_in(items.as_slice())
 }
 
-fn all_pairs(
-    alloc: Global,
-    items: &Array,
-) -> Result<Result<Seq<(i64, i64)>, Unread>, NoMemory>
+fn all_pairs(alloc: Global, items: &Array) -> Result<Result<Seq<(i64, i64)>, Unread>, NoMemory>
     ensures { IfOk result (λ pairs. pairs ≡ each_of pair_of (array_view items.now)) }
 {
     let mut pairs = Seq::new(alloc);
@@ -198,9 +195,17 @@ fn cover_of(
     ensures read { Gives (λ cover. cover) result (cover_of stacks.now index named.old (table_view entry.now)) }
     ensures joined { IfOk result (λ cover. named.new ≡ named.old ++ (cover.under ++ cover.on)) }
 {
-    let pairs = keyed(pairs_at(alloc, entry, ProfileKey::Under)?, ProfileKey::Under, index)?;
+    let pairs = keyed(
+        pairs_at(alloc, entry, ProfileKey::Under)?,
+        ProfileKey::Under,
+        index,
+    )?;
     let under = all_named(alloc, Part::Hold, stacks, index, named, pairs.as_slice())?;
-    let pairs = keyed(pairs_at(alloc, entry, ProfileKey::On)?, ProfileKey::On, index)?;
+    let pairs = keyed(
+        pairs_at(alloc, entry, ProfileKey::On)?,
+        ProfileKey::On,
+        index,
+    )?;
     let on = all_named(alloc, Part::Deck, stacks, index, named, pairs.as_slice())?;
     Ok(Cover { under, on })
 }
@@ -222,11 +227,7 @@ fn cover_at(
     }
 }
 
-fn covers_of(
-    alloc: Global,
-    stacks: &[Stack],
-    entries: &Array,
-) -> Result<CoverList, ProfileFault>
+fn covers_of(alloc: Global, stacks: &[Stack], entries: &Array) -> Result<CoverList, ProfileFault>
     requires { length stacks.now < 2 ^ 32 }
     ensures read { Gives (λ covers. covers) result (covers_of stacks.now (array_view entries.now)) }
     ensures few { IfOk result (λ covers. length covers < 2 ^ 32) }

@@ -5,11 +5,13 @@ mod cells;
 mod covers;
 mod faults;
 mod keys;
+mod laws;
 mod profile_text;
 mod separations;
 mod stacks;
 
 pub use faults::{ProfileFault, ProfileKey};
+pub use laws::shared_cells_are_named;
 pub use profile_text::read_profile;
 
 #[cfg(test)]

@@ -5,7 +5,8 @@ use std::process::Abort;
 use std::test::Fail;
 use stow_data::{CoverNo, Length, Lengths, Limit, PlaceNo, Ship, StackNo};
 
-const WHOLE: &str = "name = \"FEEDER 1\"\nweight_step = 5000\nmaster = \"unread\"\n[[stack]]\nbay = 2\nrow = 1\ntiers = [2, 4]\nlengths = \"20/40\"\nlimit_kg = 90000\n[[stack]]\nbay = 2\nrow = 1\ntiers = [82, 84, 86]\nlengths = \"40\"\nlimit_kg = 1000000\nplugs = [86, 82, 86]\n[[stack]]\nbay = 6\nrow = 0\ntiers = [80]\nlengths = \"fore\"\nlimit_kg = 1\n[[stack]]\nbay = 6\nrow = 0\ntiers = [80]\nlengths = \"aft\"\nlimit_kg = 1\nplugs = []\n[[stack]]\nbay = 998\nrow = 99\ntiers = [98]\nlengths = \"20\"\nlimit_kg = 30000\n[[cover]]\nunder = [[2, 1]]\non = [[6, 0], [2, 1]]\n[[cover]]\nunder = []\non = []\n[[separate]]\na = \"1.4S\"\nb = \"3\"\nlevel = 2\n[[separate]]\na = \"3\"\nb = \"3\"\nlevel = 3\n";
+const WHOLE: &str =
+    "name = \"FEEDER 1\"\nweight_step = 5000\nmaster = \"unread\"\n[[stack]]\nbay = 2\nrow = 1\ntiers = [2, 4]\nlengths = \"20/40\"\nlimit_kg = 90000\n[[stack]]\nbay = 2\nrow = 1\ntiers = [82, 84, 86]\nlengths = \"40\"\nlimit_kg = 1000000\nplugs = [86, 82, 86]\n[[stack]]\nbay = 6\nrow = 0\ntiers = [80]\nlengths = \"fore\"\nlimit_kg = 1\n[[stack]]\nbay = 6\nrow = 0\ntiers = [80]\nlengths = \"aft\"\nlimit_kg = 1\nplugs = []\n[[stack]]\nbay = 998\nrow = 99\ntiers = [98]\nlengths = \"20\"\nlimit_kg = 30000\n[[cover]]\nunder = [[2, 1]]\non = [[6, 0], [2, 1]]\n[[cover]]\nunder = []\non = []\n[[separate]]\na = \"1.4S\"\nb = \"3\"\nlevel = 2\n[[separate]]\na = \"3\"\nb = \"3\"\nlevel = 3\n";
 
 fn whole(alloc: Global) -> Result<Ship, Fail> {
     Ok(read_profile(alloc, WHOLE.as_bytes()).map_err(|_| "refused")?)
@@ -61,7 +62,9 @@ fn fault_of_stacks(alloc: Global, stacks: &str) -> Result<Option<ProfileFault>, 
 
 /// The fault of a profile with two stacks in the hold, each under a stack on deck, and these further lines.
 fn fault_beside_stacks(alloc: Global, lines: &str) -> Result<Option<ProfileFault>, Fail> {
-    let text = format!(in alloc; "name=\"V\"\nstack=[{{bay=2,row=1,tiers=[2],lengths=\"40\",limit_kg=1}},{{bay=2,row=1,tiers=[80],lengths=\"40\",limit_kg=1}},{{bay=2,row=2,tiers=[2],lengths=\"fore\",limit_kg=1}},{{bay=2,row=2,tiers=[2],lengths=\"aft\",limit_kg=1}}]\n{lines}\n")?;
+    let text = format!(in alloc;
+        "name=\"V\"\nstack=[{{bay=2,row=1,tiers=[2],lengths=\"40\",limit_kg=1}},{{bay=2,row=1,tiers=[80],lengths=\"40\",limit_kg=1}},{{bay=2,row=2,tiers=[2],lengths=\"fore\",limit_kg=1}},{{bay=2,row=2,tiers=[2],lengths=\"aft\",limit_kg=1}}]\n{lines}\n"
+    )?;
     Ok(fault_of(alloc, text.as_str()))
 }
 
@@ -107,29 +110,54 @@ fn faults_of_bays_and_rows<R: Abort>(rt: &R, alloc: Global) -> Result<(), Fail> 
 fn faults_of_tiers<R: Abort>(rt: &R, alloc: Global) -> Result<(), Fail> {
     assert!(rt; fault_of_stacks(alloc, "{bay=2,row=0}")? == missing(ProfileKey::Tiers, 1));
     assert!(rt; fault_of_stacks(alloc, "{bay=2,row=0,tiers=[]}")? == bad(ProfileKey::Tiers, 1));
-    assert!(rt; fault_of_stacks(alloc, "{bay=2,row=0,tiers=[78,80]}")? == bad(ProfileKey::Tiers, 1));
+    assert!(rt;
+        fault_of_stacks(alloc, "{bay=2,row=0,tiers=[78,80]}")? == bad(ProfileKey::Tiers, 1)
+    );
     Ok(())
 }
 
 fn gaps_in_stacks<R: Abort>(rt: &R, alloc: Global) -> Result<(), Fail> {
     let second = "{bay=2,row=0,tiers=[82],lengths=\"40\",limit_kg=1},{bay=2,row=1,tiers=[82,86]}";
     assert!(rt; fault_of_stacks(alloc, second)? == Some(ProfileFault::GapInStack { index: 2 }));
-    assert!(rt; fault_of_stacks(alloc, "{bay=2,row=0,tiers=[4,2]}")? == Some(ProfileFault::GapInStack { index: 1 }));
-    assert!(rt; fault_of_stacks(alloc, "{bay=2,row=0,tiers=[82,85]}")? == bad(ProfileKey::Tiers, 1));
+    assert!(rt;
+        fault_of_stacks(alloc, "{bay=2,row=0,tiers=[4,2]}")?
+            == Some(ProfileFault::GapInStack { index: 1 })
+    );
+    assert!(rt;
+        fault_of_stacks(alloc, "{bay=2,row=0,tiers=[82,85]}")? == bad(ProfileKey::Tiers, 1)
+    );
     Ok(())
 }
 
 fn faults_of_lengths<R: Abort>(rt: &R, alloc: Global) -> Result<(), Fail> {
-    assert!(rt; fault_of_stacks(alloc, "{bay=2,row=0,tiers=[2]}")? == missing(ProfileKey::Lengths, 1));
-    assert!(rt; fault_of_stacks(alloc, "{bay=2,row=0,tiers=[2],lengths=40}")? == bad(ProfileKey::Lengths, 1));
-    assert!(rt; fault_of_stacks(alloc, "{bay=2,row=0,tiers=[2],lengths=\"40/20\"}")? == bad(ProfileKey::Lengths, 1));
+    assert!(rt;
+        fault_of_stacks(alloc, "{bay=2,row=0,tiers=[2]}")? == missing(ProfileKey::Lengths, 1)
+    );
+    assert!(rt;
+        fault_of_stacks(alloc, "{bay=2,row=0,tiers=[2],lengths=40}")? == bad(ProfileKey::Lengths, 1)
+    );
+    assert!(rt;
+        fault_of_stacks(alloc, "{bay=2,row=0,tiers=[2],lengths=\"40/20\"}")?
+            == bad(ProfileKey::Lengths, 1)
+    );
     Ok(())
 }
 
 fn faults_of_limits_and_plugs<R: Abort>(rt: &R, alloc: Global) -> Result<(), Fail> {
-    assert!(rt; fault_of_stacks(alloc, "{bay=2,row=0,tiers=[2],lengths=\"aft\"}")? == missing(ProfileKey::LimitKg, 1));
-    assert!(rt; fault_of_stacks(alloc, "{bay=2,row=0,tiers=[2],lengths=\"aft\",limit_kg=0}")? == bad(ProfileKey::LimitKg, 1));
-    assert!(rt; fault_of_stacks(alloc, "{bay=2,row=0,tiers=[2],lengths=\"aft\",limit_kg=9,plugs=[4]}")? == bad(ProfileKey::Plugs, 1));
+    assert!(rt;
+        fault_of_stacks(alloc, "{bay=2,row=0,tiers=[2],lengths=\"aft\"}")?
+            == missing(ProfileKey::LimitKg, 1)
+    );
+    assert!(rt;
+        fault_of_stacks(alloc, "{bay=2,row=0,tiers=[2],lengths=\"aft\",limit_kg=0}")?
+            == bad(ProfileKey::LimitKg, 1)
+    );
+    assert!(rt;
+        fault_of_stacks(
+            alloc,
+            "{bay=2,row=0,tiers=[2],lengths=\"aft\",limit_kg=9,plugs=[4]}"
+        )? == bad(ProfileKey::Plugs, 1)
+    );
     Ok(())
 }
 
@@ -138,17 +166,21 @@ fn shared(bay: u32, row: u32, tier: u32) -> Option<ProfileFault> {
 }
 
 fn cells_of_two_stacks<R: Abort>(rt: &R, alloc: Global) -> Result<(), Fail> {
-    let both = "{bay=6,row=1,tiers=[2],lengths=\"40\",limit_kg=1},{bay=6,row=1,tiers=[4,6],lengths=\"20\",limit_kg=1}";
+    let both =
+        "{bay=6,row=1,tiers=[2],lengths=\"40\",limit_kg=1},{bay=6,row=1,tiers=[4,6],lengths=\"20\",limit_kg=1}";
     assert!(rt; fault_of_stacks(alloc, both)? == shared(5, 1, 4));
-    let neighbours = "{bay=6,row=1,tiers=[80],lengths=\"40\",limit_kg=1},{bay=4,row=1,tiers=[98],lengths=\"20/40\",limit_kg=1}";
+    let neighbours =
+        "{bay=6,row=1,tiers=[80],lengths=\"40\",limit_kg=1},{bay=4,row=1,tiers=[98],lengths=\"20/40\",limit_kg=1}";
     assert!(rt; fault_of_stacks(alloc, neighbours)? == shared(5, 1, 98));
     Ok(())
 }
 
 fn cells_of_half_stacks<R: Abort>(rt: &R, alloc: Global) -> Result<(), Fail> {
-    let halves = "{bay=6,row=1,tiers=[2],lengths=\"fore\",limit_kg=1},{bay=6,row=1,tiers=[2],lengths=\"aft\",limit_kg=1},{bay=6,row=1,tiers=[80],lengths=\"40\",limit_kg=1}";
+    let halves =
+        "{bay=6,row=1,tiers=[2],lengths=\"fore\",limit_kg=1},{bay=6,row=1,tiers=[2],lengths=\"aft\",limit_kg=1},{bay=6,row=1,tiers=[80],lengths=\"40\",limit_kg=1}";
     assert!(rt; fault_of_stacks(alloc, halves)?.is_none());
-    let lowest = "{bay=6,row=1,tiers=[2],lengths=\"aft\",limit_kg=1},{bay=4,row=1,tiers=[2],lengths=\"aft\",limit_kg=1},{bay=6,row=1,tiers=[2],lengths=\"40\",limit_kg=1}";
+    let lowest =
+        "{bay=6,row=1,tiers=[2],lengths=\"aft\",limit_kg=1},{bay=4,row=1,tiers=[2],lengths=\"aft\",limit_kg=1},{bay=6,row=1,tiers=[2],lengths=\"40\",limit_kg=1}";
     assert!(rt; fault_of_stacks(alloc, lowest)? == shared(5, 1, 2));
     Ok(())
 }
@@ -156,7 +188,9 @@ fn cells_of_half_stacks<R: Abort>(rt: &R, alloc: Global) -> Result<(), Fail> {
 fn covers_that_are_no_lists<R: Abort>(rt: &R, alloc: Global) -> Result<(), Fail> {
     assert!(rt; fault_beside_stacks(alloc, "cover=1")? == bad(ProfileKey::Cover, 0));
     assert!(rt; fault_beside_stacks(alloc, "cover=[{on=[]}]")? == missing(ProfileKey::Under, 1));
-    assert!(rt; fault_beside_stacks(alloc, "cover=[{under=[[2,1,0]]}]")? == bad(ProfileKey::Under, 1));
+    assert!(rt;
+        fault_beside_stacks(alloc, "cover=[{under=[[2,1,0]]}]")? == bad(ProfileKey::Under, 1)
+    );
     Ok(())
 }
 
@@ -170,7 +204,12 @@ fn covers_over_no_stack<R: Abort>(rt: &R, alloc: Global) -> Result<(), Fail> {
 
 fn stacks_under_two_covers<R: Abort>(rt: &R, alloc: Global) -> Result<(), Fail> {
     let third = Some(ProfileFault::CoverTwice { stack: StackNo(2) });
-    assert!(rt; fault_beside_stacks(alloc, "cover=[{under=[[2,2]],on=[]},{under=[[2,1],[2,2]],on=1}]")? == third);
+    assert!(rt;
+        fault_beside_stacks(
+            alloc,
+            "cover=[{under=[[2,2]],on=[]},{under=[[2,1],[2,2]],on=1}]"
+        )? == third
+    );
     assert!(rt; fault_beside_stacks(alloc, "cover=[{under=[[2,2],[2,2]],on=[]}]")? == third);
     assert!(rt; fault_beside_stacks(alloc, "cover=[{under=[[2,1],[2,2]],on=[[2,1]]}]")?.is_none());
     Ok(())
@@ -179,15 +218,27 @@ fn stacks_under_two_covers<R: Abort>(rt: &R, alloc: Global) -> Result<(), Fail> 
 fn bad_separations<R: Abort>(rt: &R, alloc: Global) -> Result<(), Fail> {
     let first = Some(ProfileFault::BadSeparation { index: 1 });
     assert!(rt; fault_beside_stacks(alloc, "separate=[{a=\"3\",level=1}]")? == first);
-    assert!(rt; fault_beside_stacks(alloc, "separate=[{a=\"3\",b=\"123456789\",level=1}]")? == first);
+    assert!(rt;
+        fault_beside_stacks(alloc, "separate=[{a=\"3\",b=\"123456789\",level=1}]")? == first
+    );
     assert!(rt; fault_beside_stacks(alloc, "separate=[{a=\"3\",b=\"8\",level=4}]")? == first);
     Ok(())
 }
 
 fn separations_that_stand_twice<R: Abort>(rt: &R, alloc: Global) -> Result<(), Fail> {
     let second = Some(ProfileFault::BadSeparation { index: 2 });
-    assert!(rt; fault_beside_stacks(alloc, "separate=[{a=\"3\",b=\"8\",level=1},{a=\"8\",b=\"3\",level=2}]")? == second);
-    assert!(rt; fault_beside_stacks(alloc, "separate=[{a=\"3\",b=\"3\",level=1},{a=\"3\",b=\"3\",level=1}]")? == second);
+    assert!(rt;
+        fault_beside_stacks(
+            alloc,
+            "separate=[{a=\"3\",b=\"8\",level=1},{a=\"8\",b=\"3\",level=2}]"
+        )? == second
+    );
+    assert!(rt;
+        fault_beside_stacks(
+            alloc,
+            "separate=[{a=\"3\",b=\"3\",level=1},{a=\"3\",b=\"3\",level=1}]"
+        )? == second
+    );
     assert!(rt; fault_beside_stacks(alloc, "separate=[1]")? == bad(ProfileKey::Separate, 0));
     Ok(())
 }
@@ -196,7 +247,9 @@ fn separations_that_stand_twice<R: Abort>(rt: &R, alloc: Global) -> Result<(), F
 fn fault_of_many(alloc: Global, last: &str) -> Result<Option<ProfileFault>, Fail> {
     let mut stacks = String::new(alloc);
     for row in 0..25 {
-        let stack = format!(in alloc; "{{bay=2,row={row},tiers=[2,4,6,8,10,12,14,16,18,20,22,24,26,28,30,32,34,36,38,40,42,44,46,48,50,52,54,56,58,60,62,64,66,68,70,72,74,76,78],lengths=\"20/40\",limit_kg=1}},")?;
+        let stack = format!(in alloc;
+            "{{bay=2,row={row},tiers=[2,4,6,8,10,12,14,16,18,20,22,24,26,28,30,32,34,36,38,40,42,44,46,48,50,52,54,56,58,60,62,64,66,68,70,72,74,76,78],lengths=\"20/40\",limit_kg=1}},"
+        )?;
         stacks.push_str(stack.as_str())?;
     }
     stacks.push_str(last)?;
@@ -208,8 +261,19 @@ fn ships_at_the_limit<R: Abort>(rt: &R, alloc: Global) -> Result<(), Fail> {
         limit: Limit::Places,
         value: 3_001,
     });
-    assert!(rt; fault_of_many(alloc, "{bay=6,row=0,tiers=[2,4,6,8,10,12,14,16,18,20,22,24,26,28,30,32,34,36,38,40,42,44,46,48,50,52,54,56,58,60,62,64,66,68,70,72,74,76],lengths=\"20\",limit_kg=1}")? == large);
-    assert!(rt; fault_of_many(alloc, "{bay=6,row=0,tiers=[2,4,6,8,10,12,14,16,18,20,22,24,26,28,30,32,34,36,38,40,42,44,46,48,50],lengths=\"20/40\",limit_kg=1}")?.is_none());
+    assert!(rt;
+        fault_of_many(
+            alloc,
+            "{bay=6,row=0,tiers=[2,4,6,8,10,12,14,16,18,20,22,24,26,28,30,32,34,36,38,40,42,44,46,48,50,52,54,56,58,60,62,64,66,68,70,72,74,76],lengths=\"20\",limit_kg=1}"
+        )? == large
+    );
+    assert!(rt;
+        fault_of_many(
+            alloc,
+            "{bay=6,row=0,tiers=[2,4,6,8,10,12,14,16,18,20,22,24,26,28,30,32,34,36,38,40,42,44,46,48,50],lengths=\"20/40\",limit_kg=1}"
+        )?
+        .is_none()
+    );
     Ok(())
 }
 

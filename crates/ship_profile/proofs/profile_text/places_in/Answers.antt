@@ -1,4 +1,4 @@
-use Rattle.std.proofs.Common.{◌≡◌, ◌+◌, ◌*◌, ◌≤◌, length, refl, sym, subst, arith}
+use Rattle.std.proofs.Common.{◌≡◌, ◌*◌, ◌≤◌, length, refl, sym, subst, arith}
 use Rattle.stow_data.specs.declared.geometry.Stack.{Stack}
 use Rattle.stow_data.specs.Ship.{spans}
 use Rattle.ship_profile.proofs.Counted.{count_on, at_most}

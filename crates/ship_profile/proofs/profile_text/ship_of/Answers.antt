@@ -1,4 +1,4 @@
-use Rattle.std.proofs.Common.{◌≡◌, ◌≤◌, Ok, sym, ap, ◌∙◌, arith}
+use Rattle.std.proofs.Common.{sym, ap, ◌∙◌}
 use Rattle.toml.specs.View.{table_view}
 use Rattle.toml_values.specs.Values.{or_default}
 use Rattle.ship_profile.specs.declared.faults.ProfileKey.TheVariants as key

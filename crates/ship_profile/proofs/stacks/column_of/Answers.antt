@@ -1,11 +1,11 @@
-use Rattle.std.proofs.Common.{◌≡◌, Ok, true, ap, sym, ◌∙◌}
+use Rattle.std.proofs.Common.{◌≡◌, true, ap, sym, ◌∙◌}
 use Rattle.std.specs.Prelude.{slice_index}
 use Rattle.std.proofs.lemmas.Grind.{common_steps}
 use Rattle.std.proofs.Common.{arith}
 use Rattle.toml.specs.View.{table_view}
 use Rattle.ship_profile.specs.declared.faults.ProfileKey.TheVariants as key
-use Rattle.ship_profile.specs.Keys.{keyed, need}
-use Rattle.ship_profile.specs.Stacks.{rises_from, tiers_of}
+use Rattle.ship_profile.specs.Keys.{keyed}
+use Rattle.ship_profile.specs.Stacks.{rises_from}
 use Rattle.ship_profile.proofs.Columns.{column_from, few_in, tiers_are}
 use Rattle.ship_profile.proofs.stacks.column_of.Goals as goal
 
