@@ -1,0 +1,11 @@
+pub mod Bound
+pub mod Items
+pub mod Rising
+pub mod Columns
+pub mod Apart
+pub mod Pairs
+pub mod Named
+pub mod Classes
+pub mod Counted
+pub mod Made
+pub mod FirstShared

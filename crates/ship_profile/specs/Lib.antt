@@ -1,0 +1,6 @@
+pub mod Keys
+pub mod Stacks
+pub mod Covers
+pub mod Separations
+pub mod ShipText
+pub mod SharedCells

@@ -1,0 +1,18 @@
+//! The reader of a ship's profile (TOML): the ship, or the first fault of the text.
+#![tactic(auto)]
+
+mod cells;
+mod covers;
+mod faults;
+mod keys;
+mod laws;
+mod profile_text;
+mod separations;
+mod stacks;
+
+pub use faults::{ProfileFault, ProfileKey};
+pub use laws::shared_cells_are_named;
+pub use profile_text::read_profile;
+
+#[cfg(test)]
+mod tests;
