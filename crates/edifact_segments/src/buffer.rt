@@ -5,7 +5,11 @@ ghost use Rattle.edifact_segments.specs.Pieces.{on_last};
 use crate::elements::{ElementList, piece};
 use std::alloc::Global;
 use std::marker::Model;
+use std::mem;
 use stow_data::NoMemory;
+
+/// Up to so many bytes, components and elements are copied; more are moved.
+const FEW: usize = 1_000;
 
 /// The elements of the segment that is read, in vectors that serve one segment after the other. Contracts
 /// see the same list of lists as of `ElementList`.
@@ -86,15 +90,19 @@ impl ElementBuffer {
         Ok(())
     }
 
-    /// These elements as a list of their own.
-    pub(crate) fn list(&self, alloc: Global) -> Result<ElementList, NoMemory>
-        ensures { IfOk result (λ e. e ≡ self.now) }
+    /// Gives the elements away as a list of their own: copied where they are few, so that the room is kept.
+    pub(crate) fn give(&mut self, alloc: Global) -> Result<ElementList, NoMemory>
+        ensures { IfOk result (λ e. e ≡ self.old) }
     {
-        ElementList::of_pieces(
-            alloc,
-            self.bytes.as_slice(),
-            self.components.as_slice(),
-            self.elements.as_slice(),
-        )
+        if self.bytes.len() <= FEW && self.components.len() <= FEW && self.elements.len() <= FEW {
+            return ElementList::of_pieces(
+                alloc,
+                self.bytes.as_slice(),
+                self.components.as_slice(),
+                self.elements.as_slice(),
+            );
+        }
+        let whole = mem::replace(self, ElementBuffer::new(alloc));
+        Ok(ElementList::of_vectors(whole.bytes, whole.components, whole.elements))
     }
 }

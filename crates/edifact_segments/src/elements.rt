@@ -64,6 +64,23 @@ impl ElementList {
         })
     }
 
+    /// The same, of vectors whose room is kept where they are long.
+    pub(crate) fn of_vectors(
+        bytes: Vec<u8>,
+        components: Vec<usize>,
+        elements: Vec<usize>,
+    ) -> ElementList
+        requires elements { IsAscending elements.items (length components.items) }
+        requires components { IsAscending components.items (length bytes.items) }
+        ensures { result ≡ pieces elements.items (pieces components.items bytes.items) }
+    {
+        ElementList {
+            bytes: SmallVec::from_vec(bytes),
+            components: SmallVec::from_vec(components),
+            elements: SmallVec::from_vec(elements),
+        }
+    }
+
     /// The number of elements.
     pub fn len(&self) -> usize
         ensures { result ≡ length self.now }

@@ -118,7 +118,7 @@ fn next_segment(
         Some(tag) => tag,
         None => return Err(SegFault::BadTag { segment: number }),
     };
-    let elements = draft.elements.list(alloc)?;
+    let elements = draft.elements.give(alloc)?;
     Ok((Segment { tag, elements }, next))
 }
 
