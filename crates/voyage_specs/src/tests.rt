@@ -5,6 +5,7 @@ ghost use Rattle.voyage_specs.specs.Samples as samples;
 
 use super::*;
 use std::alloc::Global;
+use std::process::Abort;
 use std::test::Fail;
 use stow_data::{
     CallNo, Cargo, Container, ContainerList, ContainerNo, Cover, CoverList, CoverNo, FlagList,
@@ -223,37 +224,45 @@ fn first_broken(alloc: Global, entries: &Entries) -> Result<Option<Rule>, NoMemo
     Ok(broken_rule(&ship, &cargo, &plan))
 }
 
+fn expect_broken(
+    rt: &impl Abort,
+    alloc: Global,
+    entries: &Entries,
+    broken: Option<Rule>,
+) -> Result<(), NoMemory> {
+    assert_eq!(rt; first_broken(alloc, entries)?, broken);
+    Ok(())
+}
+
+fn support(rt: &impl Abort, alloc: Global) -> Result<(), NoMemory> {
+    let none = [None, None, Some(0), None, None, None, Some(1)];
+    expect_broken(rt, alloc, &none, None)?;
+    let over_nothing = [None, None, None, None, None, Some(1), None];
+    expect_broken(rt, alloc, &over_nothing, Some(Rule::Support))?;
+    let over_one_side = [Some(2), None, None, None, None, Some(1), None];
+    expect_broken(rt, alloc, &over_one_side, Some(Rule::Support))
+}
+
+fn lengths_and_plugs(rt: &impl Abort, alloc: Global) -> Result<(), NoMemory> {
+    let twenty_over_forty = [None, None, Some(1), Some(2), None, None, None];
+    expect_broken(rt, alloc, &twenty_over_forty, Some(Rule::TwentyOnForty))?;
+    let reefer_above = [None, None, Some(1), None, None, Some(0), None];
+    expect_broken(rt, alloc, &reefer_above, Some(Rule::NoPlug))
+}
+
+fn weight_and_separation(rt: &impl Abort, alloc: Global) -> Result<(), NoMemory> {
+    let heavy = [None, None, Some(0), None, None, Some(1), None];
+    expect_broken(rt, alloc, &heavy, Some(Rule::StackWeight))?;
+    let side_by_side = [Some(2), Some(3), None, None, None, None, None];
+    expect_broken(rt, alloc, &side_by_side, Some(Rule::Separation(0)))
+}
+
 #[test]
 fn first_broken_rules(rt: HostRuntime) -> Result<(), Fail> {
-    for (entries, broken) in [
-        ([None, None, Some(0), None, None, None, Some(1)], None),
-        (
-            [None, None, None, None, None, Some(1), None],
-            Some(Rule::Support),
-        ),
-        (
-            [Some(2), None, None, None, None, Some(1), None],
-            Some(Rule::Support),
-        ),
-        (
-            [None, None, Some(1), Some(2), None, None, None],
-            Some(Rule::TwentyOnForty),
-        ),
-        (
-            [None, None, Some(1), None, None, Some(0), None],
-            Some(Rule::NoPlug),
-        ),
-        (
-            [None, None, Some(0), None, None, Some(1), None],
-            Some(Rule::StackWeight),
-        ),
-        (
-            [Some(2), Some(3), None, None, None, None, None],
-            Some(Rule::Separation(0)),
-        ),
-    ] {
-        assert_eq!(rt; first_broken(rt.alloc(), &entries)?, broken);
-    }
+    let alloc = rt.alloc();
+    support(&rt, alloc)?;
+    lengths_and_plugs(&rt, alloc)?;
+    weight_and_separation(&rt, alloc)?;
     Ok(())
 }
 
@@ -296,35 +305,64 @@ fn run_second(alloc: Global, moves: &[Move]) -> Result<Result<u64, usize>, NoMem
     Ok(run(&mut state, &ship, &cargo, CallNo(2), moves))
 }
 
+/// What two moves answer at call 2 behind the lift from the cover and its opening.
+fn expect_moves(
+    rt: &impl Abort,
+    alloc: Global,
+    third: Move,
+    fourth: Move,
+    want: Result<u64, usize>,
+) -> Result<(), NoMemory> {
+    let moves = [Move::Lift(ON_DECK), Move::OffCover(COVER), third, fourth];
+    assert_eq!(rt; run_second(alloc, &moves)?, want);
+    Ok(())
+}
+
+const CLOSE: Move = Move::OnCover(COVER);
+
+fn third_moves(rt: &impl Abort, alloc: Global) -> Result<(), NoMemory> {
+    expect_moves(rt, alloc, Move::OffCover(COVER), CLOSE, Err(2))?;
+    expect_moves(rt, alloc, Move::Lift(PlaceNo(0)), CLOSE, Err(2))
+}
+
+fn containers_put(rt: &impl Abort, alloc: Global) -> Result<(), NoMemory> {
+    expect_moves(
+        rt,
+        alloc,
+        Move::Put(ContainerNo(0), PlaceNo(5)),
+        CLOSE,
+        Err(2),
+    )?;
+    expect_moves(rt, alloc, Move::Put(PLAIN, ON_DECK), CLOSE, Err(2))?;
+    expect_moves(rt, alloc, Move::Put(PLAIN, PlaceNo(2)), CLOSE, Err(2))
+}
+
+fn twenties_put(rt: &impl Abort, alloc: Global) -> Result<(), NoMemory> {
+    expect_moves(rt, alloc, Move::Put(TWENTY, PlaceNo(3)), CLOSE, Err(2))?;
+    expect_moves(rt, alloc, Move::Put(TWENTY, PlaceNo(5)), CLOSE, Err(2))
+}
+
+fn fourth_moves(rt: &impl Abort, alloc: Global) -> Result<(), NoMemory> {
+    let lift = Move::Lift(PlaceNo(2));
+    expect_moves(rt, alloc, lift, Move::Put(TWENTY, PlaceNo(0)), Ok(1))?;
+    expect_moves(rt, alloc, lift, Move::Put(TWENTY, PlaceNo(3)), Err(3))?;
+    expect_moves(rt, alloc, Move::Put(PLAIN, PlaceNo(5)), lift, Err(3))
+}
+
+fn moves_behind_a_closed_cover(rt: &impl Abort, alloc: Global) -> Result<(), NoMemory> {
+    expect_moves(rt, alloc, CLOSE, CLOSE, Err(3))?;
+    expect_moves(rt, alloc, CLOSE, Move::Lift(PlaceNo(2)), Err(3))
+}
+
 #[test]
 fn moves_at_the_second_call(rt: HostRuntime) -> Result<(), Fail> {
-    let lift = Move::Lift(ON_DECK);
-    let open = Move::OffCover(COVER);
-    for (third, fourth, want) in [
-        (Move::Lift(PlaceNo(2)), Move::Put(TWENTY, PlaceNo(0)), Ok(1)),
-        (Move::OffCover(COVER), Move::Lift(PlaceNo(2)), Err(2)),
-        (Move::Lift(PlaceNo(0)), Move::OnCover(COVER), Err(2)),
-        (
-            Move::Put(ContainerNo(0), PlaceNo(5)),
-            Move::OnCover(COVER),
-            Err(2),
-        ),
-        (Move::Put(PLAIN, ON_DECK), Move::OnCover(COVER), Err(2)),
-        (Move::Put(TWENTY, PlaceNo(3)), Move::OnCover(COVER), Err(2)),
-        (Move::Put(TWENTY, PlaceNo(5)), Move::OnCover(COVER), Err(2)),
-        (Move::Put(PLAIN, PlaceNo(2)), Move::OnCover(COVER), Err(2)),
-        (Move::Put(PLAIN, PlaceNo(5)), Move::Lift(PlaceNo(2)), Err(3)),
-        (
-            Move::Lift(PlaceNo(2)),
-            Move::Put(TWENTY, PlaceNo(3)),
-            Err(3),
-        ),
-        (Move::OnCover(COVER), Move::OnCover(COVER), Err(3)),
-        (Move::OnCover(COVER), Move::Lift(PlaceNo(2)), Err(3)),
-    ] {
-        assert_eq!(rt; run_second(rt.alloc(), &[lift, open, third, fourth])?, want);
-    }
-    assert_eq!(rt; run_second(rt.alloc(), &[open])?, Err(0));
+    let alloc = rt.alloc();
+    assert_eq!(rt; run_second(alloc, &[Move::OffCover(COVER)])?, Err(0));
+    third_moves(&rt, alloc)?;
+    containers_put(&rt, alloc)?;
+    twenties_put(&rt, alloc)?;
+    fourth_moves(&rt, alloc)?;
+    moves_behind_a_closed_cover(&rt, alloc)?;
     Ok(())
 }
 
