@@ -1,5 +1,5 @@
 -- What the reader finds from a place on. No public clause cites this module.
-use Rattle.std.specs.Prelude.{ℕ, Bool, true, false, ◌&&◌, ◌==◌, not, List, [], ◌∷◌, if◌then◌else◌}
+use Rattle.std.specs.Prelude.{◌≡◌, ◌<◌, ℕ, Bool, slice_index_or, true, false, ◌&&◌, ◌==◌, not, List, [], ◌∷◌, if◌then◌else◌}
 use Rattle.edifact_segments.specs.Characters.{Character, Plain, Released, is_control, is_release}
 use Rattle.edifact_segments.specs.Grammar.{is_gap_byte}
 use Rattle.edifact_segments.specs.declared.service.Service.{Service}
@@ -13,6 +13,10 @@ skip (b ∷ bs) = if is_gap_byte b then skip bs else b ∷ bs
 abbrev pub is_ordinary : Service → ℕ → Bool
 is_ordinary s b =
     not (is_control b) && not (is_release s b) && not (b == s.terminator) && not (b == s.element) && not (b == s.component)
+
+-- which bytes are ordinary, in the order of the bytes
+abbrev pub IsTable : Service → List Bool → Type 0
+IsTable s table = (b : ℕ) → b < 256 → slice_index_or table b false ≡ is_ordinary s b
 
 -- what the text of a segment comes to: its terminator, a control byte or the end
 pub data Front : Type 0 where

@@ -6,14 +6,14 @@ ghost use Rattle.edifact_segments.specs.Grammar.{HasFault, HasUna, IsHeaded, IsI
 ghost use Rattle.edifact_segments.specs.ReadBack.{AreWritable, IsWritable};
 ghost use Rattle.edifact_segments.specs.Written.{written};
 ghost use Rattle.std.specs.List.{flat_map, list_all};
-ghost use Rattle.edifact_segments.specs.Scanning.{is_ordinary, skip};
+ghost use Rattle.edifact_segments.specs.Scanning.{IsTable, is_ordinary, skip};
 ghost use Rattle.edifact_segments.specs.declared.faults.SegFault.{SegFault};
 ghost use Rattle.edifact_segments.specs.declared.segments.Segment.{Segment};
 
 use crate::draft::Draft;
 use crate::faults::SegFault;
 use crate::segments::{Segment, SegmentList};
-use crate::service::{Service, default_characters, is_control_byte, is_line_end};
+use crate::service::{Scanner, Service, default_characters, is_control_byte, is_line_end};
 use std::alloc::Global;
 use stow_data::NoMemory;
 
@@ -24,13 +24,13 @@ pub fn read_interchange(alloc: Global, bytes: &[u8]) -> Result<SegmentList, SegF
     ensures read { IfOk result (λ segments. IsInterchange bytes.now segments) }
     ensures fault { IfErr result (λ e. (e ≡ SegFault.NoMemory) ⊎ HasFault bytes.now e) }
 {
-    let (service, start) = read_advice(bytes)?;
+    let (scanner, start) = read_advice(bytes)?;
     let mut segments = SegmentList::new(alloc);
     let mut draft = Draft::new(alloc);
     let mut at = skip_gap(bytes, start);
     while at < bytes.len() {
         let number = segments.len() as u32 + 1;
-        let (segment, next) = next_segment(alloc, &mut draft, &service, bytes, at, number)?;
+        let (segment, next) = next_segment(alloc, &mut draft, &scanner, bytes, at, number)?;
         if !is_headed(&segments, &segment) {
             return Err(SegFault::NoHeader);
         }
@@ -69,13 +69,14 @@ fn is_trailer(segment: &Segment) -> bool
 }
 
 /// The service characters, and where the text begins.
-fn read_advice(bytes: &[u8]) -> Result<(Service, usize), SegFault>
-    ensures starts { IfOk result (λ x. Starts bytes.now x.0 (drop x.1 bytes.now)) }
+fn read_advice(bytes: &[u8]) -> Result<(Scanner, usize), SegFault>
+    ensures starts { IfOk result (λ x. Starts bytes.now x.0.service (drop x.1 bytes.now)) }
+    ensures table { IfOk result (λ x. IsTable x.0.service x.0.ordinary) }
     ensures within { IfOk result (λ x. x.1 ≤ length bytes.now) }
     ensures fault { IfErr result (λ e. HasFault bytes.now e) }
 {
     if !has_una(bytes) {
-        return Ok((default_characters(), 0));
+        return Ok((Scanner::of(default_characters()), 0));
     }
     if bytes.len() < 9 {
         return Err(SegFault::BadUna);
@@ -89,7 +90,7 @@ fn read_advice(bytes: &[u8]) -> Result<(Service, usize), SegFault>
     if !service.serves() {
         return Err(SegFault::BadUna);
     }
-    Ok((service, 9))
+    Ok((Scanner::of(service), 9))
 }
 
 /// Whether the bytes begin with UNA.
@@ -104,16 +105,17 @@ fn has_una(bytes: &[u8]) -> bool
 fn next_segment(
     alloc: Global,
     draft: &mut Draft,
-    service: &Service,
+    scanner: &Scanner,
     bytes: &[u8],
     from: usize,
     number: u32,
 ) -> Result<(Segment, usize), SegFault>
+    requires table { IsTable scanner.now.service scanner.now.ordinary }
     requires within { from ≤ length bytes.now }
     requires small { length bytes.now ≤ 2 ^ 29 }
-    ensures { Finds service.now bytes.now from number result }
+    ensures { Finds scanner.now.service bytes.now from number result }
 {
-    let next = read_segment(draft, service, bytes, from)?;
+    let next = read_segment(draft, scanner, bytes, from)?;
     let tag = match draft.tag {
         Some(tag) => tag,
         None => return Err(SegFault::BadTag { segment: number }),
@@ -137,15 +139,16 @@ fn skip_gap(bytes: &[u8], from: usize) -> usize
 }
 
 /// Where the ordinary bytes from a place on end: at the first that is none, or with the text.
-fn run_end(service: &Service, bytes: &[u8], from: usize) -> usize
-    requires { from ≤ length bytes.now }
+fn run_end(scanner: &Scanner, bytes: &[u8], from: usize) -> usize
+    requires table { IsTable scanner.now.service scanner.now.ordinary }
+    requires within { from ≤ length bytes.now }
     ensures least { from ≤ result }
     ensures within { result ≤ length bytes.now }
-    ensures run { list_all (is_ordinary service.now) (slice_range bytes.now from result) ≡ true }
-    ensures ends { result < length bytes.now → is_ordinary service.now (slice_index bytes.now result) ≡ false }
+    ensures run { list_all (is_ordinary scanner.now.service) (slice_range bytes.now from result) ≡ true }
+    ensures ends { result < length bytes.now → is_ordinary scanner.now.service (slice_index bytes.now result) ≡ false }
 {
     let mut at = from;
-    while at < bytes.len() && service.is_ordinary(bytes[at]) {
+    while at < bytes.len() && scanner.ordinary[bytes[at] as usize] {
         at += 1;
     }
     at
@@ -154,18 +157,20 @@ fn run_end(service: &Service, bytes: &[u8], from: usize) -> usize
 /// Reads the segment that begins at a place into the draft: the place behind its terminator.
 fn read_segment(
     draft: &mut Draft,
-    service: &Service,
+    scanner: &Scanner,
     bytes: &[u8],
     from: usize,
 ) -> Result<usize, SegFault>
+    requires table { IsTable scanner.now.service scanner.now.ordinary }
     requires within { from ≤ length bytes.now }
     requires small { length bytes.now ≤ 2 ^ 29 }
-    ensures { Reads service.now bytes.now from draft.new result }
+    ensures { Reads scanner.now.service bytes.now from draft.new result }
 {
+    let service = &scanner.service;
     draft.clear();
     let mut at = from;
     while at < bytes.len() {
-        let end = run_end(service, bytes, at);
+        let end = run_end(scanner, bytes, at);
         if end == bytes.len() {
             return Err(SegFault::Unterminated { at: from as u64 });
         }

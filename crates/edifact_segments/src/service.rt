@@ -1,7 +1,7 @@
 //! Service characters.
 ghost use Rattle.std.specs.Prelude.{◌≡◌, ◌↔◌, IsTrue};
 ghost use Rattle.edifact_segments.specs.Characters.{is_control, is_release, default_service};
-ghost use Rattle.edifact_segments.specs.Scanning.{is_ordinary};
+ghost use Rattle.edifact_segments.specs.Scanning.{IsTable, is_ordinary};
 ghost use Rattle.edifact_segments.specs.Grammar.{IsService, are_apart, are_marks, is_gap_byte, is_mark};
 
 /// The service characters of an interchange that separate (ISO 9735).
@@ -75,6 +75,36 @@ impl Service {
             && self.element != self.terminator
             && self.release != self.terminator
     }
+}
+
+/// Service characters, and for each byte whether it stands as it is, so that a byte takes one look-up.
+#[derive(Drop)]
+pub(crate) struct Scanner {
+    pub service: Service,
+    pub ordinary: [bool; 256],
+}
+
+impl Scanner {
+    pub(crate) fn of(service: Service) -> Scanner
+        ensures service { result.service ≡ service }
+        ensures table { IsTable service result.ordinary }
+    {
+        Scanner {
+            service,
+            ordinary: table_of(&service),
+        }
+    }
+}
+
+/// For each byte, whether it stands as it is.
+fn table_of(service: &Service) -> [bool; 256]
+    ensures { IsTable service.now result }
+{
+    let mut table = [false; 256];
+    for byte in 0..256 {
+        table[byte] = service.is_ordinary(byte as u8);
+    }
+    table
 }
 
 /// A byte that no segment has.

@@ -5,45 +5,45 @@ use Rattle.edifact_segments.proofs.reading.read_interchange.Goals as goal
 
 pub loop-at-init : goal.loop-at-init
 loop-at-init c =
-    let text = drop c.in_ok-service.start c.args.bytes.now in
+    let text = drop c.in_ok-scanner.start c.args.bytes.now in
     let rest = drop c.skip_gap-at.result c.args.bytes.now in
     record {
       within = c.skip_gap-at.ensures.within;
       few = few-none c.new-segments.result c.skip_gap-at.result c.new-segments.ensures;
       headed = headed-none c.new-segments.result c.new-segments.ensures;
       settled = settle text rest c.skip_gap-at.ensures.skipped;
-      begun = begin c.in_ok-service.service text rest c.new-segments.result c.new-segments.ensures c.skip_gap-at.ensures.skipped;
+      begun = begin c.in_ok-scanner.scanner.service text rest c.new-segments.result c.new-segments.ensures c.skip_gap-at.ensures.skipped;
     }
 
 pub returns-in_err-segment-clause-fault : goal.returns-in_err-segment-clause-fault
 returns-in_err-segment-clause-fault c =
     let i = c.loop-at.invariant in
     let p = err_from_is_err_and c.from_residual-in_err-segment.result c.from_residual-in_err-segment.ensures.1 in
-    rw (p.1, p.2) (fault_of c.args.bytes.now c.in_ok-service.service c.in_ok-service.start c.loop-at.at c.loop-at.segments i.begun.0 c.in_ok-service.ensures.starts i.begun.1 i.begun.2 i.headed i.settled c.loop-at-test.true (c.len.result + 1) c.in_err-segment.field-0.0 c.in_err-segment.ensures (ap (λ n. n + 1) c.len.ensures))
+    rw (p.1, p.2) (fault_of c.args.bytes.now c.in_ok-scanner.scanner.service c.in_ok-scanner.start c.loop-at.at c.loop-at.segments i.begun.0 c.in_ok-scanner.ensures.starts i.begun.1 i.begun.2 i.headed i.settled c.loop-at-test.true (c.len.result + 1) c.in_err-segment.field-0.0 c.in_err-segment.ensures (ap (λ n. n + 1) c.len.ensures))
 
 pub returns-then-not-is_headed-clause-fault : goal.returns-then-not-is_headed-clause-fault
 returns-then-not-is_headed-clause-fault c =
     let i = c.loop-at.invariant in
     let no = c.if-not-is_headed.ensures.no refl in
-    inr (no_header c.args.bytes.now c.in_ok-service.service c.in_ok-service.start c.loop-at.at c.loop-at.segments i.begun.0 c.in_ok-service.ensures.starts i.begun.1 i.begun.2 i.headed i.settled c.loop-at-test.true (c.len.result + 1) c.in_ok-segment.segment c.in_ok-segment.next c.in_ok-segment.ensures no.0 no.1)
+    inr (no_header c.args.bytes.now c.in_ok-scanner.scanner.service c.in_ok-scanner.start c.loop-at.at c.loop-at.segments i.begun.0 c.in_ok-scanner.ensures.starts i.begun.1 i.begun.2 i.headed i.settled c.loop-at-test.true (c.len.result + 1) c.in_ok-segment.segment c.in_ok-segment.next c.in_ok-segment.ensures no.0 no.1)
 
 pub returns-then-at-bytes-clause-fault : goal.returns-then-at-bytes-clause-fault
 returns-then-at-bytes-clause-fault c =
     let i = c.loop-at.invariant in
-    inr (trailing c.args.bytes.now c.in_ok-service.service c.in_ok-service.start c.loop-at.at c.loop-at.segments i.begun.0 c.in_ok-service.ensures.starts i.begun.1 i.begun.2 i.headed i.settled c.loop-at-test.true (c.len.result + 1) c.in_ok-segment.segment c.in_ok-segment.next c.in_ok-segment.ensures (c.if-not-is_headed.ensures.yes refl) c.skip_gap-at-in-loop-at.result c.skip_gap-at-in-loop-at.ensures.skipped (c.if-closes.ensures.yes refl) c.if-at-bytes.true)
+    inr (trailing c.args.bytes.now c.in_ok-scanner.scanner.service c.in_ok-scanner.start c.loop-at.at c.loop-at.segments i.begun.0 c.in_ok-scanner.ensures.starts i.begun.1 i.begun.2 i.headed i.settled c.loop-at-test.true (c.len.result + 1) c.in_ok-segment.segment c.in_ok-segment.next c.in_ok-segment.ensures (c.if-not-is_headed.ensures.yes refl) c.skip_gap-at-in-loop-at.result c.skip_gap-at-in-loop-at.ensures.skipped (c.if-closes.ensures.yes refl) c.if-at-bytes.true)
 
 pub returns-then-closes-clause-read : goal.returns-then-closes-clause-read
 returns-then-closes-clause-read c =
     let i = c.loop-at.invariant in
-    is_interchange c.args.bytes.now c.in_ok-service.service c.in_ok-service.start c.loop-at.at c.loop-at.segments i.begun.0 c.in_ok-service.ensures.starts i.begun.1 i.begun.2 i.headed i.settled c.loop-at-test.true (c.len.result + 1) c.in_ok-segment.segment c.in_ok-segment.next c.in_ok-segment.ensures (c.if-not-is_headed.ensures.yes refl) c.skip_gap-at-in-loop-at.result c.skip_gap-at-in-loop-at.ensures.skipped c.push.new.self c.in_ok-push.ensures (c.if-closes.ensures.yes refl) c.if-at-bytes.false
+    is_interchange c.args.bytes.now c.in_ok-scanner.scanner.service c.in_ok-scanner.start c.loop-at.at c.loop-at.segments i.begun.0 c.in_ok-scanner.ensures.starts i.begun.1 i.begun.2 i.headed i.settled c.loop-at-test.true (c.len.result + 1) c.in_ok-segment.segment c.in_ok-segment.next c.in_ok-segment.ensures (c.if-not-is_headed.ensures.yes refl) c.skip_gap-at-in-loop-at.result c.skip_gap-at-in-loop-at.ensures.skipped c.push.new.self c.in_ok-push.ensures (c.if-closes.ensures.yes refl) c.if-at-bytes.false
 
 pub loop-at-preserved : goal.loop-at-preserved
 loop-at-preserved c =
     let i = c.loop-at.invariant in
     record {
       within = c.skip_gap-at-in-loop-at.ensures.within;
-      few = few-more c.args.bytes.now c.in_ok-service.service c.in_ok-service.start c.loop-at.at c.loop-at.segments i.begun.0 c.in_ok-service.ensures.starts i.begun.1 i.begun.2 i.headed i.settled c.loop-at-test.true (c.len.result + 1) c.in_ok-segment.segment c.in_ok-segment.next c.in_ok-segment.ensures (c.if-not-is_headed.ensures.yes refl) c.skip_gap-at-in-loop-at.result c.skip_gap-at-in-loop-at.ensures.skipped c.push.new.self c.in_ok-push.ensures i.few c.skip_gap-at-in-loop-at.ensures.least;
-      headed = headed-more c.args.bytes.now c.in_ok-service.service c.in_ok-service.start c.loop-at.at c.loop-at.segments i.begun.0 c.in_ok-service.ensures.starts i.begun.1 i.begun.2 i.headed i.settled c.loop-at-test.true (c.len.result + 1) c.in_ok-segment.segment c.in_ok-segment.next c.in_ok-segment.ensures (c.if-not-is_headed.ensures.yes refl) c.skip_gap-at-in-loop-at.result c.skip_gap-at-in-loop-at.ensures.skipped c.push.new.self c.in_ok-push.ensures;
+      few = few-more c.args.bytes.now c.in_ok-scanner.scanner.service c.in_ok-scanner.start c.loop-at.at c.loop-at.segments i.begun.0 c.in_ok-scanner.ensures.starts i.begun.1 i.begun.2 i.headed i.settled c.loop-at-test.true (c.len.result + 1) c.in_ok-segment.segment c.in_ok-segment.next c.in_ok-segment.ensures (c.if-not-is_headed.ensures.yes refl) c.skip_gap-at-in-loop-at.result c.skip_gap-at-in-loop-at.ensures.skipped c.push.new.self c.in_ok-push.ensures i.few c.skip_gap-at-in-loop-at.ensures.least;
+      headed = headed-more c.args.bytes.now c.in_ok-scanner.scanner.service c.in_ok-scanner.start c.loop-at.at c.loop-at.segments i.begun.0 c.in_ok-scanner.ensures.starts i.begun.1 i.begun.2 i.headed i.settled c.loop-at-test.true (c.len.result + 1) c.in_ok-segment.segment c.in_ok-segment.next c.in_ok-segment.ensures (c.if-not-is_headed.ensures.yes refl) c.skip_gap-at-in-loop-at.result c.skip_gap-at-in-loop-at.ensures.skipped c.push.new.self c.in_ok-push.ensures;
       settled = settle (drop c.in_ok-segment.next c.args.bytes.now) (drop c.skip_gap-at-in-loop-at.result c.args.bytes.now) c.skip_gap-at-in-loop-at.ensures.skipped;
-      begun = begun-more c.args.bytes.now c.in_ok-service.service c.in_ok-service.start c.loop-at.at c.loop-at.segments i.begun.0 c.in_ok-service.ensures.starts i.begun.1 i.begun.2 i.headed i.settled c.loop-at-test.true (c.len.result + 1) c.in_ok-segment.segment c.in_ok-segment.next c.in_ok-segment.ensures (c.if-not-is_headed.ensures.yes refl) c.skip_gap-at-in-loop-at.result c.skip_gap-at-in-loop-at.ensures.skipped c.push.new.self c.in_ok-push.ensures (c.if-closes.ensures.no refl);
+      begun = begun-more c.args.bytes.now c.in_ok-scanner.scanner.service c.in_ok-scanner.start c.loop-at.at c.loop-at.segments i.begun.0 c.in_ok-scanner.ensures.starts i.begun.1 i.begun.2 i.headed i.settled c.loop-at-test.true (c.len.result + 1) c.in_ok-segment.segment c.in_ok-segment.next c.in_ok-segment.ensures (c.if-not-is_headed.ensures.yes refl) c.skip_gap-at-in-loop-at.result c.skip_gap-at-in-loop-at.ensures.skipped c.push.new.self c.in_ok-push.ensures (c.if-closes.ensures.no refl);
     }

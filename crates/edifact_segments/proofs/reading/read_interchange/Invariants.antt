@@ -9,7 +9,7 @@ invariant-loop-at l = record {
   few : length l.segments ≤ l.at;
   headed : IsHeaded l.segments;
   settled : skip (drop l.at l.bytes) ≡ drop l.at l.bytes;
-  begun : (gap : List ℕ) × Begins l.service (drop l.start l.bytes) l.segments (gap ++ drop l.at l.bytes) × IsGap gap;
+  begun : (gap : List ℕ) × Begins l.scanner.service (drop l.start l.bytes) l.segments (gap ++ drop l.at l.bytes) × IsGap gap;
 }
 
 abbrev pub decreases-loop-at : goal.decreases-loop-at

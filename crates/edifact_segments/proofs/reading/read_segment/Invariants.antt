@@ -11,7 +11,7 @@ invariant-loop-at l = record {
   within : l.at ≤ length l.bytes;
   element : l.draft.element ≤ l.at;
   component : l.draft.component ≤ l.at;
-  read : (cs : List Character) × Drafts l.service l.draft cs × (with_characters cs (front l.service false (drop l.at l.bytes)) ≡ front l.service false (drop l.from l.bytes));
+  read : (cs : List Character) × Drafts l.scanner.service l.draft cs × (with_characters cs (front l.scanner.service false (drop l.at l.bytes)) ≡ front l.scanner.service false (drop l.from l.bytes));
 }
 
 abbrev pub decreases-loop-at : goal.decreases-loop-at

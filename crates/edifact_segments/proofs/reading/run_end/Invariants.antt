@@ -7,7 +7,7 @@ abbrev pub invariant-loop-at : goal.invariant-loop-at
 invariant-loop-at l = record {
   least : l.from ≤ l.at;
   within : l.at ≤ length l.bytes;
-  run : list_all (is_ordinary l.service) (slice_range l.bytes l.from l.at) ≡ true;
+  run : list_all (is_ordinary l.scanner.service) (slice_range l.bytes l.from l.at) ≡ true;
 }
 
 abbrev pub decreases-loop-at : goal.decreases-loop-at
