@@ -320,6 +320,8 @@ fn expect_moves(
 
 const CLOSE: Move = Move::OnCover(COVER);
 
+const LIFT: Move = Move::Lift(PlaceNo(2));
+
 fn third_moves(rt: &impl Abort, alloc: Global) -> Result<(), NoMemory> {
     expect_moves(rt, alloc, Move::OffCover(COVER), CLOSE, Err(2))?;
     expect_moves(rt, alloc, Move::Lift(PlaceNo(0)), CLOSE, Err(2))
@@ -343,15 +345,14 @@ fn twenties_put(rt: &impl Abort, alloc: Global) -> Result<(), NoMemory> {
 }
 
 fn fourth_moves(rt: &impl Abort, alloc: Global) -> Result<(), NoMemory> {
-    let lift = Move::Lift(PlaceNo(2));
-    expect_moves(rt, alloc, lift, Move::Put(TWENTY, PlaceNo(0)), Ok(1))?;
-    expect_moves(rt, alloc, lift, Move::Put(TWENTY, PlaceNo(3)), Err(3))?;
-    expect_moves(rt, alloc, Move::Put(PLAIN, PlaceNo(5)), lift, Err(3))
+    expect_moves(rt, alloc, LIFT, Move::Put(TWENTY, PlaceNo(0)), Ok(1))?;
+    expect_moves(rt, alloc, LIFT, Move::Put(TWENTY, PlaceNo(3)), Err(3))?;
+    expect_moves(rt, alloc, Move::Put(PLAIN, PlaceNo(5)), LIFT, Err(3))
 }
 
 fn moves_behind_a_closed_cover(rt: &impl Abort, alloc: Global) -> Result<(), NoMemory> {
     expect_moves(rt, alloc, CLOSE, CLOSE, Err(3))?;
-    expect_moves(rt, alloc, CLOSE, Move::Lift(PlaceNo(2)), Err(3))
+    expect_moves(rt, alloc, CLOSE, LIFT, Err(3))
 }
 
 #[test]
