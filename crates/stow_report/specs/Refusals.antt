@@ -11,6 +11,10 @@ use Rattle.stow_report.specs.declared.lines.Line.{Line}
 abbrev pub numbered : Bool → Group → ℕ → List ℤ → Line
 numbered checked group n numbers = record { checked = checked; group = group; number = n; fields = map (λ z. Number z) numbers }
 
+-- a line whose fields are a name and then numbers
+abbrev pub keyed : Bool → Group → ℕ → List ℕ → List ℤ → Line
+keyed checked group n key numbers = record { checked = checked; group = group; number = n; fields = Named key ∷ map (λ z. Number z) numbers }
+
 abbrev pub group_word : Group → List ℕ
 group_word Words = codes "words"
 group_word Profile = codes "profile"

@@ -2,13 +2,15 @@
 #![tactic(auto)]
 
 mod faults;
+mod inputs;
 mod law;
 mod lines;
 mod listings;
 
 pub use faults::{interchange_line, message_line};
+pub use inputs::{booking_line, limit_line, profile_line};
 pub use law::read_is_listable;
-pub use lines::{Field, FieldList, Group, Line, numbered, refusal};
+pub use lines::{Field, FieldList, Group, Line, keyed, numbered, refusal};
 pub use listings::listing;
 
 #[cfg(test)]

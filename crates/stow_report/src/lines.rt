@@ -1,7 +1,8 @@
 //! Lines of what is refused.
-ghost use Rattle.std.specs.Prelude.{◌≡◌, ◌∷◌, ◌++◌, flat_map, IfOk, OnOk};
+ghost use Rattle.std.specs.Prelude.{◌≡◌, ◌∷◌, ◌++◌, map, flat_map, IfOk, OnOk};
 ghost use Rattle.std.specs.Fmt.{decimal};
-ghost use Rattle.stow_report.specs.Refusals.{numbered, group_word, field_text, refusal_text};
+ghost use Rattle.stow_report.specs.declared.lines.Field.TheVariants.{Number};
+ghost use Rattle.stow_report.specs.Refusals.{numbered, keyed, group_word, field_text, refusal_text};
 
 use itoa::Buffer;
 use std::alloc::Global;
@@ -79,15 +80,45 @@ pub fn numbered(
     ensures { IfOk result (λ line. line ≡ numbered checked group number numbers.now) }
 {
     let mut fields = FieldList::new(alloc);
-    for n in numbers {
-        fields.push(Field::Number(*n))?;
-    }
+    push_numbers(&mut fields, numbers)?;
     Ok(Line {
         checked,
         group,
         number,
         fields,
     })
+}
+
+/// A line whose fields are a name and then numbers.
+pub fn keyed(
+    alloc: Global,
+    checked: bool,
+    group: Group,
+    number: u32,
+    key: Name,
+    numbers: &[i128],
+) -> Result<Line, NoMemory>
+    ensures { IfOk result (λ line. line ≡ keyed checked group number key numbers.now) }
+{
+    let mut fields = FieldList::new(alloc);
+    fields.push(Field::Named(key))?;
+    push_numbers(&mut fields, numbers)?;
+    Ok(Line {
+        checked,
+        group,
+        number,
+        fields,
+    })
+}
+
+/// Appends numbers as fields.
+fn push_numbers(fields: &mut FieldList, numbers: &[i128]) -> Result<(), NoMemory>
+    ensures { OnOk result (fields.new ≡ fields.old ++ map (λ z. Number z) numbers.now) }
+{
+    for number in numbers {
+        fields.push(Field::Number(*number))?;
+    }
+    Ok(())
 }
 
 /// The text of a line, with its line feed: `refused`, or `check no` in a check, then the group, the

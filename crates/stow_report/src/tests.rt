@@ -1,10 +1,15 @@
 //! Texts as they are printed.
-use crate::{Field, FieldList, Group, Line, interchange_line, listing, message_line, refusal};
+use crate::{
+    Field, FieldList, Group, Line, booking_line, interchange_line, listing, message_line,
+    profile_line, refusal,
+};
 use baplie_model::{Cause, CellGroup, Facts};
+use bookings::{BookingFault, BookingKey};
 use edifact_segments::{SegFault, SegmentList};
+use ship_profile::{ProfileFault, ProfileKey};
 use std::alloc::Global;
 use std::test::Fail;
-use stow_data::{Bytes, Length, Name, NoMemory};
+use stow_data::{Bytes, Length, Limit, Name, NoMemory, StackNo};
 
 /// Faults of an interchange, and their lines.
 const INTERCHANGE: [(SegFault, &[u8]); 7] = [
@@ -51,6 +56,73 @@ fn prints_faults(rt: HostRuntime) -> Result<(), Fail> {
     }
     for (segment, cause, text) in MESSAGE {
         let line = message_line(rt.alloc(), segment, cause)?;
+        assert_eq!(rt; refusal(rt.alloc(), &line)?.as_slice(), text);
+    }
+    Ok(())
+}
+
+/// Refusals of profiles, and their lines.
+const PROFILES: [(ProfileFault, &[u8]); 5] = [
+    (ProfileFault::NotToml, b"refused profile 1\n"),
+    (
+        ProfileFault::BadValue {
+            key: ProfileKey::WeightStep,
+            index: 0,
+        },
+        b"refused profile 3 weight_step 0\n",
+    ),
+    (
+        ProfileFault::DuplicateCell {
+            bay: 3,
+            row: 1,
+            tier: 82,
+        },
+        b"refused profile 5 3 1 82\n",
+    ),
+    (
+        ProfileFault::CoverTwice { stack: StackNo(7) },
+        b"refused profile 7 7\n",
+    ),
+    (
+        ProfileFault::TooLarge {
+            limit: Limit::Places,
+            value: 3_001,
+        },
+        b"refused large 3 3001\n",
+    ),
+];
+
+/// Refusals of bookings, and their lines.
+const BOOKINGS: [(BookingFault, &[u8]); 4] = [
+    (
+        BookingFault::Missing {
+            key: BookingKey::IsoType,
+            index: 12,
+        },
+        b"refused bookings 2 type 12\n",
+    ),
+    (
+        BookingFault::CallOrder { index: 1 },
+        b"refused bookings 4 1\n",
+    ),
+    (
+        BookingFault::TooLarge {
+            limit: Limit::Calls,
+            value: 13,
+        },
+        b"refused large 1 13\n",
+    ),
+    (BookingFault::NoMemory, b"refused bookings 8\n"),
+];
+
+#[test]
+fn prints_refused_inputs(rt: HostRuntime) -> Result<(), Fail> {
+    for (fault, text) in PROFILES {
+        let line = profile_line(rt.alloc(), fault)?;
+        assert_eq!(rt; refusal(rt.alloc(), &line)?.as_slice(), text);
+    }
+    for (fault, text) in BOOKINGS {
+        let line = booking_line(rt.alloc(), fault)?;
         assert_eq!(rt; refusal(rt.alloc(), &line)?.as_slice(), text);
     }
     Ok(())
