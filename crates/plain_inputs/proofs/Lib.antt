@@ -1,5 +1,1 @@
-pub mod Bound
-pub mod Items
-pub mod Stacks
-pub mod Ships
-pub mod Booked
+pub mod CargoLaws

@@ -1,3 +1,1 @@
-pub mod Keys
-pub mod PlainProfile
-pub mod PlainBookings
+pub mod Booked

@@ -1,12 +1,11 @@
-//! The readers of plain profiles and plain bookings (TOML): the ship and the bookings of a text, or none where it isn't plain.
+//! Which voyages are plain, and the cargo that bookings make.
 #![tactic(auto)]
 
-mod bookings_text;
-mod keys;
-mod profile_text;
+mod cargo;
+mod plain;
 
-pub use bookings_text::{Booking, BookingList, Bookings, cargo_of, plain_bookings};
-pub use profile_text::plain_ship;
+pub use cargo::cargo_of;
+pub use plain::{are_plain, is_plain_ship};
 
 #[cfg(test)]
-mod reader_tests;
+mod plain_tests;

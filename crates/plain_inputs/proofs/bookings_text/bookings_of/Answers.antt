@@ -1,7 +1,0 @@
-use Rattle.std.proofs.Common.{arith}
-use Rattle.toml.specs.View.{table_view}
-use Rattle.plain_inputs.proofs.Booked.{rotation_is}
-use Rattle.plain_inputs.proofs.bookings_text.bookings_of.Goals as goal
-
-pub overflow_cast-calls : goal.overflow_cast-calls
-overflow_cast-calls c = let r = rotation_is (table_view c.args.top.now) c.in_ok-rotation.rotation c.in_ok-rotation.ensures in omega (arith, r.calls_to, c.len-calls.ensures)

@@ -1,6 +1,0 @@
-use Rattle.std.proofs.Common.{◌≡◌, drop}
-use Rattle.plain_inputs.specs.PlainProfile.{rises_from}
-use Rattle.plain_inputs.proofs.profile_text.rises_from.Given as goal
-
-abbrev pub invariant-loop-tier : goal.invariant-loop-tier
-invariant-loop-tier l = rises_from l.next (drop l.tier-index l.tiers) ≡ rises_from l.lowest l.tiers
