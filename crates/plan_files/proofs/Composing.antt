@@ -2,20 +2,24 @@
 use Rattle.std.proofs.Common.{◌≡◌, ℕ, ◌+◌, ◌<◌, List, [], ◌∷◌, ◌++◌, length, get_or, take, map, sym, ◌∙◌, ap, arith}
 use Rattle.std.specs.Prelude.{flat_map}
 use Rattle.std.specs.List.{range_with_len}
-use Rattle.std.proofs.lemmas.List.{map_more, append-nil}
+use Rattle.std.proofs.lemmas.List.{map_more, append-nil, append_assoc}
 use Rattle.std.proofs.lemmas.List.Concat.{flat_map-append}
 use Rattle.edifact_segments.specs.Pieces.{on_last}
 use Rattle.edifact_segments.proofs.PieceLemmas.{on_last-push}
 use Rattle.stow_data.specs.Ship.{Ship}
 use Rattle.stow_data.specs.Shipment.{Cargo}
 use Rattle.stow_data.proofs.Members.{range-more as range-more-one}
-use Rattle.plain_inputs.specs.declared.bookings_text.Bookings.{Bookings}
+use Rattle.bookings.specs.declared.shipment.Bookings.{Bookings}
 use Rattle.greedy_loader.specs.Loader.{Stowage, held}
 use Rattle.plan_files.specs.DepartureFile.{Group, group_at}
 
 pub compose_more : {B : Type 0} (f : B → List ℕ) (xs : List B) (i : ℕ) (d : B) (front list new : List (List (List ℕ))) → i < length xs → list ≡ front ++ map f (take i xs) ∷ [] → new ≡ on_last (λ e. e ++ f (get_or xs i d) ∷ []) list → new ≡ front ++ map f (take (i + 1) xs) ∷ []
 compose_more f xs i d front list new l e m =
     m ∙ ap (on_last (λ e. e ++ f (get_or xs i d) ∷ [])) e ∙ on_last-push (λ e. e ++ f (get_or xs i d) ∷ []) front (map f (take i xs)) ∙ ap (λ z. front ++ z ∷ []) (sym (map_more f xs i d l))
+
+-- an item behind a list, in front of others
+pub pushed : {X : Type 0} (x : X) (list new more : List X) → new ≡ list ++ x ∷ [] → new ++ more ≡ list ++ x ∷ more
+pushed x list new more e = ap (λ z. z ++ more) e ∙ append_assoc list (x ∷ []) more
 
 -- the groups of the places below a number
 abbrev pub groups_below : Ship → Cargo → Bookings → Stowage → ℕ → List Group

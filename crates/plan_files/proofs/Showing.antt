@@ -14,7 +14,7 @@ use Rattle.stow_data.proofs.Listed.{place_from}
 use Rattle.voyage_specs.specs.Plan.{Holds, Fills}
 use Rattle.voyage_specs.specs.Departure.{IsStowed, AreDepartures}
 use Rattle.voyage_specs.specs.Shown.{CellGroup, Says, SomeSays, IsAboardGroup, SharesHalf, Shows, ShowAll, IsLegalFileSet}
-use Rattle.plain_inputs.specs.declared.bookings_text.Bookings.{Bookings}
+use Rattle.bookings.specs.declared.shipment.Bookings.{Bookings}
 use Rattle.greedy_loader.specs.Loader.{Stowage, place_at, container_at, held, place_numbers, no_place, no_container}
 use Rattle.plan_files.specs.DepartureFile.{Group, group_of, group_at, groups, cells, number_at, no_stack, port_of}
 use Rattle.greedy_loader.proofs.Choosing.{held_is}

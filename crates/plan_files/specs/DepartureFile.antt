@@ -1,9 +1,10 @@
 -- The departure file of a call: its segments and its text (ISO 9735, SMDG BAPLIE 2.2).
-use Rattle.std.specs.Prelude.{◌≡◌, ◌<◌, slice_get, ℕ, ◌+◌, ◌-◌, ◌/◌, ◌%◌, codes, List, [], ◌∷◌, ◌++◌, length, map, flat_map, take, drop, Option, Some, None, slice_index_or}
-use Rattle.std.specs.Fmt.{decimal}
+use Rattle.std.specs.Prelude.{◌≡◌, ◌<◌, slice_get, ℕ, ◌+◌, ◌-◌, ◌/◌, ◌%◌, ℤ, Bool, false, ◌==◌, if◌then◌else◌, codes, List, [], ◌∷◌, ◌++◌, length, map, flat_map, take, drop, Option, Some, None, slice_index_or}
+use Rattle.std.specs.Fmt.{decimal, signed_decimal}
 use Rattle.edifact_segments.specs.declared.segments.Segment.{Segment}
 use Rattle.edifact_segments.specs.Written.{written}
 use Rattle.stow_data.specs.declared.geometry.Stack.{Stack}
+use Rattle.stow_data.specs.declared.geometry.Length.TheVariants.{Forty}
 use Rattle.stow_data.specs.declared.geometry.Lengths.TheVariants as offers
 use Rattle.stow_data.specs.declared.shipments.Container.{Container}
 use Rattle.stow_data.specs.declared.shipments.Origin.{Origin}
@@ -11,8 +12,8 @@ use Rattle.stow_data.specs.declared.shipments.Origin.TheVariants.{Arrived, Booke
 use Rattle.stow_data.specs.Ship.{Ship, number_in}
 use Rattle.stow_data.specs.Shipment.{Cargo}
 use Rattle.voyage_specs.specs.Shown.{CellGroup}
-use Rattle.plain_inputs.specs.declared.bookings_text.Booking.{Booking}
-use Rattle.plain_inputs.specs.declared.bookings_text.Bookings.{Bookings}
+use Rattle.bookings.specs.declared.shipment.Booking.{Booking}
+use Rattle.bookings.specs.declared.shipment.Bookings.{Bookings}
 use Rattle.greedy_loader.specs.Loader.{Stowage, place_at, container_at, held, place_numbers}
 
 -- what stands for a number past the end of a list
@@ -20,7 +21,7 @@ abbrev pub no_stack : Stack
 no_stack = record { bay = 0; row = 0; lowest = 0; tiers = 0; lengths = offers.Forty; limit_kg = 0; plugs = [] }
 
 abbrev pub no_booking : Booking
-no_booking = record { id = []; load = 0; dest = 0; iso = []; kg = 0 }
+no_booking = record { id = []; load = 0; dest = 0; iso = []; long = Forty; kg = 0; vgm = false; empty = false; temperature = None; class = None; unno = 0 }
 
 -- the port of a call
 abbrev pub port_of : Cargo → ℕ → List ℕ
@@ -35,20 +36,24 @@ abbrev pub booking_of : Bookings → Origin → Booking
 booking_of bookings (Booked k) = slice_index_or bookings.containers k no_booking
 booking_of bookings (Arrived k) = no_booking
 
--- a container in its cell
+-- a container in its cell, with its booking
 pub record Group : Type 0 where
   pub cell : CellGroup
   pub load_port : List ℕ
-  pub iso : List ℕ
+  pub booking : Booking
   pub kg : ℕ
 
-abbrev pub group_of : Ship → Cargo → Bookings → ℕ → Container → Group
-group_of ship cargo bookings p c = record {
+-- of this booking
+abbrev pub booked_group : Ship → Cargo → Booking → ℕ → Container → Group
+booked_group ship cargo booking p c = record {
   cell = record { bay = (number_at ship p).0; row = (number_at ship p).1; tier = (number_at ship p).2; id = c.id; port = port_of cargo c.dest };
   load_port = port_of cargo c.load;
-  iso = (booking_of bookings c.origin).iso;
+  booking = booking;
   kg = c.kg;
 }
+
+abbrev pub group_of : Ship → Cargo → Bookings → ℕ → Container → Group
+group_of ship cargo bookings p c = booked_group ship cargo (booking_of bookings c.origin) p c
 
 -- the group of what stands at a place
 abbrev pub group_at : Ship → Cargo → Bookings → ℕ → Option ℕ → List Group
@@ -74,9 +79,9 @@ one text = text ∷ []
 abbrev pub port_element : List ℕ → List (List ℕ)
 port_element port = port ∷ codes "139" ∷ codes "6" ∷ []
 
--- UNB+UNOA:2+STOW+STOW+YYMMDD:HHMM+call
-unfoldable pub unb : List ℕ → ℕ → Segment
-unb date call = segment (codes "UNB") ((codes "UNOA" ∷ codes "2" ∷ []) ∷ one (codes "STOW") ∷ one (codes "STOW") ∷ (take 6 date ∷ drop 6 date ∷ []) ∷ one (decimal call) ∷ [])
+-- UNB+UNOA:2+sender+recipient+YYMMDD:HHMM+call
+unfoldable pub unb : Bookings → ℕ → Segment
+unb b call = segment (codes "UNB") ((codes "UNOA" ∷ codes "2" ∷ []) ∷ one b.sender ∷ one b.recipient ∷ (take 6 b.date ∷ drop 6 b.date ∷ []) ∷ one (decimal call) ∷ [])
 
 -- UNH+1+BAPLIE:D:95B:UN:SMDG22
 unfoldable pub unh : Segment
@@ -115,24 +120,61 @@ cell_text cell = digit (cell.0 / 100) ∷ digit (cell.0 / 10) ∷ digit cell.0 �
 unfoldable pub cell_segment : ℕ × ℕ × ℕ → Segment
 cell_segment cell = segment (codes "LOC") (one (codes "147") ∷ (cell_text cell ∷ [] ∷ codes "5" ∷ []) ∷ [])
 
--- MEA+WT++KGM:kg
-unfoldable pub mea : ℕ → Segment
-mea kg = segment (codes "MEA") (one (codes "WT") ∷ [] ∷ (codes "KGM" ∷ decimal kg ∷ []) ∷ [])
+-- a verified gross mass, or another weight
+abbrev pub weight_code : Bool → List ℕ
+weight_code vgm = if vgm then codes "VGM" else codes "WT"
+
+-- MEA+VGM++KGM:kg, or MEA+WT++KGM:kg
+unfoldable pub mea : Bool → ℕ → Segment
+mea vgm kg = segment (codes "MEA") (one (weight_code vgm) ∷ [] ∷ (codes "KGM" ∷ decimal kg ∷ []) ∷ [])
+
+-- TMP+2+temperature:CEL, in degrees Celsius
+unfoldable pub tmp : ℤ → Segment
+tmp temperature = segment (codes "TMP") (one (codes "2") ∷ (signed_decimal temperature ∷ codes "CEL" ∷ []) ∷ [])
+
+-- a reefer alone has a temperature
+abbrev pub temperature_segments : Option ℤ → List Segment
+temperature_segments None = []
+temperature_segments (Some temperature) = tmp temperature ∷ []
 
 -- RFF+BM:1
 unfoldable pub rff : Segment
 rff = segment (codes "RFF") ((codes "BM" ∷ codes "1" ∷ []) ∷ [])
 
--- EQD+CN+id+type+++5
-unfoldable pub eqd : List ℕ → List ℕ → Segment
-eqd id iso = segment (codes "EQD") (one (codes "CN") ∷ one id ∷ one iso ∷ [] ∷ [] ∷ one (codes "5") ∷ [])
+-- empty, or full
+abbrev pub fullness : Bool → List ℕ
+fullness empty = if empty then codes "4" else codes "5"
+
+-- EQD+CN+id+type+++4 where the container is empty, EQD+CN+id+type+++5 where it is full
+unfoldable pub eqd : List ℕ → List ℕ → Bool → Segment
+eqd id iso empty = segment (codes "EQD") (one (codes "CN") ∷ one id ∷ one iso ∷ [] ∷ [] ∷ one (fullness empty) ∷ [])
+
+-- the number of dangerous goods in four digits; none where it is 0
+abbrev pub goods_number : ℕ → List (List (List ℕ))
+goods_number unno = if unno == 0 then [] else one (digit (unno / 1000) ∷ digit (unno / 100) ∷ digit (unno / 10) ∷ digit unno ∷ []) ∷ []
+
+-- DGS+IMD+class+unno, or DGS+IMD+class
+unfoldable pub dgs : List ℕ → ℕ → Segment
+dgs class unno = segment (codes "DGS") (one (codes "IMD") ∷ one class ∷ goods_number unno)
+
+-- dangerous goods alone have a class
+abbrev pub goods_segments : Option (List ℕ) → ℕ → List Segment
+goods_segments None unno = []
+goods_segments (Some class) unno = dgs class unno ∷ []
 
 -- the segments of a container in its cell
 unfoldable pub group_segments : Group → List Segment
 group_segments g =
-    cell_segment (g.cell.bay, g.cell.row, g.cell.tier) ∷ mea g.kg ∷ loc (codes "9") g.load_port ∷ loc (codes "11") g.cell.port ∷ rff ∷ eqd g.cell.id g.iso ∷ []
+    cell_segment (g.cell.bay, g.cell.row, g.cell.tier)
+    ∷ mea g.booking.vgm g.kg
+    ∷ temperature_segments g.booking.temperature
+    ++ loc (codes "9") g.load_port
+    ∷ loc (codes "11") g.cell.port
+    ∷ rff
+    ∷ eqd g.cell.id g.booking.iso g.booking.empty
+    ∷ goods_segments g.booking.class g.booking.unno
 
--- UNT+count+1: the segments from UNH to UNT; each group has six
+-- UNT+count+1: the segments from UNH to UNT
 unfoldable pub unt : ℕ → Segment
 unt count = segment (codes "UNT") (one (decimal count) ∷ one (codes "1") ∷ [])
 
@@ -147,7 +189,7 @@ message cargo bookings call gs = head cargo bookings call ++ flat_map group_segm
 -- all segments of the file
 abbrev pub file_segments : Cargo → Bookings → ℕ → List Group → List Segment
 file_segments cargo bookings call gs =
-    unb bookings.date call ∷ message cargo bookings call gs ++ unt (length (message cargo bookings call gs) + 1) ∷ unz call ∷ []
+    unb bookings call ∷ message cargo bookings call gs ++ unt (length (message cargo bookings call gs) + 1) ∷ unz call ∷ []
 
 -- the written forms of segments, one after the other
 unfoldable pub text_of : Segment → List ℕ

@@ -1,13 +1,13 @@
 //! The segments of the departure file of a call (ISO 9735, SMDG BAPLIE 2.2).
-ghost use Rattle.std.specs.Prelude.{◌≡◌, ◌<◌, ◌++◌, ◌∷◌, [], IfOk, OnOk, length, map};
+ghost use Rattle.std.specs.Prelude.{◌≡◌, ◌<◌, ◌++◌, ◌∷◌, [], IfOk, OnOk, length, map, option_map, unwrap_or};
 ghost use Rattle.stow_data.specs.Ship.{places};
-ghost use Rattle.plan_files.specs.DepartureFile.{unb, unh, bgm, dtm, tdt, loc, cell_segment, mea, rff, eqd, digit, group_segments, group_of, booking_of, port_of};
+ghost use Rattle.plan_files.specs.DepartureFile.{unb, unh, bgm, dtm, tdt, loc, cell_segment, weight_code, mea, tmp, temperature_segments, rff, fullness, eqd, dgs, goods_segments, digit, group_segments, booked_group, number_at, booking_of, no_booking, port_of};
 
+use bookings::{Booking, Bookings};
 use edifact_segments::{ElementList, Segment, SegmentList};
 use itoa::Buffer;
-use plain_inputs::Bookings;
 use std::alloc::Global;
-use stow_data::{CallNo, Cargo, Container, Name, NoMemory, Origin, PlaceNo, Ship};
+use stow_data::{CallNo, Cargo, Container, Length, Name, NoMemory, Origin, PlaceNo, Ship};
 
 /// Appends an element of these components.
 fn compose(elements: &mut ElementList, components: &[&[u8]]) -> Result<(), NoMemory>
@@ -20,16 +20,17 @@ fn compose(elements: &mut ElementList, components: &[&[u8]]) -> Result<(), NoMem
     Ok(())
 }
 
-/// UNB+UNOA:2+STOW+STOW+YYMMDD:HHMM+call
+/// UNB+UNOA:2+sender+recipient+YYMMDD:HHMM+call
 #[tactic(auto, unfolding(crate::specs::DepartureFile::unb))]
-pub fn unb(alloc: Global, date: &[u8], call: u32) -> Result<Segment, NoMemory>
-    requires { length date.now ≡ 10 }
-    ensures { IfOk result (λ s. s ≡ unb date.now call) }
+pub fn unb(alloc: Global, bookings: &Bookings, call: u32) -> Result<Segment, NoMemory>
+    requires { length bookings.now.date ≡ 10 }
+    ensures { IfOk result (λ s. s ≡ unb bookings.now call) }
 {
+    let date = bookings.date.bytes();
     let mut segment = Segment::new(alloc, *b"UNB");
     compose(&mut segment.elements, &[b"UNOA", b"2"])?;
-    segment.elements.push(b"STOW")?;
-    segment.elements.push(b"STOW")?;
+    segment.elements.push(bookings.sender.bytes())?;
+    segment.elements.push(bookings.recipient.bytes())?;
     compose(&mut segment.elements, &[&date[..6], &date[6..]])?;
     segment
         .elements
@@ -130,19 +131,54 @@ fn cell_segment(alloc: Global, bay: u32, row: u32, tier: u32) -> Result<Segment,
     Ok(segment)
 }
 
-/// MEA+WT++KGM:kg
+/// What MEA says of a weight: that it is a verified gross mass, or another one.
+fn weight_code(vgm: bool) -> &'static [u8]
+    ensures { result.now ≡ weight_code vgm }
+{
+    if vgm { b"VGM" } else { b"WT" }
+}
+
+/// MEA+VGM++KGM:kg where the weight is verified, else MEA+WT++KGM:kg
 #[tactic(auto, unfolding(crate::specs::DepartureFile::mea))]
-fn mea(alloc: Global, kg: u32) -> Result<Segment, NoMemory>
-    ensures { IfOk result (λ s. s ≡ mea kg) }
+fn mea(alloc: Global, vgm: bool, kg: u32) -> Result<Segment, NoMemory>
+    ensures { IfOk result (λ s. s ≡ mea vgm kg) }
 {
     let mut segment = Segment::new(alloc, *b"MEA");
-    segment.elements.push(b"WT")?;
+    segment.elements.push(weight_code(vgm))?;
     segment.elements.start_element()?;
     compose(
         &mut segment.elements,
         &[b"KGM", Buffer::new().format(kg).as_bytes()],
     )?;
     Ok(segment)
+}
+
+/// TMP+2+temperature:CEL, in degrees Celsius
+#[tactic(auto, unfolding(crate::specs::DepartureFile::tmp))]
+fn tmp(alloc: Global, temperature: i32) -> Result<Segment, NoMemory>
+    ensures { IfOk result (λ s. s ≡ tmp temperature) }
+{
+    let mut segment = Segment::new(alloc, *b"TMP");
+    segment.elements.push(b"2")?;
+    compose(
+        &mut segment.elements,
+        &[Buffer::new().format(temperature).as_bytes(), b"CEL"],
+    )?;
+    Ok(segment)
+}
+
+/// Appends the temperature of a reefer. The list stays as it was for other containers.
+fn push_temperature(
+    list: &mut SegmentList,
+    alloc: Global,
+    temperature: Option<i32>,
+) -> Result<(), NoMemory>
+    ensures { OnOk result (list.new ≡ list.old ++ temperature_segments temperature) }
+{
+    if let Some(temperature) = temperature {
+        list.push(tmp(alloc, temperature)?)?;
+    }
+    Ok(())
 }
 
 /// RFF+BM:1
@@ -155,10 +191,17 @@ fn rff(alloc: Global) -> Result<Segment, NoMemory>
     Ok(segment)
 }
 
-/// EQD+CN+id+type+++5
+/// What EQD says of a container: that it is empty, or full.
+fn fullness(empty: bool) -> &'static [u8]
+    ensures { result.now ≡ fullness empty }
+{
+    if empty { b"4" } else { b"5" }
+}
+
+/// EQD+CN+id+type+++4 where the container is empty, else EQD+CN+id+type+++5
 #[tactic(auto, unfolding(crate::specs::DepartureFile::eqd))]
-fn eqd(alloc: Global, id: &[u8], iso: &[u8]) -> Result<Segment, NoMemory>
-    ensures { IfOk result (λ s. s ≡ eqd id.now iso.now) }
+fn eqd(alloc: Global, id: &[u8], iso: &[u8], empty: bool) -> Result<Segment, NoMemory>
+    ensures { IfOk result (λ s. s ≡ eqd id.now iso.now empty) }
 {
     let mut segment = Segment::new(alloc, *b"EQD");
     segment.elements.push(b"CN")?;
@@ -166,8 +209,44 @@ fn eqd(alloc: Global, id: &[u8], iso: &[u8]) -> Result<Segment, NoMemory>
     segment.elements.push(iso)?;
     segment.elements.start_element()?;
     segment.elements.start_element()?;
-    segment.elements.push(b"5")?;
+    segment.elements.push(fullness(empty))?;
     Ok(segment)
+}
+
+/// DGS+IMD+class+unno, the number in four digits, or DGS+IMD+class where it is 0
+#[tactic(auto, unfolding(crate::specs::DepartureFile::dgs))]
+fn dgs(alloc: Global, class: &[u8], unno: u32) -> Result<Segment, NoMemory>
+    ensures { IfOk result (λ s. s ≡ dgs class.now unno) }
+{
+    let mut segment = Segment::new(alloc, *b"DGS");
+    segment.elements.push(b"IMD")?;
+    segment.elements.push(class)?;
+    if unno == 0 {
+        return Ok(segment);
+    }
+    let number = [
+        digit(unno / 1000),
+        digit(unno / 100),
+        digit(unno / 10),
+        digit(unno),
+    ];
+    segment.elements.push(&number)?;
+    Ok(segment)
+}
+
+/// Appends the class and number of dangerous goods. The list stays as it was where there is no class.
+fn push_goods(
+    list: &mut SegmentList,
+    alloc: Global,
+    class: &Option<Name>,
+    unno: u32,
+) -> Result<(), NoMemory>
+    ensures { OnOk result (list.new ≡ list.old ++ goods_segments class.now unno) }
+{
+    if let Some(class) = class {
+        list.push(dgs(alloc, class.bytes(), unno)?)?;
+    }
+    Ok(())
 }
 
 /// The port of a call, counted from 1.
@@ -182,39 +261,71 @@ pub fn port_of(cargo: &Cargo, call: u32) -> Name
     }
 }
 
-/// The size and type code of the booking that a container comes from.
-pub fn iso_of(bookings: &Bookings, origin: Origin) -> Name
-    ensures { result ≡ (booking_of bookings.now origin).iso }
+/// What stands for the booking of a container that no booking names.
+pub fn no_booking() -> Booking
+    ensures { result ≡ no_booking }
 {
-    match origin {
-        Origin::Booked(index) if (index as usize) < bookings.containers.len() => {
-            bookings.containers.at(index as usize).iso.copy()
-        }
-        _ => Name::of(b""),
+    Booking {
+        id: Name::of(b""),
+        load: CallNo(0),
+        dest: CallNo(0),
+        iso: Name::of(b""),
+        long: Length::Forty,
+        kg: 0,
+        vgm: false,
+        empty: false,
+        temperature: None,
+        class: None,
+        unno: 0,
     }
 }
 
-/// The segments of a container in its cell.
-#[tactic(auto, unfolding(crate::specs::DepartureFile::group_segments))]
+/// The booking that a container comes from: none where it arrived, or where there are fewer bookings.
+pub fn booking_of(bookings: &Bookings, origin: Origin) -> Option<&Booking>
+    ensures { unwrap_or (option_map (λ b. b.now) result) no_booking ≡ booking_of bookings.now origin }
+{
+    match origin {
+        Origin::Booked(index) if (index as usize) < bookings.containers.len() => {
+            Some(bookings.containers.at(index as usize))
+        }
+        _ => None,
+    }
+}
+
+/// Bay, row and tier number of a place.
+pub fn number_at(ship: &Ship, p: PlaceNo) -> (u32, u32, u32)
+    requires { p < length (places ship.now) }
+    ensures { result ≡ number_at ship.now p }
+{
+    ship.number_of_place(p)
+}
+
+/// The segments of a container of this booking in its cell.
 pub fn group(
     alloc: Global,
     ship: &Ship,
     cargo: &Cargo,
-    bookings: &Bookings,
+    booking: &Booking,
     p: PlaceNo,
     container: &Container,
 ) -> Result<SegmentList, NoMemory>
     requires { p < length (places ship.now) }
-    ensures { IfOk result (λ list. list ≡ group_segments (group_of ship.now cargo.now bookings.now p container.now)) }
+    ensures { IfOk result (λ list. list ≡ group_segments (booked_group ship.now cargo.now booking.now p container.now)) }
 {
-    let (bay, row, tier) = ship.number_of_place(p);
+    let (bay, row, tier) = number_at(ship, p);
     let mut list = SegmentList::new(alloc);
     list.push(cell_segment(alloc, bay, row, tier)?)?;
-    list.push(mea(alloc, container.kg)?)?;
+    list.push(mea(alloc, booking.vgm, container.kg)?)?;
+    push_temperature(&mut list, alloc, booking.temperature)?;
     list.push(loc(alloc, b"9", port_of(cargo, container.load.0).bytes())?)?;
     list.push(loc(alloc, b"11", port_of(cargo, container.dest.0).bytes())?)?;
     list.push(rff(alloc)?)?;
-    let iso = iso_of(bookings, container.origin);
-    list.push(eqd(alloc, container.id.bytes(), iso.bytes())?)?;
+    list.push(eqd(
+        alloc,
+        container.id.bytes(),
+        booking.iso.bytes(),
+        booking.empty,
+    )?)?;
+    push_goods(&mut list, alloc, &booking.class, booking.unno)?;
     Ok(list)
 }

@@ -3,4 +3,6 @@
 
 mod departures;
 
-pub use departures::{bgm, dtm, group, iso_of, loc, port_of, tdt, unb, unh};
+pub use departures::{
+    bgm, booking_of, dtm, group, loc, no_booking, number_at, port_of, tdt, unb, unh,
+};

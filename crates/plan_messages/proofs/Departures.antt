@@ -10,7 +10,7 @@ use Rattle.edifact_segments.specs.ReadBack.{IsWritable}
 use Rattle.edifact_segments.specs.Written.{written}
 use Rattle.edifact_segments.specs.declared.segments.Segment.{Segment}
 use Rattle.stow_data.specs.Shipment.{Cargo}
-use Rattle.plain_inputs.specs.declared.bookings_text.Bookings.{Bookings}
+use Rattle.bookings.specs.declared.shipment.Bookings.{Bookings}
 use Rattle.baplie_model.specs.declared.parts.CellGroup.{CellGroup}
 use Rattle.baplie_model.specs.Faults as faults
 use Rattle.baplie_model.specs.Finding.{groups_fault}
@@ -18,7 +18,7 @@ use Rattle.baplie_model.specs.Groups.{cell_group}
 use Rattle.baplie_model.specs.Segments.{closes}
 use Rattle.baplie_model.specs.Messages.{IsMessageOf}
 use Rattle.plan_files.specs.DepartureFile as file
-use Rattle.plan_files.specs.DepartureFile.{Group, one, port_of, unb, unh, bgm, dtm, tdt, loc, cell_segment, mea, rff, eqd, group_segments, unt, unz, message, file_segments, file_text, text_of}
+use Rattle.plan_files.specs.DepartureFile.{Group, one, port_of, unb, unh, bgm, dtm, tdt, loc, cell_segment, mea, temperature_segments, rff, eqd, goods_segments, group_segments, unt, unz, message, file_segments, file_text, text_of}
 use Rattle.baplie_write.specs.Whole as whole
 use Rattle.baplie_write.specs.Whole.{IsWhole, content, segments_of, trailer}
 use Rattle.baplie_write.proofs.Built.{AreParts, read_by_parts}
@@ -26,9 +26,9 @@ use Rattle.baplie_write.proofs.Counts.{some_digits}
 use Rattle.baplie_write.proofs.Parts.{interchange}
 use Rattle.plan_messages.specs.Departure.{cell_group_of, message_of}
 use Rattle.plan_messages.proofs.Groups.{all_told, head-groups, groups-groups, open-groups, length-groups}
-use Rattle.plan_messages.proofs.Quiet.{IsPlainGroup, AllPlain, groups_quiet}
+use Rattle.plan_messages.proofs.Quiet.{IsBookedGroup, AllBooked, groups_quiet}
 use Rattle.plan_messages.proofs.Texts.{IsText, IsDate, closed}
-use Rattle.plan_messages.proofs.Writable.{writable-unb, writable-unh, writable-bgm, writable-dtm, writable-tdt, writable-loc, writable-cell, writable-mea, writable-rff, writable-eqd}
+use Rattle.plan_messages.proofs.Writable.{EachWritable, writable-append, writable-unb, writable-unh, writable-bgm, writable-dtm, writable-tdt, writable-loc, writable-cell, writable-mea, writable-temperature, writable-rff, writable-eqd, writable-goods}
 
 -- ## The content
 
@@ -85,31 +85,28 @@ unfolding unb unh
 segments-are cargo bookings call gs =
     let m = message_of cargo bookings call gs in
     let count : length (content m) + 2 ≡ length (message cargo bookings call gs) + 1 = omega (arith, ap length (message-is cargo bookings call gs)) in
-    ap (λ x. unb bookings.date call ∷ unh ∷ (content m ++ x ∷ whole.unz m ∷ [])) (written-unt (length (content m) + 2) ∙ ap unt count)
-    ∙ ap (λ x. unb bookings.date call ∷ unh ∷ (content m ++ unt (length (message cargo bookings call gs) + 1) ∷ x ∷ [])) (written-unz call)
-    ∙ ap (λ xs. unb bookings.date call ∷ (xs ++ unt (length (message cargo bookings call gs) + 1) ∷ unz call ∷ [])) (sym (message-is cargo bookings call gs))
+    ap (λ x. unb bookings call ∷ unh ∷ (content m ++ x ∷ whole.unz m ∷ [])) (written-unt (length (content m) + 2) ∙ ap unt count)
+    ∙ ap (λ x. unb bookings call ∷ unh ∷ (content m ++ unt (length (message cargo bookings call gs) + 1) ∷ x ∷ [])) (written-unz call)
+    ∙ ap (λ xs. unb bookings call ∷ (xs ++ unt (length (message cargo bookings call gs) + 1) ∷ unz call ∷ [])) (sym (message-is cargo bookings call gs))
 
 -- ## The message
 
 -- what the head of a departure file is made of
-pub record IsPlainHead (cargo : Cargo) (bookings : Bookings) (call : ℕ) : Type 0 where
+pub record IsBookedHead (cargo : Cargo) (bookings : Bookings) (call : ℕ) : Type 0 where
   pub dated : IsDate bookings.date
+  pub sender : IsText 35 bookings.sender
+  pub recipient : IsText 35 bookings.recipient
   pub voyage : IsText 35 bookings.voyage
   pub vessel : IsText 35 bookings.vessel
   pub here : IsText 35 (port_of cargo call)
   pub next : IsText 35 (port_of cargo (call + 1))
   pub small : call < 2 ^ 64
 
--- each of the segments can be written
-abbrev EachWritable : List Segment → Type 0
-EachWritable [] = Unit {0}
-EachWritable (x ∷ xs) = IsWritable x × EachWritable xs
-
 all_writable : (xs : List Segment) → EachWritable xs → All IsWritable xs
 all_writable [] w = All-nil IsWritable
 all_writable (x ∷ xs) w = All-cons IsWritable x xs w.0 (all_writable xs w.1)
 
-front-writable : (cargo : Cargo) (bookings : Bookings) (call : ℕ) → IsPlainHead cargo bookings call → All IsWritable (front cargo bookings call)
+front-writable : (cargo : Cargo) (bookings : Bookings) (call : ℕ) → IsBookedHead cargo bookings call → All IsWritable (front cargo bookings call)
 front-writable cargo bookings call h = all_writable (front cargo bookings call) (
   writable-bgm call h.small,
   (
@@ -127,24 +124,23 @@ front-writable cargo bookings call h = all_writable (front cargo bookings call) 
   ),
 )
 
-group-writable : (g : Group) → IsPlainGroup g → All IsWritable (group_segments g)
+group-writable : (g : Group) → IsBookedGroup g → All IsWritable (group_segments g)
 unfolding group_segments
-group-writable g p = all_writable (group_segments g) (
-  writable-cell (g.cell.bay, g.cell.row, g.cell.tier),
-  (
-    writable-mea g.kg (omega (arith, p.kg)),
-    (
-      writable-loc (codes "9") g.load_port (omega arith) (closed (codes "9") refl) p.loaded.calm,
-      (writable-loc (codes "11") g.cell.port (omega arith) (closed (codes "11") refl) p.discharged.calm, (writable-rff, (writable-eqd g.cell.id g.iso p.identified.some p.typed.some p.identified.calm p.typed.calm, tt))),
-    ),
-  ),
-)
+group-writable g p =
+    let b = g.booking in
+    let last : EachWritable (eqd g.cell.id b.iso b.empty ∷ goods_segments b.class b.unno) = (writable-eqd g.cell.id b.iso b.empty p.identified.some p.typed.some p.identified.calm p.typed.calm, writable-goods b.class b.unno p.classed) in
+    let ports : EachWritable (loc (codes "9") g.load_port ∷ loc (codes "11") g.cell.port ∷ rff ∷ eqd g.cell.id b.iso b.empty ∷ goods_segments b.class b.unno) =
+    (writable-loc (codes "9") g.load_port (omega arith) (closed (codes "9") refl) p.loaded.calm, (writable-loc (codes "11") g.cell.port (omega arith) (closed (codes "11") refl) p.discharged.calm, (writable-rff, last))) in
+    all_writable (group_segments g) (
+      writable-cell (g.cell.bay, g.cell.row, g.cell.tier),
+      (writable-mea b.vgm g.kg (omega (arith, p.kg)), writable-append (temperature_segments b.temperature) _ (writable-temperature b.temperature p.temperature_from p.temperature_to) ports),
+    )
 
-groups-writable : (gs : List Group) → AllPlain gs → All IsWritable (flat_map group_segments gs)
+groups-writable : (gs : List Group) → AllBooked gs → All IsWritable (flat_map group_segments gs)
 groups-writable [] p = All-nil IsWritable
 groups-writable (g ∷ gs) p = All-append IsWritable (group_segments g) (flat_map group_segments gs) (group-writable g p.0) (groups-writable gs p.1)
 
-are_parts : (cargo : Cargo) (bookings : Bookings) (call : ℕ) (gs : List Group) → IsPlainHead cargo bookings call → AllPlain gs → length gs ≤ 3000 → AreParts (message_of cargo bookings call gs)
+are_parts : (cargo : Cargo) (bookings : Bookings) (call : ℕ) (gs : List Group) → IsBookedHead cargo bookings call → AllBooked gs → length gs ≤ 3000 → AreParts (message_of cargo bookings call gs)
 unfolding unh file.head
 are_parts cargo bookings call gs h p few =
     let is = content-is cargo bookings call gs in
@@ -158,10 +154,10 @@ are_parts cargo bookings call gs h p few =
       faultless_groups = ap (λ xs. groups_fault (3 + length (faults.head (content (message_of cargo bookings call gs)))) xs) groups ∙ groups_quiet gs (3 + length (faults.head (content (message_of cargo bookings call gs)))) p;
       few = omega (arith, ap length is, length-append (front cargo bookings call) (flat_map group_segments gs), length-groups gs);
       canonical_title = writable-unh.1;
-      canonical_service = (writable-unb bookings.date call h.dated h.small).1;
+      canonical_service = (writable-unb bookings call h.dated h.sender h.recipient h.small).1;
     }
 
-pub is_whole : (cargo : Cargo) (bookings : Bookings) (call : ℕ) (gs : List Group) → IsPlainHead cargo bookings call → AllPlain gs → length gs ≤ 3000 → IsWhole (message_of cargo bookings call gs)
+pub is_whole : (cargo : Cargo) (bookings : Bookings) (call : ℕ) (gs : List Group) → IsBookedHead cargo bookings call → AllBooked gs → length gs ≤ 3000 → IsWhole (message_of cargo bookings call gs)
 unfolding unb
 is_whole cargo bookings call gs h p few =
     let Q : List Segment → Type 0 = λ xs. All IsWritable xs in
@@ -169,7 +165,7 @@ is_whole cargo bookings call gs h p few =
     subst Q (sym (content-is cargo bookings call gs)) (All-append IsWritable (front cargo bookings call) (flat_map group_segments gs) (front-writable cargo bookings call h) (groups-writable gs p)) in
     record {
       headed = refl;
-      writable = All-cons IsWritable (unb bookings.date call) (unh ∷ content (message_of cargo bookings call gs)) (writable-unb bookings.date call h.dated h.small) (All-cons IsWritable unh (content (message_of cargo bookings call gs)) writable-unh all);
+      writable = All-cons IsWritable (unb bookings call) (unh ∷ content (message_of cargo bookings call gs)) (writable-unb bookings call h.dated h.sender h.recipient h.small) (All-cons IsWritable unh (content (message_of cargo bookings call gs)) writable-unh all);
       read = read_by_parts (message_of cargo bookings call gs) (are_parts cargo bookings call gs h p few);
     }
 

@@ -8,7 +8,7 @@ use Rattle.stow_data.specs.Ship.{Ship}
 use Rattle.stow_data.specs.Shipment.{Cargo}
 use Rattle.greedy_loader.specs.Loader.{Stowage, container_at, held}
 use Rattle.greedy_loader.proofs.Stowed.{container_is}
-use Rattle.plain_inputs.specs.declared.bookings_text.Bookings.{Bookings}
+use Rattle.bookings.specs.declared.shipment.Bookings.{Bookings}
 use Rattle.plan_files.specs.DepartureFile.{Group, group_of, group_at}
 use Rattle.plan_files.proofs.Composing.{groups_below, groups_more}
 use Rattle.baplie_model.specs.declared.parts.CellGroup.{CellGroup}

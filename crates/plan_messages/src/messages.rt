@@ -2,19 +2,20 @@
 ghost use Rattle.std.specs.Prelude.{◌≡◌, ◌<◌, drop, length, map, IfOk};
 ghost use Rattle.stow_data.specs.Ship.{places};
 ghost use Rattle.baplie_model.specs.Messages.{IsMessageOf};
-ghost use Rattle.plain_inputs.specs.PlainBookings.{IsBookings, plain_cargo};
-ghost use Rattle.plan_files.specs.DepartureFile.{IsKnown, file_text, group_of, groups, head, number_at};
+ghost use Rattle.bookings.specs.Rules.{IsBookings};
+ghost use Rattle.plain_inputs.specs.Booked.{booked_cargo};
+ghost use Rattle.plan_files.specs.DepartureFile.{IsKnown, booked_group, file_text, group_of, groups, head};
 ghost use Rattle.plan_messages.specs.Departure.{booked_facts, cell_group_of, message_of};
 
 use baplie_model::{CellGroup, Facts, GroupList, Message};
 use baplie_write::write_baplie;
+use bookings::{Booking, Bookings};
 use edifact_segments::SegmentList;
-use plain_inputs::Bookings;
-use plan_files::{bgm, dtm, group, iso_of, loc, port_of, tdt, unb, unh};
+use plan_files::{bgm, booking_of, dtm, group, loc, no_booking, number_at, port_of, tdt, unb, unh};
 use std::alloc::Global;
-use stow_data::{Bytes, Cargo, Container, Length, NoMemory, PlaceNo, Plan, Ship};
+use stow_data::{Bytes, Cargo, Container, Name, NoMemory, PlaceNo, Plan, Ship};
 
-/// The text of the departure file of a call, for plain bookings: it reads back as the message of the call.
+/// The text of the departure file of a call, for bookings and their cargo: it reads back as the message of the call.
 pub fn departure_text(
     alloc: Global,
     ship: &Ship,
@@ -23,8 +24,8 @@ pub fn departure_text(
     plan: &Plan,
     call: u32,
 ) -> Result<Bytes, NoMemory>
-    requires plain { IsBookings bookings.now }
-    requires cargo { cargo.now ≡ plain_cargo ship.now bookings.now }
+    requires rules { IsBookings bookings.now }
+    requires cargo { cargo.now ≡ booked_cargo ship.now bookings.now }
     requires departs { call < length bookings.now.rotation }
     requires whole { length plan.now ≡ length (places ship.now) }
     requires known { IsKnown cargo.now plan.now }
@@ -52,7 +53,7 @@ pub fn departure_message(
     ensures { IfOk result (λ m. m ≡ message_of cargo.now bookings.now call (groups ship.now cargo.now bookings.now plan.now)) }
 {
     Ok(Message {
-        service: unb(alloc, bookings.date.bytes(), call)?,
+        service: unb(alloc, bookings, call)?,
         title: unh(alloc)?,
         head: front(alloc, cargo, bookings, call)?,
         groups: cell_groups(alloc, ship, cargo, bookings, plan)?,
@@ -115,36 +116,55 @@ fn cell_group(
     requires { p < length (places ship.now) }
     ensures { IfOk result (λ g. g ≡ cell_group_of (group_of ship.now cargo.now bookings.now p container.now)) }
 {
+    let none = no_booking();
+    let booking = booking_of(bookings, container.origin).unwrap_or(&none);
+    booked_group(alloc, ship, cargo, booking, p, container)
+}
+
+/// The cell group of a container of this booking at a place.
+fn booked_group(
+    alloc: Global,
+    ship: &Ship,
+    cargo: &Cargo,
+    booking: &Booking,
+    p: PlaceNo,
+    container: &Container,
+) -> Result<CellGroup, NoMemory>
+    requires { p < length (places ship.now) }
+    ensures { IfOk result (λ g. g ≡ cell_group_of (booked_group ship.now cargo.now booking.now p container.now)) }
+{
     let (bay, row, tier) = number_at(ship, p);
     Ok(CellGroup {
         bay,
         row,
         tier,
-        facts: Some(facts(cargo, bookings, container)),
-        segments: group(alloc, ship, cargo, bookings, p, container)?,
+        facts: Some(facts(cargo, booking, container)),
+        segments: group(alloc, ship, cargo, booking, p, container)?,
     })
 }
 
-/// Bay, row and tier number of a place.
-fn number_at(ship: &Ship, p: PlaceNo) -> (u32, u32, u32)
-    requires { p < length (places ship.now) }
-    ensures { result ≡ number_at ship.now p }
-{
-    ship.number_of_place(p)
-}
-
-/// What the group of a container tells.
-fn facts(cargo: &Cargo, bookings: &Bookings, container: &Container) -> Facts
-    ensures { result ≡ booked_facts cargo.now bookings.now container.now }
+/// What the group of a container of this booking tells.
+fn facts(cargo: &Cargo, booking: &Booking, container: &Container) -> Facts
+    ensures { result ≡ booked_facts cargo.now booking.now container.now }
 {
     Facts {
         id: container.id.copy(),
-        iso: iso_of(bookings, container.origin),
-        long: Length::Forty,
-        empty: false,
+        iso: booking.iso.copy(),
+        long: booking.long,
+        empty: booking.empty,
         kg: container.kg,
-        reefer: false,
-        class: None,
+        reefer: booking.temperature.is_some(),
+        class: class_of(booking),
         dest: port_of(cargo, container.dest.0),
+    }
+}
+
+/// The class of a booking's dangerous goods.
+fn class_of(booking: &Booking) -> Option<Name>
+    ensures { result ≡ booking.now.class }
+{
+    match &booking.class {
+        Some(class) => Some(class.copy()),
+        None => None,
     }
 }

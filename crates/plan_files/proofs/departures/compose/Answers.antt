@@ -1,4 +1,3 @@
-use Rattle.std.proofs.Common.{◌≡◌}
 use Rattle.plan_files.proofs.Composing.{compose_more}
 use Rattle.plan_files.proofs.departures.compose.Goals as goal
 

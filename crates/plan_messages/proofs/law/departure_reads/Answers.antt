@@ -1,15 +1,15 @@
 use Rattle.std.proofs.Common.{refl}
-use Rattle.plain_inputs.specs.PlainBookings.{plain_cargo}
+use Rattle.plain_inputs.specs.Booked.{booked_cargo}
 use Rattle.plan_files.specs.DepartureFile.{groups}
 use Rattle.plan_messages.proofs.Departures.{segments-are, reads_as}
 use Rattle.plan_messages.proofs.Planned.{plan_whole}
 use Rattle.plan_messages.proofs.law.departure_reads.Goals as goal
 
 pub returns-clause-whole : goal.returns-clause-whole
-returns-clause-whole c ship bookings plan call s b known h = plan_whole ship (plain_cargo ship bookings) bookings plan call s b refl known h
+returns-clause-whole c ship bookings plan call s b known h = plan_whole ship (booked_cargo ship bookings) bookings plan call s b refl known h
 
 pub returns-clause-segments : goal.returns-clause-segments
-returns-clause-segments c ship bookings plan call = segments-are (plain_cargo ship bookings) bookings call (groups ship (plain_cargo ship bookings) bookings plan)
+returns-clause-segments c ship bookings plan call = segments-are (booked_cargo ship bookings) bookings call (groups ship (booked_cargo ship bookings) bookings plan)
 
 pub returns-clause-reads : goal.returns-clause-reads
-returns-clause-reads c ship bookings plan call s b known h = reads_as (plain_cargo ship bookings) bookings call (groups ship (plain_cargo ship bookings) bookings plan) (plan_whole ship (plain_cargo ship bookings) bookings plan call s b refl known h)
+returns-clause-reads c ship bookings plan call s b known h = reads_as (booked_cargo ship bookings) bookings call (groups ship (booked_cargo ship bookings) bookings plan) (plan_whole ship (booked_cargo ship bookings) bookings plan call s b refl known h)
