@@ -1,4 +1,3 @@
-pub mod Inputs
 pub mod Steps
 pub mod Texts
 pub mod Bounds

@@ -1,23 +1,21 @@
 -- The files of a voyage, made one after the other.
 use Rattle.std.proofs.Common.{◌≡◌, ℕ, zero, suc, ◌+◌, ◌<◌, ◌≤◌, List, [], ◌∷◌, ◌++◌, length, get_or, drop, refl, sym, subst, ◌∙◌, ap, arith, append_assoc, Some, None}
-use Rattle.std.specs.Prelude.{All, IsTrue, nat_le}
+use Rattle.std.specs.Prelude.{All}
 use Rattle.std.proofs.lemmas.Fmt.{decimal_digit}
-use Rattle.std.proofs.lemmas.Bool.{and_parts, leb-true}
 use Rattle.std.proofs.lemmas.List.{append-nil, drop_all, drop_more}
 use Rattle.std.proofs.lemmas.Option.{slice_get_within}
 use Rattle.stow_data.specs.Ship.{Ship, places}
 use Rattle.stow_data.specs.Shipment.{Cargo}
 use Rattle.voyage_specs.specs.Departure.{AreDepartures}
-use Rattle.plain_inputs.specs.declared.bookings_text.Bookings.{Bookings}
+use Rattle.bookings.specs.declared.shipment.Bookings.{Bookings}
 use Rattle.stow_cli.specs.declared.writing.NamedFile.{NamedFile}
 use Rattle.greedy_loader.specs.Loader.{Stowage, load}
-use Rattle.plain_inputs.specs.Keys.{is_between}
-use Rattle.plain_inputs.specs.PlainBookings.{IsBookings, is_date}
+use Rattle.bookings.specs.Rules.{IsBookings}
 use Rattle.plan_files.specs.DepartureFile.{IsKnown}
 use Rattle.stow_cli.specs.Work.{file_of, files_of, all_files, head, leaf, work_of_plans, work_for, report}
 use Rattle.stow_cli.specs.declared.work.Work.{Work}
 use Rattle.plain_voyages.specs.Plain.{IsPlainShip, IsPlainCargo}
-use Rattle.plain_inputs.specs.PlainBookings.{plain_cargo}
+use Rattle.plain_inputs.specs.Booked.{booked_cargo}
 use Rattle.stow_cli.specs.Voyages.{Sails, report_of, voyage}
 use Rattle.stow_cli.proofs.Bounds.{leaf_proves, zero_bounds}
 use Rattle.stow_cli.proofs.Messages.{messages_of, all_shown, all_read}
@@ -48,14 +46,6 @@ departures_known ship cargo call [] h k d l = absurd (omega arith)
 departures_known ship cargo call (plan ∷ plans) h zero d l = λ p c holds. let known = h.0.stowed.well_formed.known p c holds in slice_get_within cargo.containers c known.0 known.1
 departures_known ship cargo call (plan ∷ plans) h (suc k) d l = departures_known ship cargo (suc call) plans h.1 k d (omega arith)
 
-pub date_long : (date : List ℕ) → IsTrue (is_date date) → length date ≡ 10
-date_long date h =
-    let b = and_parts (is_between 10 10 date) _ h in
-    let c = and_parts (nat_le 10 (length date)) (nat_le (length date) 10) b.0 in
-    let low : 10 ≤ length date = leb-true 10 (length date) c.0 in
-    let high : length date ≤ 10 = leb-true (length date) 10 c.1 in
-    omega arith
-
 -- what the loader's plans are for the work
 pub record IsPlanned (ship : Ship) (cargo : Cargo) (plans : List Stowage) : Type 0 where
   pub departs : length plans < length cargo.rotation
@@ -75,10 +65,10 @@ report_is =
     let one_is = decimal_digit 1 (omega arith) in
     rw (zero_is, one_is)
 
-pub sails_from : (base : List ℕ) (ship : Ship) (booked : Bookings) (plans : List Stowage) (work : Work) → IsPlainShip ship → IsBookings booked → IsPlainCargo ship (plain_cargo ship booked) → load ship (plain_cargo ship booked) ≡ Some plans
-    → work.files ≡ all_files base ship (plain_cargo ship booked) booked plans → work.report ≡ report → Sails base ship booked work
+pub sails_from : (base : List ℕ) (ship : Ship) (booked : Bookings) (plans : List Stowage) (work : Work) → IsPlainShip ship → IsBookings booked → IsPlainCargo ship (booked_cargo ship booked) → load ship (booked_cargo ship booked) ≡ Some plans
+    → work.files ≡ all_files base ship (booked_cargo ship booked) booked plans → work.report ≡ report → Sails base ship booked work
 sails_from base ship booked plans work plain_ship plain_bookings plain h files reported =
-    let legal = load_is_legal ship (plain_cargo ship booked) plans plain_ship plain h in
+    let legal = load_is_legal ship (booked_cargo ship booked) plans plain_ship plain h in
     let each = legal.2 in
     record {
       departures = plans;
@@ -86,10 +76,10 @@ sails_from base ship booked plans work plain_ship plain_bookings plain h files r
       tree = leaf ∷ [];
       files = files;
       messages = messages_of ship booked 1 plans;
-      read = all_read base ship booked 1 plans plain_ship.rules plain_bookings (departures_known ship (plain_cargo ship booked) 1 plans legal.0) (omega (arith, each));
-      shown = subst (λ (ms : List (List CellGroup)). IsLegalFileSet ship (plain_cargo ship booked) ms plans) (sym (all_shown ship booked 1 plans)) (groups_legal ship (plain_cargo ship booked) booked plans plain_ship.rules plain.rules legal.2 legal.0);
+      read = all_read base ship booked 1 plans plain_ship.rules plain_bookings (departures_known ship (booked_cargo ship booked) 1 plans legal.0) (omega (arith, each));
+      shown = subst (λ (ms : List (List CellGroup)). IsLegalFileSet ship (booked_cargo ship booked) ms plans) (sym (all_shown ship booked 1 plans)) (groups_legal ship (booked_cargo ship booked) booked plans plain_ship.rules plain.rules legal.2 legal.0);
       rehandles = 0;
-      count = load_has_count ship (plain_cargo ship booked) plans plain_ship plain h;
+      count = load_has_count ship (booked_cargo ship booked) plans plain_ship plain h;
       none = refl;
       bound = 0;
       equal = refl;
@@ -99,10 +89,10 @@ sails_from base ship booked plans work plain_ship plain_bookings plain h files r
       report = reported ∙ report_is;
     }
 
-pub work_from : (base : List ℕ) (ship : Ship) (booked : Bookings) (plans : List Stowage) → load ship (plain_cargo ship booked) ≡ Some plans → work_for base ship booked ≡ Some (work_of_plans base ship (plain_cargo ship booked) booked plans)
+pub work_from : (base : List ℕ) (ship : Ship) (booked : Bookings) (plans : List Stowage) → load ship (booked_cargo ship booked) ≡ Some plans → work_for base ship booked ≡ Some (work_of_plans base ship (booked_cargo ship booked) booked plans)
 unfolding work_for
 work_from base ship booked plans h = rw h
 
-pub work_none : (base : List ℕ) (ship : Ship) (booked : Bookings) → load ship (plain_cargo ship booked) ≡ None → work_for base ship booked ≡ None
+pub work_none : (base : List ℕ) (ship : Ship) (booked : Bookings) → load ship (booked_cargo ship booked) ≡ None → work_for base ship booked ≡ None
 unfolding work_for
 work_none base ship booked h = rw h

@@ -4,7 +4,7 @@ use Rattle.std.specs.Fmt.{decimal}
 use Rattle.stow_io.specs.Files.{Files}
 use Rattle.stow_data.specs.Ship.{Ship}
 use Rattle.stow_data.specs.declared.limits.Limit.{Limit}
-use Rattle.plain_inputs.specs.declared.bookings_text.Bookings.{Bookings}
+use Rattle.bookings.specs.declared.shipment.Bookings.{Bookings}
 use Rattle.zero_one_rows.specs.Variables.{Voyage}
 use Rattle.zero_one_model.specs.Building.{IsWithin, Passes}
 use Rattle.zero_one_model.specs.Early.{is_early}
@@ -22,29 +22,30 @@ use Rattle.baplie_read.specs.declared.faults.BaplieFault.TheVariants.{NoMemory}
 use Rattle.baplie_model.specs.Messages.{IsMessageOf}
 use Rattle.baplie_read.specs.Reading.{IsBaplieFault}
 use Rattle.stow_report.specs.Refusals.{refusal_text}
+use Rattle.stow_report.specs.Inputs.{limit_line}
 use Rattle.stow_report.specs.Listings.{listing_text}
 use Rattle.stow_cli.specs.declared.answer.Answer.{Answer}
 use Rattle.stow_cli.specs.declared.answer.Answer.TheVariants as answer
-use Rattle.stow_cli.specs.declared.answer.PlainInputs.{PlainInputs}
 use Rattle.stow_cli.specs.declared.work.Work.{Work}
 use Rattle.stow_cli.specs.Asked.{Names, Asked, Plan, Check, Show}
-use Rattle.stow_cli.specs.Inputs.{IsContent, AreInputs, IsReadBy}
-use Rattle.stow_cli.specs.Lines.{limit_line, cert_line, bound_line, file_line}
+use Rattle.stow_cli.specs.Inputs.{IsContent, AreInputs, IsPlain, TurnsDown, IsReadBy}
+use Rattle.stow_cli.specs.Lines.{cert_line, bound_line, file_line}
 use Rattle.stow_cli.specs.Voyages.{Sails, IsBound, voyage}
 use Rattle.stow_cli.specs.Work.{work_for, cert_name}
 
 -- ## Inputs
 
--- plain inputs are answered so; others aren't built yet
-abbrev pub Judged : Option PlainInputs → (Ship → Bookings → Answer → Type 0) → Answer → Type 0
-Judged None P a = a ≡ answer.Unbuilt
-Judged (Some inputs) P a = P inputs.ship inputs.bookings a
+-- the inputs are plain, and are answered so
+pub record Takes (names : Names) (files : Option Files) (P : Ship → Bookings → Answer → Type 0) (a : Answer) : Type 0 where
+  pub ship : Ship
+  pub booked : Bookings
+  pub inputs_are : AreInputs names files ship booked
+  pub plain : IsPlain ship booked
+  pub judged : P ship booked a
 
--- the inputs of these files are answered so
-pub record Judges (names : Names) (files : Option Files) (P : Ship → Bookings → Answer → Type 0) (a : Answer) : Type 0 where
-  pub found : Option PlainInputs
-  pub inputs_are : AreInputs names files found
-  pub judged : Judged found P a
+-- the inputs of these files are answered so, or are turned down
+abbrev pub Judges : Names → Option Files → (Ship → Bookings → Answer → Type 0) → Answer → Type 0
+Judges names files P a = Takes names files P a ⊎ TurnsDown names files a
 
 -- the line says which limit the model passes, and the number that passes it
 pub record IsTooLarge (m : Voyage) (line : List ℕ) : Type 0 where
@@ -188,8 +189,10 @@ IsAnswerTo (Some (Show file)) files a = IsShown file files a
 
 -- the certificate is read where the inputs are plain
 pub record IsCertOf (names : Names) (files : Option Files) (name : List ℕ) : Type 0 where
-  pub found : PlainInputs
-  pub inputs_are : AreInputs names files (Some found)
+  pub ship : Ship
+  pub booked : Bookings
+  pub inputs_are : AreInputs names files ship booked
+  pub plain : IsPlain ship booked
   pub name_is : name ≡ cert_name names.base
 
 abbrev pub IsCheckRead : Names → Option Files → List ℕ → Type 0

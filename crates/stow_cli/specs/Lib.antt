@@ -7,3 +7,4 @@ pub mod Answers
 pub mod Named
 pub mod Writing
 pub mod Ends
+pub mod Reading

@@ -1,7 +1,5 @@
 -- The lines of refusals: the group, the refusal's number, and its fields in their order.
-use Rattle.std.specs.Prelude.{ℕ, pos, true, false, [], ◌∷◌}
-use Rattle.stow_data.specs.declared.limits.Limit.{Limit}
-use Rattle.stow_data.specs.declared.limits.Limit.TheVariants.{Calls, Containers, Places, Variables, Rows, Certificate}
+use Rattle.std.specs.Prelude.{pos, true, [], ◌∷◌}
 use Rattle.certificate.specs.declared.faults.CertFault.{CertFault}
 use Rattle.certificate.specs.declared.faults.CertFault.TheVariants as cert
 use Rattle.bound_checker.specs.declared.refusals.BoundNo.{BoundNo}
@@ -13,19 +11,6 @@ use Rattle.stow_report.specs.declared.lines.Group.TheVariants as group
 use Rattle.stow_report.specs.declared.lines.Line.{Line}
 use Rattle.stow_report.specs.Refusals.{numbered}
 use Rattle.stow_report.specs.Faults.{interchange_line, message_line}
-
--- the limits by their numbers
-abbrev pub limit_number : Limit → ℕ
-limit_number Calls = 1
-limit_number Containers = 2
-limit_number Places = 3
-limit_number Variables = 4
-limit_number Rows = 5
-limit_number Certificate = 6
-
--- a limit, and the number that passes it
-abbrev pub limit_line : Limit → ℕ → Line
-limit_line limit n = numbered false group.Large (limit_number limit) (pos n ∷ [])
 
 -- a text that is no certificate
 abbrev pub cert_line : CertFault → Line

@@ -10,9 +10,9 @@ use Rattle.baplie_model.specs.declared.parts.Message.{Message}
 use Rattle.baplie_model.specs.Messages.{IsMessageOf}
 use Rattle.stow_cli.specs.declared.writing.NamedFile.{NamedFile}
 use Rattle.voyage_specs.specs.Voyage.{HasCount}
-use Rattle.plain_inputs.specs.declared.bookings_text.Bookings.{Bookings}
+use Rattle.bookings.specs.declared.shipment.Bookings.{Bookings}
 use Rattle.stow_cli.specs.declared.work.Work.{Work}
-use Rattle.plain_inputs.specs.PlainBookings.{plain_cargo}
+use Rattle.plain_inputs.specs.Booked.{booked_cargo}
 use Rattle.stow_cli.specs.Work.{files_of, cert_file}
 use Rattle.proof_trees.specs.Program.{cost_of}
 use Rattle.zero_one_rows.specs.Variables.{Voyage}
@@ -43,7 +43,7 @@ ReadAs (f ∷ fs) [] = ⊥
 
 -- the voyage whose 0-1 program is the question
 abbrev pub voyage : Ship → Bookings → Voyage
-voyage ship booked = record { ship = ship; cargo = plain_cargo ship booked }
+voyage ship booked = record { ship = ship; cargo = booked_cargo ship booked }
 
 -- every solution of the voyage's 0-1 program costs at least the bound
 abbrev pub IsBound : Voyage → ℕ → Type 0
@@ -58,12 +58,12 @@ pub record Sails (base : List ℕ) (ship : Ship) (booked : Bookings) (work : Wor
   pub departures : List Plan
   pub head : Head
   pub tree : List Record
-  pub files : work.files ≡ files_of base ship (plain_cargo ship booked) booked 1 departures ++ cert_file base head tree ∷ []
+  pub files : work.files ≡ files_of base ship (booked_cargo ship booked) booked 1 departures ++ cert_file base head tree ∷ []
   pub messages : List Message
-  pub read : ReadAs (files_of base ship (plain_cargo ship booked) booked 1 departures) messages
-  pub shown : IsLegalFileSet ship (plain_cargo ship booked) (map shown_by messages) departures
+  pub read : ReadAs (files_of base ship (booked_cargo ship booked) booked 1 departures) messages
+  pub shown : IsLegalFileSet ship (booked_cargo ship booked) (map shown_by messages) departures
   pub rehandles : ℕ
-  pub count : HasCount ship (plain_cargo ship booked) departures rehandles
+  pub count : HasCount ship (booked_cargo ship booked) departures rehandles
   pub none : rehandles ≡ 0
   pub bound : ℕ
   pub equal : bound ≡ rehandles

@@ -3,11 +3,11 @@ use Rattle.std.specs.Prelude.{ℕ, ◌+◌, ◌/◌, ◌%◌, false, codes, List
 use Rattle.std.specs.Fmt.{decimal}
 use Rattle.stow_data.specs.Ship.{Ship}
 use Rattle.stow_data.specs.Shipment.{Cargo}
-use Rattle.plain_inputs.specs.declared.bookings_text.Bookings.{Bookings}
+use Rattle.bookings.specs.declared.shipment.Bookings.{Bookings}
 use Rattle.stow_cli.specs.declared.writing.NamedFile.{NamedFile}
 use Rattle.stow_cli.specs.declared.work.Work.{Work}
 use Rattle.greedy_loader.specs.Loader.{Stowage, load}
-use Rattle.plain_inputs.specs.PlainBookings.{plain_cargo}
+use Rattle.plain_inputs.specs.Booked.{booked_cargo}
 use Rattle.plan_files.specs.DepartureFile.{groups, file_text}
 use Rattle.certificate.specs.declared.tree.End.TheVariants.{Leaf}
 use Rattle.certificate.specs.declared.tree.Head.{Head}
@@ -58,4 +58,4 @@ work_of_plans base ship cargo bookings plans = record { files = all_files base s
 
 -- none where the loader's rule gives no plans
 unfoldable pub work_for : List ℕ → Ship → Bookings → Option Work
-work_for base ship bookings = option_map (work_of_plans base ship (plain_cargo ship bookings) bookings) (load ship (plain_cargo ship bookings))
+work_for base ship bookings = option_map (work_of_plans base ship (booked_cargo ship bookings) bookings) (load ship (booked_cargo ship bookings))

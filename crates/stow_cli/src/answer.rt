@@ -1,6 +1,6 @@
 //! What an order comes to before anything is written or printed.
 use crate::work::Work;
-use plain_inputs::Bookings;
+use bookings::Bookings;
 use stow_data::{Bytes, Ship};
 
 /// The answer to an order.

@@ -2,8 +2,7 @@
 ghost use Rattle.std.specs.Prelude.{◌≡◌, ◌≤◌, ◌^◌, ◌+◌, ◌++◌, ◌↔◌, [], true, codes, length, All, IfOk, IfErr, IsTrue};
 ghost use Rattle.std.specs.Fmt.{decimal};
 ghost use Rattle.stow_io.specs.Causes.{Rose};
-ghost use Rattle.plain_voyages.specs.Plain.{IsPlainShip};
-ghost use Rattle.plain_inputs.specs.PlainBookings.{IsBookings};
+ghost use Rattle.bookings.specs.Rules.{IsBookings};
 ghost use Rattle.zero_one_model.specs.Early.{is_early};
 ghost use Rattle.bound_checker.specs.Entries.{IsOneLeaf};
 ghost use Rattle.stow_cli.specs.Answers.{Judges, CheckOf, ReadsCert, CertOf, IsCheckable, IsCheckRead, TreeOf, bound_text};
@@ -14,13 +13,14 @@ ghost use Rattle.stow_cli.specs.Work.{cert_name};
 use crate::answer::Answer;
 use crate::lines::{bound_text as refused_bound, cert_text, limit_text};
 use crate::order::Inputs;
-use crate::reading::{ReadStop, read_inputs};
+use crate::reading::{Found, ReadStop, read_inputs};
 use crate::work::{Work, cert_name};
 use crate::writing::FileList;
+use bookings::Bookings;
 use bound_checker::{BoundNo, check_bound, is_one_leaf};
 use certificate::{CertFault, Head, Record, Tree, read_cert};
 use itoa::Buffer;
-use plain_inputs::{Bookings, cargo_of};
+use plain_inputs::cargo_of;
 use std::alloc::Global;
 use stow_data::{Bytes, NoMemory, Ship};
 use stow_io::{Folder, FolderNo};
@@ -38,8 +38,9 @@ pub fn check<'a, F: Folder>(
     ensures later { F.faults folder.old ≤ F.faults folder.new }
     ensures failed { IfErr result (IsStop (Rose (F.faults folder.old) (F.faults folder.new)) (IsCheckRead (names_of inputs.entry) (F.files folder.old))) }
 {
-    let Some(plain) = read_inputs(alloc, inputs, folder)? else {
-        return Ok(Answer::Unbuilt);
+    let plain = match read_inputs(alloc, inputs, folder)? {
+        Found::Plain(plain) => plain,
+        Found::Other(answer) => return Ok(answer),
     };
     check_plain(alloc, inputs.base, &plain.ship, &plain.bookings, folder)
 }
@@ -52,8 +53,7 @@ fn check_plain<'a, F: Folder>(
     bookings: &Bookings,
     folder: &mut F,
 ) -> Result<Answer, ReadStop<'a>>
-    requires plain_ship { IsPlainShip ship.now }
-    requires plain_bookings { IsBookings bookings.now }
+    requires { IsBookings bookings.now }
     ensures stays { F.files folder.new ≡ F.files folder.old }
     ensures gives { IfOk result (CheckOf base.now (F.files folder.old) ship.now bookings.now) }
     ensures later { F.faults folder.old ≤ F.faults folder.new }

@@ -20,6 +20,8 @@ pub use status::Status;
 pub use top::stow;
 
 #[cfg(test)]
+mod file_tests;
+#[cfg(test)]
 mod model_tests;
 #[cfg(test)]
 mod tests;

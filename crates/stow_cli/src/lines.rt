@@ -1,37 +1,35 @@
 //! The lines of refusals.
 ghost use Rattle.std.specs.Prelude.{◌≡◌, IfOk};
 ghost use Rattle.stow_report.specs.Refusals.{refusal_text};
-ghost use Rattle.stow_cli.specs.Lines.{limit_number, limit_line, cert_line, bound_line, file_line};
+ghost use Rattle.stow_report.specs.Inputs.{limit_line};
+ghost use Rattle.stow_cli.specs.Inputs.{refused};
+ghost use Rattle.stow_cli.specs.Lines.{cert_line, bound_line, file_line};
 
+use crate::answer::Answer;
 use baplie_read::BaplieFault;
 use bound_checker::BoundNo;
 use certificate::CertFault;
 use edifact_segments::SegFault;
 use std::alloc::Global;
 use stow_data::{Bytes, Limit, NoMemory};
-use stow_report::{Group, Line, interchange_line, message_line, numbered, refusal};
-
-/// The number of a limit.
-fn limit_number(limit: Limit) -> u32
-    ensures { result ≡ limit_number limit }
-{
-    match limit {
-        Limit::Calls => 1,
-        Limit::Containers => 2,
-        Limit::Places => 3,
-        Limit::Variables => 4,
-        Limit::Rows => 5,
-        Limit::Certificate => 6,
-    }
-}
+use stow_report::{Group, Line, interchange_line, limit_line, message_line, numbered, refusal};
 
 /// The text of a limit that is passed, and of the number that passes it.
 pub fn limit_text(alloc: Global, limit: Limit, value: u64) -> Result<Bytes, NoMemory>
     ensures { IfOk result (λ text. text ≡ refusal_text (limit_line limit value)) }
 {
-    let number = limit_number(limit);
-    let line = numbered(alloc, false, Group::Large, number, &[i128::from(value)])?;
-    refusal(alloc, &line)
+    refusal(alloc, &limit_line(alloc, limit, value)?)
+}
+
+/// The answer to an input that is refused with this line.
+pub fn refused(alloc: Global, line: &Line) -> Result<Answer, NoMemory>
+    ensures { IfOk result (λ a. a ≡ refused line.now) }
+{
+    let text = refusal(alloc, line)?;
+    match line.group {
+        Group::Large => Ok(Answer::Large(text)),
+        _ => Ok(Answer::Input(text)),
+    }
 }
 
 /// The line of a text that is no certificate.

@@ -1,19 +1,19 @@
 //! `stow plan`: the plans of a voyage, as departure files, and the certificate of their bound.
 ghost use Rattle.std.specs.Prelude.{◌≡◌, ◌≤◌, IfOk, IfErr};
 ghost use Rattle.stow_io.specs.Causes.{Rose};
-ghost use Rattle.plain_voyages.specs.Plain.{IsPlainShip};
-ghost use Rattle.plain_inputs.specs.PlainBookings.{IsBookings};
+ghost use Rattle.bookings.specs.Rules.{IsBookings};
 ghost use Rattle.stow_cli.specs.Answers.{Judges, PlanOf, WithinOr};
-ghost use Rattle.stow_cli.specs.Inputs.{IsReadBy};
+ghost use Rattle.stow_cli.specs.Inputs.{IsPlain, IsReadBy};
 ghost use Rattle.stow_cli.specs.Named.{names_of, IsStop};
 ghost use Rattle.stow_cli.specs.Voyages.{voyage};
 
 use crate::answer::Answer;
 use crate::lines::limit_text;
 use crate::order::Inputs;
-use crate::reading::{ReadStop, read_inputs};
+use crate::reading::{Found, ReadStop, read_inputs};
 use crate::work::work_of;
-use plain_inputs::{Bookings, cargo_of};
+use bookings::Bookings;
+use plain_inputs::cargo_of;
 use std::alloc::Global;
 use stow_data::{Bytes, NoMemory, Ship};
 use stow_io::Folder;
@@ -30,8 +30,9 @@ pub fn plan<'a, F: Folder>(
     ensures later { F.faults folder.old ≤ F.faults folder.new }
     ensures failed { IfErr result (IsStop (Rose (F.faults folder.old) (F.faults folder.new)) (IsReadBy (names_of inputs.entry) (F.files folder.old))) }
 {
-    let Some(plain) = read_inputs(alloc, inputs, folder)? else {
-        return Ok(Answer::Unbuilt);
+    let plain = match read_inputs(alloc, inputs, folder)? {
+        Found::Plain(plain) => plain,
+        Found::Other(answer) => return Ok(answer),
     };
     match plan_of(alloc, inputs.base, &plain.ship, &plain.bookings) {
         Ok(answer) => Ok(answer),
@@ -41,8 +42,8 @@ pub fn plan<'a, F: Folder>(
 
 /// What a ship and its bookings are answered: the limits of the model come first, then the loader's rule.
 fn plan_of(alloc: Global, base: &str, ship: &Ship, bookings: &Bookings) -> Result<Answer, NoMemory>
-    requires plain_ship { IsPlainShip ship.now }
-    requires plain_bookings { IsBookings bookings.now }
+    requires plain { IsPlain ship.now bookings.now }
+    requires rules { IsBookings bookings.now }
     ensures { IfOk result (PlanOf base.now ship.now bookings.now) }
 {
     if let Some(line) = passed_limit(alloc, ship, bookings)? {
@@ -56,8 +57,7 @@ fn plan_of(alloc: Global, base: &str, ship: &Ship, bookings: &Bookings) -> Resul
 
 /// The line of the limit that the voyage's model passes, none where it is within the limits.
 fn passed_limit(alloc: Global, ship: &Ship, bookings: &Bookings) -> Result<Option<Bytes>, NoMemory>
-    requires plain_ship { IsPlainShip ship.now }
-    requires plain_bookings { IsBookings bookings.now }
+    requires { IsBookings bookings.now }
     ensures { IfOk result (WithinOr (voyage ship.now bookings.now)) }
 {
     let cargo = cargo_of(alloc, ship, bookings)?;

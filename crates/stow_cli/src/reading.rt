@@ -1,15 +1,20 @@
 //! The reads of the inputs.
-ghost use Rattle.std.specs.Prelude.{◌≡◌, ◌≤◌, length, IfOk, IfErr, IfSome, Some, None};
+ghost use Rattle.std.specs.Prelude.{◌≡◌, ◌≤◌, ◌^◌, length, IfOk, IfErr};
 ghost use Rattle.stow_io.specs.Causes.{Rose};
-ghost use Rattle.stow_cli.specs.Inputs.{IsContent, AreInputs, IsReadBy, IsPlain};
+ghost use Rattle.stow_cli.specs.Inputs.{IsContent, IsReadBy};
 ghost use Rattle.stow_cli.specs.Named.{names_of, IsStop};
+ghost use Rattle.stow_cli.specs.Reading.{IsFound, IsShipOf, AreBookingsOf};
 
-use crate::answer::PlainInputs;
+use crate::answer::{Answer, PlainInputs};
+use crate::lines::refused;
 use crate::order::Inputs;
-use plain_inputs::{plain_bookings, plain_ship};
+use bookings::{BookingFault, Bookings, read_bookings};
+use plain_inputs::{are_plain, is_plain_ship};
+use ship_profile::{ProfileFault, read_profile};
 use std::alloc::Global;
-use stow_data::{Bytes, Word};
+use stow_data::{Bytes, NoMemory, Ship, Word};
 use stow_io::{Folder, FolderNo};
+use stow_report::{booking_line, profile_line};
 
 /// Why nothing can be said of the inputs: a file that was not read, or want of memory.
 #[derive(Drop)]
@@ -36,32 +41,72 @@ pub fn read<'a, F: Folder>(folder: &mut F, name: &'a str) -> Result<Bytes, ReadS
     }
 }
 
-/// The ship and the bookings that the words name, none where the one or the other isn't plain. The
-/// bookings are read only where the profile is plain.
+/// What the inputs come to.
+#[derive(Drop)]
+pub enum Found {
+    /// A plain ship and its plain bookings.
+    Plain(PlainInputs),
+    /// The answer where an input is refused or isn't plain.
+    Other(Answer),
+}
+
+/// The ship and the bookings that the words name, or the answer where the one or the other is refused, or where
+/// they aren't plain. The bookings are read only where the profile is accepted.
 pub fn read_inputs<'a, F: Folder>(
     alloc: Global,
     inputs: Inputs<'a>,
     folder: &mut F,
-) -> Result<Option<PlainInputs>, ReadStop<'a>>
+) -> Result<Found, ReadStop<'a>>
     ensures stays { F.files folder.new ≡ F.files folder.old }
-    ensures gives { IfOk result (AreInputs (names_of inputs.entry) (F.files folder.old)) }
-    ensures plain { IfOk result (λ found. IfSome found IsPlain) }
+    ensures gives { IfOk result (IsFound (names_of inputs.entry) (F.files folder.old)) }
     ensures later { F.faults folder.old ≤ F.faults folder.new }
     ensures failed { IfErr result (IsStop (Rose (F.faults folder.old) (F.faults folder.new)) (IsReadBy (names_of inputs.entry) (F.files folder.old))) }
 {
     let profile = read(folder, inputs.profile)?;
-    let Ok(ship) = plain_ship(alloc, profile.as_slice()) else {
-        return Err(ReadStop::NoMemory);
+    let ship = match ship_of(alloc, profile.as_slice()) {
+        Ok(Accepted::Yes(ship)) => ship,
+        Ok(Accepted::No(answer)) => return Ok(Found::Other(answer)),
+        Err(NoMemory) => return Err(ReadStop::NoMemory),
     };
-    let Some(ship) = ship else {
-        return Ok(None);
+    let text = read(folder, inputs.bookings)?;
+    let bookings = match booked_of(alloc, text.as_slice()) {
+        Ok(Accepted::Yes(bookings)) => bookings,
+        Ok(Accepted::No(answer)) => return Ok(Found::Other(answer)),
+        Err(NoMemory) => return Err(ReadStop::NoMemory),
     };
-    let bookings = read(folder, inputs.bookings)?;
-    let Ok(bookings) = plain_bookings(alloc, bookings.as_slice()) else {
-        return Err(ReadStop::NoMemory);
-    };
-    let Some(bookings) = bookings else {
-        return Ok(None);
-    };
-    Ok(Some(PlainInputs { ship, bookings }))
+    if is_plain_ship(&ship) && are_plain(&bookings) {
+        Ok(Found::Plain(PlainInputs { ship, bookings }))
+    } else {
+        Ok(Found::Other(Answer::Unbuilt))
+    }
+}
+
+/// What a text is read as, or the answer that refuses it.
+#[derive(Drop)]
+enum Accepted<T: Drop> {
+    Yes(T),
+    No(Answer),
+}
+
+/// The ship of a profile, or the answer that refuses it.
+fn ship_of(alloc: Global, bytes: &[u8]) -> Result<Accepted<Ship>, NoMemory>
+    ensures { IfOk result (IsShipOf bytes.now) }
+{
+    match read_profile(alloc, bytes) {
+        Ok(ship) => Ok(Accepted::Yes(ship)),
+        Err(ProfileFault::NoMemory) => Err(NoMemory),
+        Err(fault) => Ok(Accepted::No(refused(alloc, &profile_line(alloc, fault)?)?)),
+    }
+}
+
+/// The bookings of a text, or the answer that refuses it.
+fn booked_of(alloc: Global, bytes: &[u8]) -> Result<Accepted<Bookings>, NoMemory>
+    requires { length bytes.now ≤ 2 ^ 29 }
+    ensures { IfOk result (AreBookingsOf bytes.now) }
+{
+    match read_bookings(alloc, bytes) {
+        Ok(bookings) => Ok(Accepted::Yes(bookings)),
+        Err(BookingFault::NoMemory) => Err(NoMemory),
+        Err(fault) => Ok(Accepted::No(refused(alloc, &booking_line(alloc, fault)?)?)),
+    }
 }

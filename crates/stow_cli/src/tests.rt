@@ -335,13 +335,24 @@ fn other_words_are_unbuilt<R: Threads + Wait + Sync + Abort>(
     Ok(())
 }
 
-/// Profiles, and bookings where they stand, of which one isn't plain.
-const OTHER_INPUTS: &[(&[u8], Option<&[u8]>)] = &[
-    (b"", Some(CARGO)),
-    (b"", None),
-    (b"name = \"\xff\"", Some(CARGO)),
-    (SHIP, Some(b"")),
-    (SHIP, Some(LATER_ON_EARLIER)),
+/// A ship with a reefer plug.
+const PLUGGED: &[u8] = b"name = \"V\"
+stack = [{ bay = 2, row = 1, tiers = [82], lengths = \"40\", limit_kg = 1000000, plugs = [82] }]
+";
+
+/// A container of 20 foot.
+const TWENTY: &[u8] = b"vessel = \"V\"
+voyage = \"1\"
+date = \"2601010000\"
+rotation = [\"AAAAA\", \"BBBBB\"]
+container = [{ id = \"AAAU0000001\", from = 1, to = 2, type = \"22G1\", kg = 10000 }]
+";
+
+/// Profiles and bookings that are accepted and not plain, and bookings for which the loader's rule finds no plans.
+const OTHER_INPUTS: &[(&[u8], &[u8])] = &[
+    (PLUGGED, CARGO),
+    (SHIP, TWENTY),
+    (SHIP, LATER_ON_EARLIER),
 ];
 
 fn other_inputs_are_unbuilt<R: Threads + Wait + Sync + Abort>(
@@ -351,16 +362,87 @@ fn other_inputs_are_unbuilt<R: Threads + Wait + Sync + Abort>(
     for (profile, bookings) in OTHER_INPUTS {
         let case = Case {
             profile: Some(*profile),
-            bookings: *bookings,
+            bookings: Some(*bookings),
             ..UNBUILT
+        };
+        run(rt, alloc, &case)?;
+    }
+    Ok(())
+}
+
+/// Profiles that are refused, and the lines that say why.
+const BAD_PROFILES: &[(&[u8], &[u8])] = &[
+    (b"", b"refused profile 2 name 0\n"),
+    (b"name = \"\xff\"", b"refused profile 1\n"),
+    (
+        b"name = \"V\"\nweight_step = 0\n",
+        b"refused profile 3 weight_step 0\n",
+    ),
+    (
+        b"name = \"V\"\nstack = [{ bay = 2, row = 1, tiers = [82, 86], lengths = \"40\", limit_kg = 1000 }]\n",
+        b"refused profile 4 1\n",
+    ),
+];
+
+fn refused_profiles_are_told<R: Threads + Wait + Sync + Abort>(
+    rt: &R,
+    alloc: Global,
+) -> Result<(), Fail> {
+    for (profile, printed) in BAD_PROFILES {
+        let case = Case {
+            profile: Some(*profile),
+            bookings: None,
+            status: Status::Input,
+            printed: *printed,
+            ..UNWRITTEN
+        };
+        run(rt, alloc, &case)?;
+    }
+    Ok(())
+}
+
+/// A container that leaves at its own call.
+const STANDS: &[u8] = b"vessel = \"V\"
+voyage = \"1\"
+date = \"2601010000\"
+rotation = [\"AAAAA\", \"BBBBB\"]
+container = [{ id = \"AAAU0000001\", from = 2, to = 2, type = \"42G1\", kg = 10000 }]
+";
+
+/// Thirteen calls.
+const LONG: &[u8] = b"vessel = \"V\"
+voyage = \"1\"
+date = \"2601010000\"
+rotation = [\"A\", \"B\", \"A\", \"B\", \"A\", \"B\", \"A\", \"B\", \"A\", \"B\", \"A\", \"B\", \"A\"]
+";
+
+/// Bookings that are refused, with the status and the line.
+const BAD_BOOKINGS: &[(&[u8], Status, &[u8])] = &[
+    (b"", Status::Input, b"refused bookings 2 vessel 0\n"),
+    (STANDS, Status::Input, b"refused bookings 4 1\n"),
+    (LONG, Status::Large, b"refused large 1 13\n"),
+];
+
+fn refused_bookings_are_told<R: Threads + Wait + Sync + Abort>(
+    rt: &R,
+    alloc: Global,
+) -> Result<(), Fail> {
+    for (bookings, status, printed) in BAD_BOOKINGS {
+        let case = Case {
+            profile: Some(PLUGGED),
+            bookings: Some(*bookings),
+            status: *status,
+            printed: *printed,
+            ..UNWRITTEN
         };
         run(rt, alloc, &case)?;
     }
     let silent = Case {
         profile: Some(b""),
         refused: &[1],
+        status: Status::Input,
         printed: b"",
-        ..UNBUILT
+        ..UNWRITTEN
     };
     run(rt, alloc, &silent)?;
     Ok(())
@@ -504,184 +586,60 @@ UNT+14+1'
 UNZ+1+1'
 ";
 
-#[test]
-fn a_group_is_written_as_printed(rt: HostRuntime) -> Result<(), Fail> {
-    let alloc = rt.alloc();
-    let words = words_of(alloc, PLAN)?;
-    let mut folder = MemFolder::new(alloc, numbers_of(alloc, &[])?);
-    folder.lay("ship.toml", SHIP)?;
-    folder.lay("cargo.toml", ONE)?;
-    let mut out = MemSink::new(alloc, 1000, numbers_of(alloc, &[])?)?;
-    let status = stow(&rt, alloc, &words, &mut folder, &mut out, &NoGate);
-    assert_eq!(rt; status, Status::Fine);
-    let file = folder.file("X-01.edi").ok_or("no file")?;
-    assert_eq!(rt; file.as_slice(), ONE_FIRST);
-    Ok(())
-}
-
-/// A stack of one tier, for which two containers are booked.
-const NARROW: &[u8] = b"name = \"V\"
-[[stack]]
-bay = 2
-row = 1
-tiers = [82]
-lengths = \"40\"
-limit_kg = 1000000
-";
-
-const TWO: &[u8] = b"vessel = \"V\"
+/// One container with all that bookings can say of a plain one.
+const TOLD: &[u8] = b"vessel = \"V\"
 voyage = \"1\"
+sender = \"LINE\"
+recipient = \"PORT, 1\"
 date = \"2601010000\"
 rotation = [\"AAAAA\", \"BBBBB\"]
 container = [
-  { id = \"AAAU0000001\", from = 1, to = 2, type = \"42G1\", kg = 10000 },
-  { id = \"AAAU0000002\", from = 1, to = 2, type = \"42G1\", kg = 10000 },
+  { id = \"AAAU0000001\", from = 1, to = 2, type = \"42G1\", kg = 10000, vgm = true, empty = true, class = \"2.1\", unno = 75 },
 ]
 ";
 
-/// Certificates for the two containers, and what a check answers.
-const CHECKS: &[(&[u8], Status, &[u8])] = &[
-    (
-        b"stow-cert 1\noutcome no-plan\nrehandles none\nbound 3\nnodes 1\nn 0\nr 33 flow 0 1 0\nl\nend\n",
-        Status::Fine,
-        b"bound 3\n",
-    ),
-    (
-        b"stow-cert 1\noutcome no-plan\nrehandles none\nbound 3\nnodes 1\nn 0\nr 32 flow 0 1 0\nl\nend\n",
-        Status::No,
-        b"check no bound 4 1 32 33\n",
-    ),
-    (
-        b"stow-cert 1\noutcome no-plan\nrehandles none\nbound 3\nnodes 1\nn 0\nr -1 flow 0 1 0\nl\nend\n",
-        Status::No,
-        b"check no bound 1 1\n",
-    ),
-    (
-        b"stow-cert 1\noutcome no-plan\nrehandles none\nbound 3\nnodes 1\nn 0\nr 1 flow 0 1 7\nl\nend\n",
-        Status::No,
-        b"check no bound 2 1\n",
-    ),
-    (
-        b"stow-cert 1\noutcome no-plan\nrehandles none\nbound 4\nnodes 1\nn 0\nl\nend\n",
-        Status::Unbuilt,
-        b"unbuilt\n",
-    ),
-    (
-        b"stow-cert 1\noutcome no-plan\nrehandles none\nbound 3\nnodes 1\nn 0\no\nend\n",
-        Status::Unbuilt,
-        b"unbuilt\n",
-    ),
-    (
-        b"stow-cert 1\noutcome no-plan\nrehandles none\nbound 3\nnodes 1\nn 0\nr 1 weight 1 0\nl\nend\n",
-        Status::Unbuilt,
-        b"unbuilt\n",
-    ),
-    (
-        b"stow-cert 1\noutcome no-plan\nrehandles none\nbound 3\nnodes 1\nn 0\nr 33 flow 0 1 0\nl\n",
-        Status::No,
-        b"check no cert 4\n",
-    ),
-    (
-        b"stow-cert 1\noutcome no-plan\nrehandles 3\n",
-        Status::No,
-        b"check no cert 2 3\n",
-    ),
-    (b"", Status::No, b"check no cert 1\n"),
-];
-
-fn certificates_are_checked<R: Threads + Wait + Sync + Abort>(
-    rt: &R,
-    alloc: Global,
-) -> Result<(), Fail> {
-    let words = words_of(alloc, &["stow", "check", "ship.toml", "cargo.toml", "X"])?;
-    for (text, wanted, printed) in CHECKS {
-        let mut folder = MemFolder::new(alloc, numbers_of(alloc, &[])?);
-        folder.lay("ship.toml", NARROW)?;
-        folder.lay("cargo.toml", TWO)?;
-        folder.lay("X.cert", *text)?;
-        let mut out = MemSink::new(alloc, 1000, numbers_of(alloc, &[])?)?;
-        let status = stow(rt, alloc, &words, &mut folder, &mut out, &NoGate);
-        assert_eq!(rt; status, *wanted);
-        assert_eq!(rt; out.text().as_slice(), *printed);
-    }
-    Ok(())
-}
-
-fn a_missing_certificate_is_named<R: Threads + Wait + Sync + Abort>(
-    rt: &R,
-    alloc: Global,
-) -> Result<(), Fail> {
-    let words = words_of(alloc, &["stow", "check", "ship.toml", "cargo.toml", "X"])?;
-    let mut folder = MemFolder::new(alloc, numbers_of(alloc, &[])?);
-    folder.lay("ship.toml", NARROW)?;
-    folder.lay("cargo.toml", TWO)?;
-    let mut out = MemSink::new(alloc, 1000, numbers_of(alloc, &[])?)?;
-    let status = stow(rt, alloc, &words, &mut folder, &mut out, &NoGate);
-    assert_eq!(rt; status, Status::Fault);
-    assert_eq!(rt; out.text().as_slice(), b"fault read X.cert\n".as_slice());
-    Ok(())
-}
-
-/// A bay plan of one container and an empty cell.
-const BAY_PLAN: &[u8] = b"UNB+UNOA:2+LINE+SHIP+260131:0900+77'
+const TOLD_FIRST: &[u8] = b"UNB+UNOA:2+LINE+PORT, 1+260101:0000+1'
 UNH+1+BAPLIE:D:95B:UN:SMDG22'
-BGM++PLAN1+9'
-LOC+147+0020102::5'
-FTX+AAI+++O?'NEIL ?+ CO'
-MEA+VGM++KGM:21999.5'
-LOC+11+DEHAM:139:6'
-EQD+CN+ABCU1234567+42G1+++5'
-LOC+147+0020104::5'
-UNT+9+1'
-UNZ+1+77'
+BGM++1+9'
+DTM+137:2601010000:201'
+TDT+20+1++++++:::V'
+LOC+5+AAAAA:139:6'
+LOC+61+BBBBB:139:6'
+DTM+133:2601010000:201'
+LOC+147+0020182::5'
+MEA+VGM++KGM:10000'
+LOC+9+AAAAA:139:6'
+LOC+11+BBBBB:139:6'
+RFF+BM:1'
+EQD+CN+AAAU0000001+42G1+++4'
+DGS+IMD+2.1+0075'
+UNT+15+1'
+UNZ+1+1'
 ";
 
-/// Bay plans, and what is shown of them.
-const SHOWN: &[(&[u8], Status, &[u8])] = &[
-    (
-        BAY_PLAN,
-        Status::Fine,
-        b"0020102 ABCU1234567 40 DEHAM 22000\n0020104 empty\ncontainers 1\nkilograms 22000\n",
-    ),
-    (b"", Status::Input, b"refused edifact 1\n"),
-    (
-        b"UNB+UNOA:2+A+B+260131:0900+7'\n",
-        Status::Input,
-        b"refused edifact 6 1\n",
-    ),
-    (
-        b"UNB+UNOA:2+A+B+260131:0900+7'\nUNH+1",
-        Status::Input,
-        b"refused edifact 3 30\n",
-    ),
-    (
-        b"UNB+UNOA:2+A+B+260131:0900+7'\nUNH+1+BAPLIE:D:95B:UN:SMDG22'\nUNT+3+1'\nUNZ+1+7'\n",
-        Status::Input,
-        b"refused baplie 15 3 3 2\n",
-    ),
-];
-
-fn bay_plans_are_shown<R: Threads + Wait + Sync + Abort>(
+/// The departure file of call 1 for these bookings.
+fn first_file_is<R: Threads + Wait + Sync + Abort>(
     rt: &R,
     alloc: Global,
+    bookings: &[u8],
+    wanted: &[u8],
 ) -> Result<(), Fail> {
-    let words = words_of(alloc, &["stow", "show", "P"])?;
-    for (text, wanted, printed) in SHOWN {
-        let mut folder = MemFolder::new(alloc, numbers_of(alloc, &[])?);
-        folder.lay("P", *text)?;
-        let mut out = MemSink::new(alloc, 1000, numbers_of(alloc, &[])?)?;
-        let status = stow(rt, alloc, &words, &mut folder, &mut out, &NoGate);
-        assert_eq!(rt; status, *wanted);
-        assert_eq!(rt; out.text().as_slice(), *printed);
-    }
+    let words = words_of(alloc, PLAN)?;
+    let mut folder = MemFolder::new(alloc, numbers_of(alloc, &[])?);
+    folder.lay("ship.toml", SHIP)?;
+    folder.lay("cargo.toml", bookings)?;
+    let mut out = MemSink::new(alloc, 1000, numbers_of(alloc, &[])?)?;
+    let status = stow(rt, alloc, &words, &mut folder, &mut out, &NoGate);
+    assert_eq!(rt; status, Status::Fine);
+    let file = folder.file("X-01.edi").ok_or("no file")?;
+    assert_eq!(rt; file.as_slice(), wanted);
     Ok(())
 }
 
 #[test]
-fn files_are_looked_at(rt: HostRuntime) -> Result<(), Fail> {
-    certificates_are_checked(&rt, rt.alloc())?;
-    a_missing_certificate_is_named(&rt, rt.alloc())?;
-    bay_plans_are_shown(&rt, rt.alloc())?;
+fn a_group_is_written_as_printed(rt: HostRuntime) -> Result<(), Fail> {
+    first_file_is(&rt, rt.alloc(), ONE, ONE_FIRST)?;
+    first_file_is(&rt, rt.alloc(), TOLD, TOLD_FIRST)?;
     Ok(())
 }
 
@@ -699,6 +657,8 @@ fn voyages_are_planned(rt: HostRuntime) -> Result<(), Fail> {
 fn nothing_is_written(rt: HostRuntime) -> Result<(), Fail> {
     other_words_are_unbuilt(&rt, rt.alloc())?;
     other_inputs_are_unbuilt(&rt, rt.alloc())?;
+    refused_profiles_are_told(&rt, rt.alloc())?;
+    refused_bookings_are_told(&rt, rt.alloc())?;
     a_failed_profile_is_named(&rt, rt.alloc())?;
     failed_bookings_are_named(&rt, rt.alloc())?;
     a_failed_first_write_is_named(&rt, rt.alloc())?;

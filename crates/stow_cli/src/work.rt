@@ -2,15 +2,17 @@
 ghost use Rattle.std.specs.Prelude.{◌≡◌, ◌<◌, ◌≤◌, ◌+◌, ◌++◌, ◌∷◌, [], IfOk, IfSome, length, All};
 ghost use Rattle.stow_data.specs.Ship.{places};
 ghost use Rattle.plan_files.specs.DepartureFile.{IsKnown};
-ghost use Rattle.plain_voyages.specs.Plain.{IsPlainShip};
-ghost use Rattle.plain_inputs.specs.PlainBookings.{IsBookings, plain_cargo};
+ghost use Rattle.stow_cli.specs.Inputs.{IsPlain};
+ghost use Rattle.bookings.specs.Rules.{IsBookings};
+ghost use Rattle.plain_inputs.specs.Booked.{booked_cargo};
 ghost use Rattle.stow_cli.specs.Voyages.{Sails};
 ghost use Rattle.stow_cli.specs.Work.{file_name, file_of, files_of, all_files, cert_name, cert_file, head, leaf, work_for};
 
 use crate::writing::{FileList, NamedFile};
+use bookings::Bookings;
 use certificate::{End, Head, Outcome, Record, Tree, write_cert};
 use greedy_loader::load;
-use plain_inputs::{Bookings, cargo_of};
+use plain_inputs::cargo_of;
 use plan_messages::departure_text;
 use std::alloc::Global;
 use stow_data::{Bytes, Cargo, NoMemory, Plan, Ship, Word};
@@ -43,8 +45,8 @@ fn file_of(
     plan: &Plan,
     call: u32,
 ) -> Result<NamedFile, NoMemory>
-    requires plain { IsBookings bookings.now }
-    requires cargo { cargo.now ≡ plain_cargo ship.now bookings.now }
+    requires rules { IsBookings bookings.now }
+    requires cargo { cargo.now ≡ booked_cargo ship.now bookings.now }
     requires departs { call < length cargo.now.rotation }
     requires whole { length plan.now ≡ length (places ship.now) }
     requires known { IsKnown cargo.now plan.now }
@@ -65,8 +67,8 @@ fn files_of(
     bookings: &Bookings,
     plans: &[Plan],
 ) -> Result<FileList, NoMemory>
-    requires plain { IsBookings bookings.now }
-    requires cargo { cargo.now ≡ plain_cargo ship.now bookings.now }
+    requires rules { IsBookings bookings.now }
+    requires cargo { cargo.now ≡ booked_cargo ship.now bookings.now }
     requires departs { length plans.now < length cargo.now.rotation }
     requires whole { All (λ plan. length plan ≡ length (places ship.now)) plans.now }
     requires known { All (IsKnown cargo.now) plans.now }
@@ -129,8 +131,8 @@ fn all_files(
     bookings: &Bookings,
     plans: &[Plan],
 ) -> Result<FileList, NoMemory>
-    requires plain { IsBookings bookings.now }
-    requires cargo { cargo.now ≡ plain_cargo ship.now bookings.now }
+    requires rules { IsBookings bookings.now }
+    requires cargo { cargo.now ≡ booked_cargo ship.now bookings.now }
     requires departs { length plans.now < length cargo.now.rotation }
     requires whole { All (λ plan. length plan ≡ length (places ship.now)) plans.now }
     requires known { All (IsKnown cargo.now) plans.now }
@@ -148,8 +150,8 @@ pub fn work_of(
     ship: &Ship,
     bookings: &Bookings,
 ) -> Result<Option<Work>, NoMemory>
-    requires plain_ship { IsPlainShip ship.now }
-    requires plain_bookings { IsBookings bookings.now }
+    requires plain { IsPlain ship.now bookings.now }
+    requires rules { IsBookings bookings.now }
     ensures work { IfOk result (λ work. work ≡ work_for base.now ship.now bookings.now) }
     ensures sails { IfOk result (λ work. IfSome work (Sails base.now ship.now bookings.now)) }
 {
