@@ -311,6 +311,29 @@ fn an_empty_ship_is_planned<R: Threads + Wait + Sync + Abort>(
     Ok(())
 }
 
+/// Twelve calls and no container.
+const TWELVE: &[u8] = b"vessel = \"V\"
+voyage = \"1\"
+date = \"2601010000\"
+rotation = [\"A\", \"B\", \"A\", \"B\", \"A\", \"B\", \"A\", \"B\", \"A\", \"B\", \"A\", \"B\"]
+";
+
+fn twelve_calls_have_eleven_files<R: Threads + Wait + Sync + Abort>(
+    rt: &R,
+    alloc: Global,
+) -> Result<(), Fail> {
+    let words = words_of(alloc, PLAN)?;
+    let mut folder = MemFolder::new(alloc, numbers_of(alloc, &[])?);
+    folder.lay("ship.toml", SHIP)?;
+    folder.lay("cargo.toml", TWELVE)?;
+    let mut out = MemSink::new(alloc, 1000, numbers_of(alloc, &[])?)?;
+    let status = stow(rt, alloc, &words, &mut folder, &mut out, &NoGate);
+    assert_eq!(rt; status, Status::Fine);
+    assert!(rt; folder.file("X-11.edi").is_some());
+    assert!(rt; folder.file("X-12.edi").is_none());
+    Ok(())
+}
+
 /// Words that aren't taken.
 const OTHER_WORDS: &[&[&str]] = &[
     &[],
@@ -340,6 +363,23 @@ const PLUGGED: &[u8] = b"name = \"V\"
 stack = [{ bay = 2, row = 1, tiers = [82], lengths = \"40\", limit_kg = 1000000, plugs = [82] }]
 ";
 
+/// A stack of two tiers, whose limit two containers of 99,999 kg, rounded up to the step, pass by a kilogram.
+const LOW: &[u8] = b"name = \"V\"
+weight_step = 500
+stack = [{ bay = 2, row = 1, tiers = [82, 84], lengths = \"40\", limit_kg = 199999 }]
+";
+
+/// A hatch cover over the hold, with nothing on it.
+const COVERED: &[u8] = b"name = \"V\"
+stack = [{ bay = 2, row = 1, tiers = [2], lengths = \"40\", limit_kg = 1000000 }]
+cover = [{ under = [[2, 1]], on = [] }]
+";
+
+const SEPARATED: &[u8] = b"name = \"V\"
+stack = [{ bay = 2, row = 1, tiers = [82], lengths = \"40\", limit_kg = 1000000 }]
+separate = [{ a = \"3\", b = \"8\", level = 2 }]
+";
+
 /// A container of 20 foot.
 const TWENTY: &[u8] = b"vessel = \"V\"
 voyage = \"1\"
@@ -351,6 +391,9 @@ container = [{ id = \"AAAU0000001\", from = 1, to = 2, type = \"22G1\", kg = 100
 /// Profiles and bookings that are accepted and not plain, and bookings for which the loader's rule finds no plans.
 const OTHER_INPUTS: &[(&[u8], &[u8])] = &[
     (PLUGGED, CARGO),
+    (LOW, CARGO),
+    (COVERED, CARGO),
+    (SEPARATED, CARGO),
     (SHIP, TWENTY),
     (SHIP, LATER_ON_EARLIER),
 ];
@@ -370,18 +413,24 @@ fn other_inputs_are_unbuilt<R: Threads + Wait + Sync + Abort>(
     Ok(())
 }
 
+/// A second stack whose tiers don't rise by 2.
+const GAP: &[u8] = b"name = \"V\"
+stack = [
+  { bay = 2, row = 1, tiers = [82], lengths = \"40\", limit_kg = 1000000 },
+  { bay = 6, row = 1, tiers = [82, 86], lengths = \"40\", limit_kg = 1000000 },
+]
+";
+
 /// Profiles that are refused, and the lines that say why.
 const BAD_PROFILES: &[(&[u8], &[u8])] = &[
     (b"", b"refused profile 2 name 0\n"),
     (b"name = \"\xff\"", b"refused profile 1\n"),
+    (b"name", b"refused profile 1\n"),
     (
         b"name = \"V\"\nweight_step = 0\n",
         b"refused profile 3 weight_step 0\n",
     ),
-    (
-        b"name = \"V\"\nstack = [{ bay = 2, row = 1, tiers = [82, 86], lengths = \"40\", limit_kg = 1000 }]\n",
-        b"refused profile 4 1\n",
-    ),
+    (GAP, b"refused profile 4 2\n"),
 ];
 
 fn refused_profiles_are_told<R: Threads + Wait + Sync + Abort>(
@@ -409,6 +458,20 @@ rotation = [\"AAAAA\", \"BBBBB\"]
 container = [{ id = \"AAAU0000001\", from = 2, to = 2, type = \"42G1\", kg = 10000 }]
 ";
 
+/// Five containers, of which the last has the first's id.
+const TWICE: &[u8] = b"vessel = \"V\"
+voyage = \"1\"
+date = \"2601010000\"
+rotation = [\"AAAAA\", \"BBBBB\"]
+container = [
+  { id = \"A\", from = 1, to = 2, type = \"42G1\", kg = 1 },
+  { id = \"B\", from = 1, to = 2, type = \"42G1\", kg = 1 },
+  { id = \"C\", from = 1, to = 2, type = \"42G1\", kg = 1 },
+  { id = \"D\", from = 1, to = 2, type = \"42G1\", kg = 1 },
+  { id = \"A\", from = 1, to = 2, type = \"42G1\", kg = 1 },
+]
+";
+
 /// Thirteen calls.
 const LONG: &[u8] = b"vessel = \"V\"
 voyage = \"1\"
@@ -420,6 +483,7 @@ rotation = [\"A\", \"B\", \"A\", \"B\", \"A\", \"B\", \"A\", \"B\", \"A\", \"B\"
 const BAD_BOOKINGS: &[(&[u8], Status, &[u8])] = &[
     (b"", Status::Input, b"refused bookings 2 vessel 0\n"),
     (STANDS, Status::Input, b"refused bookings 4 1\n"),
+    (TWICE, Status::Input, b"refused bookings 6 5\n"),
     (LONG, Status::Large, b"refused large 1 13\n"),
 ];
 
@@ -649,6 +713,7 @@ fn voyages_are_planned(rt: HostRuntime) -> Result<(), Fail> {
     a_failed_second_write_is_named(&rt, rt.alloc())?;
     a_failed_report_is_a_fault(&rt, rt.alloc())?;
     an_empty_ship_is_planned(&rt, rt.alloc())?;
+    twelve_calls_have_eleven_files(&rt, rt.alloc())?;
     a_feeder_is_planned(&rt, rt.alloc())?;
     Ok(())
 }
