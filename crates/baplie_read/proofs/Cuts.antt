@@ -1,7 +1,6 @@
 -- How the body of a message is cut into its head and its groups.
-use Rattle.std.proofs.Common.{◌≡◌, ℕ, suc, ◌+◌, ◌-◌, ◌≤◌, ◌<◌, arith, refl, sym, ap, subst, cond, not, Bool, true, false, List, [], ◌∷◌, ◌++◌, length, take, drop, map, Some, None, ◌∙◌, append_assoc}
+use Rattle.std.proofs.Common.{◌≡◌, ℕ, suc, ◌+◌, ◌-◌, ◌≤◌, ◌<◌, arith, refl, sym, ap, subst, cond, not, Bool, true, false, List, [], ◌∷◌, ◌++◌, length, take, drop, map, Some, None, ◌∙◌, append_assoc, length-drop, length-take}
 use Rattle.std.proofs.lemmas.List.{append-nil, drop_all, drop-drop}
-use Rattle.std.proofs.Common.{length-drop, length-take}
 use Rattle.std.specs.List.{position_or_len}
 use Rattle.std.specs.Option.{option_or}
 use Rattle.edifact_segments.specs.declared.segments.Segment.{Segment}

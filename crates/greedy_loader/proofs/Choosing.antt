@@ -7,11 +7,12 @@ use Rattle.stow_data.specs.declared.geometry.Place.{Place}
 use Rattle.stow_data.specs.Ship.{Ship, places}
 use Rattle.stow_data.specs.Shipment.{Cargo}
 use Rattle.plain_voyages.specs.Plain.{IsForty}
-use Rattle.greedy_loader.specs.Loader.{Stowage, held, is_below, is_directly_below, is_open, is_clean, is_lifted, leaves_at, leaves_before}
+use Rattle.stow_data.specs.Plans.{Plan, held}
+use Rattle.greedy_loader.specs.Loader.{is_below, is_directly_below, is_open, is_clean, is_lifted, leaves_at, leaves_before}
 use Rattle.greedy_loader.proofs.Columns.{place_is, same_place, lower_place, stack_of, tier_of}
 use Rattle.greedy_loader.proofs.Ranges.{every_from, every_fails, some_from, some_fails}
 
-pub held_is : (plan : Stowage) (p : ℕ) (o : Option ℕ) → slice_get plan p ≡ Some o → held plan p ≡ o
+pub held_is : (plan : Plan) (p : ℕ) (o : Option ℕ) → slice_get plan p ≡ Some o → held plan p ≡ o
 held_is plan p o h = get_or_from_slice_get plan p o None h
 
 none_not : (o : Option ℕ) → is_some o ≡ true → is_none o ≡ false
@@ -57,16 +58,16 @@ below_at ship p k f l t =
 pub tier_number : (ship : Ship) (p : ℕ) → IsForty ship → p < length (places ship) → tier_of ship p ≤ p
 tier_number ship p f l = let low = lower_place ship p (tier_of ship p) f l (omega arith) in low.number
 
-pub open_filled : (ship : Ship) (plan : Stowage) (p : ℕ) → is_some (held plan p) ≡ true → is_open ship plan p ≡ false
+pub open_filled : (ship : Ship) (plan : Plan) (p : ℕ) → is_some (held plan p) ≡ true → is_open ship plan p ≡ false
 unfolding is_open
 open_filled ship plan p h = and_left _ _ (none_not (held plan p) h)
 
-pub open_floor : (ship : Ship) (plan : Stowage) (p : ℕ) → IsForty ship → p < length (places ship) → is_some (held plan p) ≡ false → tier_of ship p ≡ 0 → is_open ship plan p ≡ true
+pub open_floor : (ship : Ship) (plan : Plan) (p : ℕ) → IsForty ship → p < length (places ship) → is_some (held plan p) ≡ false → tier_of ship p ≡ 0 → is_open ship plan p ≡ true
 unfolding is_open
 open_floor ship plan p f l h t = and_from _ _ (not_none (held plan p) h)
     (every_from _ 0 (length (places ship)) (λ q i j. or_left _ _ (not_from_false _ (false_from_ne_true _ (λ (d : is_directly_below ship q p ≡ true). let n : tier_of ship q + 1 ≡ tier_of ship p = eqb-true _ _ (and_parts (stack_of ship q == stack_of ship p) (tier_of ship q + 1 == tier_of ship p) d).1 in absurd (omega arith))))))
 
-open_above_true : (ship : Ship) (plan : Stowage) (p : ℕ) → IsForty ship → p < length (places ship) → is_some (held plan p) ≡ false → 0 < tier_of ship p → is_some (held plan (p - 1)) ≡ true → is_open ship plan p ≡ true
+open_above_true : (ship : Ship) (plan : Plan) (p : ℕ) → IsForty ship → p < length (places ship) → is_some (held plan p) ≡ false → 0 < tier_of ship p → is_some (held plan (p - 1)) ≡ true → is_open ship plan p ≡ true
 unfolding is_open
 open_above_true ship plan p f l h t b = and_from _ _ (not_none (held plan p) h)
     (every_from _ 0 (length (places ship)) (λ q i j. ⊎_elim
@@ -74,19 +75,19 @@ open_above_true ship plan p f l h t b = and_from _ _ (not_none (held plan p) h)
     (λ (d : is_directly_below ship q p ≡ false). or_left _ _ (not_from_false _ d))
     (cases_Bool (is_directly_below ship q p))))
 
-open_above_false : (ship : Ship) (plan : Stowage) (p : ℕ) → IsForty ship → p < length (places ship) → 0 < tier_of ship p → is_some (held plan (p - 1)) ≡ false → is_open ship plan p ≡ false
+open_above_false : (ship : Ship) (plan : Plan) (p : ℕ) → IsForty ship → p < length (places ship) → 0 < tier_of ship p → is_some (held plan (p - 1)) ≡ false → is_open ship plan p ≡ false
 unfolding is_open
 open_above_false ship plan p f l t b =
     let low = lower_place ship p 1 f l (omega arith) in
     and_right _ _ (every_fails _ 0 (length (places ship)) (p - 1) (omega arith) (omega (arith, low.within)) (or_from _ _ (not_from_true _ (directly_below ship p f l t)) b))
 
-pub open_above : (ship : Ship) (plan : Stowage) (p : ℕ) → IsForty ship → p < length (places ship) → is_some (held plan p) ≡ false → 0 < tier_of ship p → is_open ship plan p ≡ is_some (held plan (p - 1))
+pub open_above : (ship : Ship) (plan : Plan) (p : ℕ) → IsForty ship → p < length (places ship) → is_some (held plan p) ≡ false → 0 < tier_of ship p → is_open ship plan p ≡ is_some (held plan (p - 1))
 open_above ship plan p f l h t = ⊎_elim
     (λ (b : is_some (held plan (p - 1)) ≡ true). open_above_true ship plan p f l h t b ∙ sym b)
     (λ (b : is_some (held plan (p - 1)) ≡ false). open_above_false ship plan p f l t b ∙ sym b)
     (cases_Bool (is_some (held plan (p - 1))))
 
-pub clean_from : (ship : Ship) (cargo : Cargo) (plan : Stowage) (dest p : ℕ) → IsForty ship → p < length (places ship) → ((k : ℕ) → k < tier_of ship p → leaves_before cargo dest (held plan (p - k - 1)) ≡ false) → is_clean ship cargo plan dest p ≡ true
+pub clean_from : (ship : Ship) (cargo : Cargo) (plan : Plan) (dest p : ℕ) → IsForty ship → p < length (places ship) → ((k : ℕ) → k < tier_of ship p → leaves_before cargo dest (held plan (p - k - 1)) ≡ false) → is_clean ship cargo plan dest p ≡ true
 unfolding is_clean
 clean_from ship cargo plan dest p f l h = every_from _ 0 (length (places ship)) (λ q i j. ⊎_elim
     (λ (d : is_below ship q p ≡ true).
@@ -96,13 +97,13 @@ clean_from ship cargo plan dest p f l h = every_from _ 0 (length (places ship)) 
     (λ (d : is_below ship q p ≡ false). or_left _ _ (not_from_false _ d))
     (cases_Bool (is_below ship q p)))
 
-pub clean_fails : (ship : Ship) (cargo : Cargo) (plan : Stowage) (dest p k : ℕ) → IsForty ship → p < length (places ship) → k < tier_of ship p → leaves_before cargo dest (held plan (p - k - 1)) ≡ true → is_clean ship cargo plan dest p ≡ false
+pub clean_fails : (ship : Ship) (cargo : Cargo) (plan : Plan) (dest p k : ℕ) → IsForty ship → p < length (places ship) → k < tier_of ship p → leaves_before cargo dest (held plan (p - k - 1)) ≡ true → is_clean ship cargo plan dest p ≡ false
 unfolding is_clean
 clean_fails ship cargo plan dest p k f l t h =
     let low = lower_place ship p (k + 1) f l (omega arith) in
     every_fails _ 0 (length (places ship)) (p - k - 1) (omega arith) (omega (arith, low.within)) (or_from _ _ (not_from_true _ (below_at ship p k f l t)) (not_from_true _ h))
 
-pub lifted_at : (ship : Ship) (cargo : Cargo) (plan : Stowage) (call p k : ℕ) → IsForty ship → p < length (places ship) → k ≤ tier_of ship p → leaves_at cargo call (held plan (p - k)) ≡ true → is_lifted ship cargo plan call p ≡ true
+pub lifted_at : (ship : Ship) (cargo : Cargo) (plan : Plan) (call p k : ℕ) → IsForty ship → p < length (places ship) → k ≤ tier_of ship p → leaves_at cargo call (held plan (p - k)) ≡ true → is_lifted ship cargo plan call p ≡ true
 lifted_at ship cargo plan call p zero f l t h =
     let e : p - 0 ≡ p = omega arith in
     some_from _ 0 (length (places ship)) p (omega arith) (omega arith) (and_from _ _ (or_left _ _ (eq-eqb p p refl)) (subst (λ (z : ℕ). leaves_at cargo call (held plan z) ≡ true) e h))
@@ -112,7 +113,7 @@ lifted_at ship cargo plan call p (suc k) f l t h =
     some_from _ 0 (length (places ship)) (p - suc k) (omega arith) (omega (arith, low.within))
     (and_from _ _ (or_right _ _ (subst (λ (z : ℕ). is_below ship z p ≡ true) (sym e) (below_at ship p k f l (omega arith)))) h)
 
-pub lifted_none : (ship : Ship) (cargo : Cargo) (plan : Stowage) (call p : ℕ) → IsForty ship → p < length (places ship) → ((k : ℕ) → k < tier_of ship p + 1 → leaves_at cargo call (held plan (p - k)) ≡ false) → is_lifted ship cargo plan call p ≡ false
+pub lifted_none : (ship : Ship) (cargo : Cargo) (plan : Plan) (call p : ℕ) → IsForty ship → p < length (places ship) → ((k : ℕ) → k < tier_of ship p + 1 → leaves_at cargo call (held plan (p - k)) ≡ false) → is_lifted ship cargo plan call p ≡ false
 lifted_none ship cargo plan call p f l h = some_fails _ 0 (length (places ship)) (λ q i j. false_from_ne_true _ (λ t.
     let a = and_parts _ _ t in
     ⊎_elim

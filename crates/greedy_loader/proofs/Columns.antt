@@ -12,7 +12,7 @@ use Rattle.stow_data.specs.declared.geometry.Span.TheVariants.{Both}
 use Rattle.stow_data.specs.Ship.{Ship, places, spans, stack_places, tier_places}
 use Rattle.stow_data.proofs.Listed.{place_from}
 use Rattle.plain_voyages.specs.Plain.{IsForty}
-use Rattle.greedy_loader.specs.Loader.{place_at, no_place}
+use Rattle.stow_data.specs.Plans.{place_at, no_place}
 
 pub split_get : {X : Type 0} (xs ys : List X) (k : ℕ) (z : X) → slice_get (xs ++ ys) k ≡ Some z → ((k < length xs) × (slice_get xs k ≡ Some z)) ⊎ ((j : ℕ) × (k ≡ length xs + j) × (slice_get ys j ≡ Some z))
 split_get [] ys k z h = inr (k, omega arith, h)

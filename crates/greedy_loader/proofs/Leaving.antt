@@ -8,14 +8,15 @@ use Rattle.stow_data.specs.Ship.{Ship, places}
 use Rattle.stow_data.specs.Shipment.{Cargo}
 use Rattle.voyage_specs.specs.Plan.{Holds}
 use Rattle.plain_voyages.specs.Plain.{IsForty}
-use Rattle.greedy_loader.specs.Loader.{Stowage, held, is_below, is_lifted, is_rehandled, has_rehandle, leaves_at, staying, discharged}
+use Rattle.stow_data.specs.Plans.{Plan, held}
+use Rattle.greedy_loader.specs.Loader.{is_below, is_lifted, is_rehandled, has_rehandle, leaves_at, staying, discharged}
 use Rattle.greedy_loader.proofs.Columns.{lower_place}
 use Rattle.greedy_loader.proofs.Ranges.{some_from}
 use Rattle.greedy_loader.proofs.Choosing.{held_is}
 use Rattle.greedy_loader.proofs.Sound.{IsSound}
 
 -- below what stays, nothing leaves
-pub nothing_below : (ship : Ship) (cargo : Cargo) (plan : Stowage) (call p q c d : ℕ) → has_rehandle ship cargo plan call ≡ false → p < length (places ship) → q < length (places ship) → Holds plan p c → Holds plan q d → is_below ship q p ≡ true → leaves_at cargo call (Some c) ≡ false → leaves_at cargo call (Some d) ≡ false
+pub nothing_below : (ship : Ship) (cargo : Cargo) (plan : Plan) (call p q c d : ℕ) → has_rehandle ship cargo plan call ≡ false → p < length (places ship) → q < length (places ship) → Holds plan p c → Holds plan q d → is_below ship q p ≡ true → leaves_at cargo call (Some c) ≡ false → leaves_at cargo call (Some d) ≡ false
 unfolding has_rehandle
 nothing_below ship cargo plan call p q c d none l m hp hq below stays = false_from_ne_true _ (λ (leaves : leaves_at cargo call (Some d) ≡ true).
     let at : held plan p ≡ Some c = held_is plan p (Some c) hp in
@@ -31,16 +32,16 @@ staying_is cargo call c o h = ⊎_elim
     (λ (e : leaves_at cargo call o ≡ false). let s : o ≡ Some c = sym (cond-false (leaves_at cargo call o) None o e) ∙ h in (s, ap (leaves_at cargo call) (sym s) ∙ e))
     (cases_Bool (leaves_at cargo call o))
 
-pub stayed_from : (cargo : Cargo) (plan : Stowage) (call p c : ℕ) → Holds (discharged cargo plan call) p c → Holds plan p c × (leaves_at cargo call (Some c) ≡ false)
+pub stayed_from : (cargo : Cargo) (plan : Plan) (call p c : ℕ) → Holds (discharged cargo plan call) p c → Holds plan p c × (leaves_at cargo call (Some c) ≡ false)
 stayed_from cargo [] call p c h = absurd (none-some (Some c) h)
 stayed_from cargo (o ∷ os) call zero c h = let r = staying_is cargo call c o (same_Some _ _ h) in (ap (λ (z : Option ℕ). Some z) r.0, r.1)
 stayed_from cargo (o ∷ os) call (suc p) c h = stayed_from cargo os call p c h
 
-pub stays_there : (cargo : Cargo) (plan : Stowage) (call p c : ℕ) → Holds plan p c → leaves_at cargo call (Some c) ≡ false → Holds (discharged cargo plan call) p c
+pub stays_there : (cargo : Cargo) (plan : Plan) (call p c : ℕ) → Holds plan p c → leaves_at cargo call (Some c) ≡ false → Holds (discharged cargo plan call) p c
 stays_there cargo plan call p c h stays =
     slice_get-map (staying cargo call) plan p ∙ ap (option_map (staying cargo call)) h ∙ ap (λ (z : Option ℕ). Some z) (cond-false (leaves_at cargo call (Some c)) None (Some c) stays)
 
-pub discharged_sound : (ship : Ship) (cargo : Cargo) (plan : Stowage) (call : ℕ) → IsForty ship → IsSound ship cargo plan → has_rehandle ship cargo plan call ≡ false → IsSound ship cargo (discharged cargo plan call)
+pub discharged_sound : (ship : Ship) (cargo : Cargo) (plan : Plan) (call : ℕ) → IsForty ship → IsSound ship cargo plan → has_rehandle ship cargo plan call ≡ false → IsSound ship cargo (discharged cargo plan call)
 discharged_sound ship cargo plan call f s none = record {
   each_place = length-map plan (staying cargo call) ∙ s.each_place;
   known = λ p c h. s.known p c (stayed_from cargo plan call p c h).0;

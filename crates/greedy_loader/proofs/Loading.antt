@@ -1,13 +1,13 @@
 -- The loader's steps, one after the other.
-use Rattle.std.proofs.Common.{◌≡◌, ℕ, zero, suc, ◌+◌, ◌-◌, ◌<◌, ◌≤◌, Bool, true, false, cond, ◌&&◌, List, [], ◌∷◌, ◌++◌, length, get_or, take, drop, map, Option, Some, None, refl, sym, ◌∙◌, ap, arith, ⊎_elim, append_assoc}
+use Rattle.std.proofs.Common.{◌≡◌, ℕ, zero, suc, ◌+◌, ◌-◌, ◌<◌, ◌≤◌, Bool, true, false, cond, ◌&&◌, List, [], ◌∷◌, ◌++◌, length, get_or, take, drop, map, Option, Some, None, refl, sym, ◌∙◌, ap, arith, ⊎_elim, append_assoc, length-set}
 use Rattle.std.specs.Prelude.{filter, flat_map, option_map, option_and_then, slice_set, slice_get}
 use Rattle.std.specs.List.{find, range_with_len}
-use Rattle.std.proofs.Common.{length-set}
 use Rattle.std.proofs.lemmas.Bool.{cases_Bool, cond-true, cond-false}
 use Rattle.std.proofs.lemmas.List.{drop_more, drop_all, append-nil, take_all, length-map}
 use Rattle.stow_data.specs.Ship.{Ship, places}
 use Rattle.stow_data.specs.Shipment.{Cargo}
-use Rattle.greedy_loader.specs.Loader.{Stowage, container_at, is_open, is_clean, choice, loaded, last_first, quay, staying, discharged, has_rehandle, departed, departures, place_numbers}
+use Rattle.stow_data.specs.Plans.{Plan, container_at, place_numbers}
+use Rattle.greedy_loader.specs.Loader.{is_open, is_clean, choice, loaded, last_first, quay, staying, discharged, has_rehandle, departed, departures}
 use Rattle.greedy_loader.proofs.Ranges.{found_at}
 
 -- one more number passes the filter or not
@@ -73,19 +73,19 @@ pub long_seam : {X : Type 0} (f : X → X) (xs plan : List X) (i : ℕ) → plan
 long_seam f xs plan i e = ap length e ∙ length_seam f xs i
 
 -- loading, container by container
-pub load_one : (ship : Ship) (cargo : Cargo) (plan : Stowage) (cs : List ℕ) (i c p : ℕ) → i < length cs → c ≡ get_or cs i c → choice ship cargo plan (container_at cargo c).dest ≡ Some p → loaded ship cargo plan (drop i cs) ≡ loaded ship cargo (slice_set plan p (Some c)) (drop (i + 1) cs)
+pub load_one : (ship : Ship) (cargo : Cargo) (plan : Plan) (cs : List ℕ) (i c p : ℕ) → i < length cs → c ≡ get_or cs i c → choice ship cargo plan (container_at cargo c).dest ≡ Some p → loaded ship cargo plan (drop i cs) ≡ loaded ship cargo (slice_set plan p (Some c)) (drop (i + 1) cs)
 unfolding loaded
 load_one ship cargo plan cs i c p l is h =
     let s : drop i cs ≡ c ∷ drop (i + 1) cs = drop_more cs i c l ∙ ap (λ (z : ℕ). z ∷ drop (i + 1) cs) (sym is) in
     rw (s, h)
 
-pub load_fails : (ship : Ship) (cargo : Cargo) (plan : Stowage) (cs : List ℕ) (i c : ℕ) → i < length cs → c ≡ get_or cs i c → choice ship cargo plan (container_at cargo c).dest ≡ None → loaded ship cargo plan (drop i cs) ≡ None
+pub load_fails : (ship : Ship) (cargo : Cargo) (plan : Plan) (cs : List ℕ) (i c : ℕ) → i < length cs → c ≡ get_or cs i c → choice ship cargo plan (container_at cargo c).dest ≡ None → loaded ship cargo plan (drop i cs) ≡ None
 unfolding loaded
 load_fails ship cargo plan cs i c l is h =
     let s : drop i cs ≡ c ∷ drop (i + 1) cs = drop_more cs i c l ∙ ap (λ (z : ℕ). z ∷ drop (i + 1) cs) (sym is) in
     rw (s, h)
 
-pub load_all : (ship : Ship) (cargo : Cargo) (plan : Stowage) (cs : List ℕ) (i : ℕ) → length cs ≤ i → loaded ship cargo plan (drop i cs) ≡ Some plan
+pub load_all : (ship : Ship) (cargo : Cargo) (plan : Plan) (cs : List ℕ) (i : ℕ) → length cs ≤ i → loaded ship cargo plan (drop i cs) ≡ Some plan
 unfolding loaded
 load_all ship cargo plan cs i l = rw (drop_all i cs l)
 
@@ -94,7 +94,7 @@ pub or_parts : (a b : Option ℕ) (p : ℕ) (P : ℕ → Type 0) → (a ≡ Some
 or_parts None b p P f g h = g h
 or_parts (Some a) b p P f g h = f h
 
-pub chosen_in : (ship : Ship) (cargo : Cargo) (plan : Stowage) (dest p : ℕ) → choice ship cargo plan dest ≡ Some p → p < length (places ship)
+pub chosen_in : (ship : Ship) (cargo : Cargo) (plan : Plan) (dest p : ℕ) → choice ship cargo plan dest ≡ Some p → p < length (places ship)
 chosen_in ship cargo plan dest p h =
     let clean = λ (q : ℕ). is_open ship plan q && is_clean ship cargo plan dest q in
     let open_ = λ (q : ℕ). is_open ship plan q in
@@ -107,14 +107,14 @@ pub and_then_parts : {X Y : Type 0} (o : Option X) (f : X → Option Y) (y : Y) 
 and_then_parts None f y h = absurd cc
 and_then_parts (Some x) f y h = (x, refl, h)
 
-pub loaded_long : (ship : Ship) (cargo : Cargo) (cs : List ℕ) (plan after : Stowage) → loaded ship cargo plan cs ≡ Some after → length after ≡ length plan
+pub loaded_long : (ship : Ship) (cargo : Cargo) (cs : List ℕ) (plan after : Plan) → loaded ship cargo plan cs ≡ Some after → length after ≡ length plan
 unfolding loaded
 loaded_long ship cargo [] plan after h = let e : plan ≡ after = cc in ap length (sym e)
 loaded_long ship cargo (c ∷ cs) plan after h =
     let r = and_then_parts (choice ship cargo plan (container_at cargo c).dest) _ after h in
     loaded_long ship cargo cs (slice_set plan r.0 (Some c)) after r.2 ∙ length-set plan r.0 (Some c)
 
-pub departed_long : (ship : Ship) (cargo : Cargo) (before after : Stowage) (call : ℕ) → departed ship cargo before call ≡ Some after → length after ≡ length before
+pub departed_long : (ship : Ship) (cargo : Cargo) (before after : Plan) (call : ℕ) → departed ship cargo before call ≡ Some after → length after ≡ length before
 unfolding departed
 departed_long ship cargo before after call h = ⊎_elim
     (λ (e : has_rehandle ship cargo before call ≡ true). let n : None ≡ Some after = sym (cond-true (has_rehandle ship cargo before call) _ _ e) ∙ h in absurd cc)
@@ -122,38 +122,38 @@ departed_long ship cargo before after call h = ⊎_elim
     (cases_Bool (has_rehandle ship cargo before call))
 
 -- call after call
-regroup : (plans : List Stowage) (after : Stowage) (o : Option (List Stowage)) → option_map (λ rest. plans ++ rest) (option_and_then (λ rest. Some (after ∷ rest)) o) ≡ option_map (λ rest. (plans ++ after ∷ []) ++ rest) o
+regroup : (plans : List Plan) (after : Plan) (o : Option (List Plan)) → option_map (λ rest. plans ++ rest) (option_and_then (λ rest. Some (after ∷ rest)) o) ≡ option_map (λ rest. (plans ++ after ∷ []) ++ rest) o
 regroup plans after None = refl
-regroup plans after (Some rest) = ap (λ (z : List Stowage). Some z) (sym (append_assoc plans (after ∷ []) rest))
+regroup plans after (Some rest) = ap (λ (z : List Plan). Some z) (sym (append_assoc plans (after ∷ []) rest))
 
-next_call : (ship : Ship) (cargo : Cargo) (plans : List Stowage) (before after : Stowage) (call left : ℕ) → departed ship cargo before call ≡ Some after
+next_call : (ship : Ship) (cargo : Cargo) (plans : List Plan) (before after : Plan) (call left : ℕ) → departed ship cargo before call ≡ Some after
     → option_map (λ rest. plans ++ rest) (departures ship cargo before call (suc left)) ≡ option_map (λ rest. (plans ++ after ∷ []) ++ rest) (departures ship cargo after (call + 1) left)
 unfolding departures
 next_call ship cargo plans before after call left h = rw h (regroup plans after (departures ship cargo after (call + 1) left))
 
-no_call : (ship : Ship) (cargo : Cargo) (plans : List Stowage) (before : Stowage) (call left : ℕ) → departed ship cargo before call ≡ None → option_map (λ rest. plans ++ rest) (departures ship cargo before call (suc left)) ≡ None
+no_call : (ship : Ship) (cargo : Cargo) (plans : List Plan) (before : Plan) (call left : ℕ) → departed ship cargo before call ≡ None → option_map (λ rest. plans ++ rest) (departures ship cargo before call (suc left)) ≡ None
 unfolding departures
 no_call ship cargo plans before call left h = rw h
 
-pub sails_on : (ship : Ship) (cargo : Cargo) (plans : List Stowage) (before after : Stowage) (call n : ℕ) (total : Option (List Stowage)) → call < n → departed ship cargo before call ≡ Some after
+pub sails_on : (ship : Ship) (cargo : Cargo) (plans : List Plan) (before after : Plan) (call n : ℕ) (total : Option (List Plan)) → call < n → departed ship cargo before call ≡ Some after
     → option_map (λ rest. plans ++ rest) (departures ship cargo before call (n - call)) ≡ total → option_map (λ rest. (plans ++ after ∷ []) ++ rest) (departures ship cargo after (call + 1) (n - (call + 1))) ≡ total
 sails_on ship cargo plans before after call n total l h e =
     let s : n - call ≡ suc (n - (call + 1)) = omega arith in
     sym (next_call ship cargo plans before after call (n - (call + 1)) h) ∙ ap (λ (k : ℕ). option_map (λ rest. plans ++ rest) (departures ship cargo before call k)) (sym s) ∙ e
 
-pub sails_not : (ship : Ship) (cargo : Cargo) (plans : List Stowage) (before : Stowage) (call n : ℕ) (total : Option (List Stowage)) → call < n → departed ship cargo before call ≡ None
+pub sails_not : (ship : Ship) (cargo : Cargo) (plans : List Plan) (before : Plan) (call n : ℕ) (total : Option (List Plan)) → call < n → departed ship cargo before call ≡ None
     → option_map (λ rest. plans ++ rest) (departures ship cargo before call (n - call)) ≡ total → total ≡ None
 sails_not ship cargo plans before call n total l h e =
     let s : n - call ≡ suc (n - (call + 1)) = omega arith in
     sym e ∙ ap (λ (k : ℕ). option_map (λ rest. plans ++ rest) (departures ship cargo before call k)) s ∙ no_call ship cargo plans before call (n - (call + 1)) h
 
-pub sailed : (ship : Ship) (cargo : Cargo) (plans : List Stowage) (before : Stowage) (call n : ℕ) (total : Option (List Stowage)) → n ≤ call
+pub sailed : (ship : Ship) (cargo : Cargo) (plans : List Plan) (before : Plan) (call n : ℕ) (total : Option (List Plan)) → n ≤ call
     → option_map (λ rest. plans ++ rest) (departures ship cargo before call (n - call)) ≡ total → total ≡ Some plans
 unfolding departures
 sailed ship cargo plans before call n total l e =
     let s : n - call ≡ 0 = omega arith in
-    sym e ∙ ap (λ (k : ℕ). option_map (λ rest. plans ++ rest) (departures ship cargo before call k)) s ∙ ap (λ (z : List Stowage). Some z) (append-nil plans)
+    sym e ∙ ap (λ (k : ℕ). option_map (λ rest. plans ++ rest) (departures ship cargo before call k)) s ∙ ap (λ (z : List Plan). Some z) (append-nil plans)
 
-pub sets_out : (o : Option (List Stowage)) → option_map (λ rest. [] ++ rest) o ≡ o
+pub sets_out : (o : Option (List Plan)) → option_map (λ rest. [] ++ rest) o ≡ o
 sets_out None = refl
 sets_out (Some x) = refl

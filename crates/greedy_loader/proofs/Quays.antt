@@ -5,7 +5,8 @@ use Rattle.std.specs.List.{range_with_len}
 use Rattle.std.proofs.lemmas.Bool.{cases_Bool, cond-true, cond-false, and_parts, and_from, eqb-true, eq-eqb, cases_eq}
 use Rattle.stow_data.specs.Shipment.{Cargo}
 use Rattle.stow_data.proofs.Members.{Member, member_split, flat_at, flat_from, range_at, range_from}
-use Rattle.greedy_loader.specs.Loader.{container_at, container_numbers, bound_for, last_first, quay}
+use Rattle.stow_data.specs.Plans.{container_at, container_numbers}
+use Rattle.greedy_loader.specs.Loader.{bound_for, last_first, quay}
 
 -- no item stands twice
 abbrev pub Distinct : List ℕ → Type 0

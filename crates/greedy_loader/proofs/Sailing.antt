@@ -16,7 +16,8 @@ use Rattle.voyage_specs.specs.Voyage.{HasCount}
 use Rattle.voyage_specs.proofs.Upper.{leaves_is}
 use Rattle.voyage_specs.proofs.Whole.{none_count}
 use Rattle.plain_voyages.specs.Plain.{IsPlainShip, IsPlainCargo}
-use Rattle.greedy_loader.specs.Loader.{Stowage, container_at, is_below, leaves_at, has_rehandle, loaded, quay, discharged, departed, departures, load}
+use Rattle.stow_data.specs.Plans.{Plan, container_at}
+use Rattle.greedy_loader.specs.Loader.{is_below, leaves_at, has_rehandle, loaded, quay, discharged, departed, departures, load}
 use Rattle.greedy_loader.proofs.Columns.{place_is, stack_of, tier_of}
 use Rattle.greedy_loader.proofs.Loading.{and_then_parts}
 use Rattle.greedy_loader.proofs.Quays.{quay_at, quay_from, quay_distinct}
@@ -25,11 +26,11 @@ use Rattle.greedy_loader.proofs.Leaving.{nothing_below, stayed_from, stays_there
 use Rattle.greedy_loader.proofs.Stowed.{IsCarried, each_is, is_container, sound_departs, arrival_sound, arrival_carried, plain_arrival}
 
 -- a departure is that of a call without rehandles
-record IsReached (ship : Ship) (cargo : Cargo) (before : Stowage) (call : ℕ) (after : Stowage) : Type 0 where
+record IsReached (ship : Ship) (cargo : Cargo) (before : Plan) (call : ℕ) (after : Plan) : Type 0 where
   none : has_rehandle ship cargo before call ≡ false
   filled : loaded ship cargo (discharged cargo before call) (quay cargo call) ≡ Some after
 
-departed_is : (ship : Ship) (cargo : Cargo) (before : Stowage) (call : ℕ) (after : Stowage) → departed ship cargo before call ≡ Some after → IsReached ship cargo before call after
+departed_is : (ship : Ship) (cargo : Cargo) (before : Plan) (call : ℕ) (after : Plan) → departed ship cargo before call ≡ Some after → IsReached ship cargo before call after
 unfolding departed
 departed_is ship cargo before call after h = ⊎_elim
     (λ (e : has_rehandle ship cargo before call ≡ true). absurd (none-some after (sym (cond-true (has_rehandle ship cargo before call) None (loaded ship cargo (discharged cargo before call) (quay cargo call)) e) ∙ h)))
@@ -43,7 +44,7 @@ leaves_same : (cargo : Cargo) (call c : ℕ) → c < length cargo.containers →
 leaves_same cargo call c l = leaves_is cargo call c (container_at cargo c) (is_container cargo c l)
 
 -- what is on the quay isn't aboard
-quay_waits : (cargo : Cargo) (earlier : ℕ) (before : Stowage) → IsCarried cargo earlier before → Waits cargo (discharged cargo before (suc earlier)) (quay cargo (suc earlier))
+quay_waits : (cargo : Cargo) (earlier : ℕ) (before : Plan) → IsCarried cargo earlier before → Waits cargo (discharged cargo before (suc earlier)) (quay cargo (suc earlier))
 quay_waits cargo earlier before carried = record {
   known = λ c m. (quay_at cargo (suc earlier) c m).0;
   fresh = λ p c m h.
@@ -54,7 +55,7 @@ quay_waits cargo earlier before carried = record {
 }
 
 -- after a call there is aboard what is to be aboard
-carried_on : (ship : Ship) (cargo : Cargo) (earlier : ℕ) (before after : Stowage) → IsPlainCargo ship cargo → IsSound ship cargo before → IsCarried cargo earlier before → IsLoaded ship cargo (discharged cargo before (suc earlier)) (quay cargo (suc earlier)) after → IsCarried cargo (suc earlier) after
+carried_on : (ship : Ship) (cargo : Cargo) (earlier : ℕ) (before after : Plan) → IsPlainCargo ship cargo → IsSound ship cargo before → IsCarried cargo earlier before → IsLoaded ship cargo (discharged cargo before (suc earlier)) (quay cargo (suc earlier)) after → IsCarried cargo (suc earlier) after
 carried_on ship cargo earlier before after plain sound carried l = record {
   there = λ p c h. ⊎_elim
       (λ (k : Holds (discharged cargo before (suc earlier)) p c).
@@ -93,7 +94,7 @@ over_below ship p q over =
     let next = over.next_tier in
     and_from _ _ (eq-eqb _ _ (ls ∙ sym over.same_stack ∙ sym us)) (lt-ltb _ _ (omega (arith, ut, lt, next)))
 
-rehandles_none : (ship : Ship) (cargo : Cargo) (call : ℕ) (before after : Stowage) → IsPlainShip ship → IsSound ship cargo before → has_rehandle ship cargo before call ≡ false → IsLoaded ship cargo (discharged cargo before call) (quay cargo call) after → RehandlesNone ship cargo call before after
+rehandles_none : (ship : Ship) (cargo : Cargo) (call : ℕ) (before after : Plan) → IsPlainShip ship → IsSound ship cargo before → has_rehandle ship cargo before call ≡ false → IsLoaded ship cargo (discharged cargo before call) (quay cargo call) after → RehandlesNone ship cargo call before after
 rehandles_none ship cargo call before after plain sound none l = record {
   stays = λ p c h f. l.keeps p c (stays_there cargo before call p c h (sym (leaves_same cargo call c (sound.known p c h)) ∙ f));
   below = λ p q c d h k over t. ⊎_elim
@@ -106,16 +107,16 @@ rehandles_none ship cargo call before after plain sound none l = record {
 }
 
 -- the calls from one on
-pub record IsSailed (ship : Ship) (cargo : Cargo) (earlier left : ℕ) (before : Stowage) (plans : List Stowage) : Type 0 where
+pub record IsSailed (ship : Ship) (cargo : Cargo) (earlier left : ℕ) (before : Plan) (plans : List Plan) : Type 0 where
   pub departs : AreDepartures ship cargo (suc earlier) plans
   pub none : RehandleNone ship cargo (suc earlier) before plans
   pub each : length plans ≡ left
 
-sails : (ship : Ship) (cargo : Cargo) (left earlier : ℕ) (before : Stowage) (plans : List Stowage) → IsPlainShip ship → IsPlainCargo ship cargo → IsSound ship cargo before → IsCarried cargo earlier before → departures ship cargo before (suc earlier) left ≡ Some plans → IsSailed ship cargo earlier left before plans
+sails : (ship : Ship) (cargo : Cargo) (left earlier : ℕ) (before : Plan) (plans : List Plan) → IsPlainShip ship → IsPlainCargo ship cargo → IsSound ship cargo before → IsCarried cargo earlier before → departures ship cargo before (suc earlier) left ≡ Some plans → IsSailed ship cargo earlier left before plans
 unfolding departures
 sails ship cargo zero earlier before plans plain_ship plain sound carried h =
     let e : [] ≡ plans = same_Some [] plans h in
-    subst (λ (z : List Stowage). IsSailed ship cargo earlier zero before z) e (record { departs = tt; none = tt; each = refl })
+    subst (λ (z : List Plan). IsSailed ship cargo earlier zero before z) e (record { departs = tt; none = tt; each = refl })
 sails ship cargo (suc left) earlier before plans plain_ship plain sound carried h =
     let first = and_then_parts (departed ship cargo before (suc earlier)) _ plans h in
     let rest = and_then_parts (departures ship cargo first.0 (suc earlier + 1) left) _ plans first.2 in
@@ -125,14 +126,14 @@ sails ship cargo (suc left) earlier before plans plain_ship plain sound carried 
     let s : suc earlier + 1 ≡ suc (suc earlier) = omega arith in
     let later = sails ship cargo left (suc earlier) first.0 rest.0 plain_ship plain l.sound next (ap (λ (k : ℕ). departures ship cargo first.0 k left) (sym s) ∙ rest.1) in
     let e : first.0 ∷ rest.0 ≡ plans = same_Some (first.0 ∷ rest.0) plans rest.2 in
-    subst (λ (z : List Stowage). IsSailed ship cargo earlier (suc left) before z) e (record {
+    subst (λ (z : List Plan). IsSailed ship cargo earlier (suc left) before z) e (record {
       departs = (sound_departs ship cargo (suc earlier) first.0 plain_ship plain l.sound next, later.departs);
       none = (rehandles_none ship cargo (suc earlier) before first.0 plain_ship sound reached.none l, later.none);
       each = ap suc later.each;
     })
 
 -- The loader's plans on a plain ship are legal departures of calls 1 to N-1, and no call rehandles anything.
-pub load_is_legal : (ship : Ship) (cargo : Cargo) (plans : List Stowage) → IsPlainShip ship → IsPlainCargo ship cargo → load ship cargo ≡ Some plans
+pub load_is_legal : (ship : Ship) (cargo : Cargo) (plans : List Plan) → IsPlainShip ship → IsPlainCargo ship cargo → load ship cargo ≡ Some plans
     → AreDepartures ship cargo 1 plans × RehandleNone ship cargo 1 cargo.arrival plans × (length plans + 1 ≡ length cargo.rotation)
 load_is_legal ship cargo plans plain_ship plain h =
     let r = sails ship cargo (length cargo.rotation - 1) 0 cargo.arrival plans plain_ship plain (arrival_sound ship cargo plain) (arrival_carried ship cargo plain) h in
@@ -141,7 +142,7 @@ load_is_legal ship cargo plans plain_ship plain h =
     (r.departs, r.none, omega (arith, each, calls))
 
 -- Their rehandle count is 0.
-pub load_has_count : (ship : Ship) (cargo : Cargo) (plans : List Stowage) → IsPlainShip ship → IsPlainCargo ship cargo → load ship cargo ≡ Some plans → HasCount ship cargo plans 0
+pub load_has_count : (ship : Ship) (cargo : Cargo) (plans : List Plan) → IsPlainShip ship → IsPlainCargo ship cargo → load ship cargo ≡ Some plans → HasCount ship cargo plans 0
 load_has_count ship cargo plans plain_ship plain h =
     let r = load_is_legal ship cargo plans plain_ship plain h in
     none_count ship cargo plans plain_ship.rules plain.rules r.2 (plain_arrival ship cargo plain_ship plain) r.0 r.1

@@ -11,7 +11,8 @@ use Rattle.voyage_specs.specs.Plan.{Holds}
 use Rattle.voyage_specs.proofs.Lower.{slice_get-set_other, slice_get-set_same}
 use Rattle.voyage_specs.proofs.Steps.{slice_get_in}
 use Rattle.plain_voyages.specs.Plain.{IsForty}
-use Rattle.greedy_loader.specs.Loader.{Stowage, container_at, held, is_directly_below, is_open, is_clean, choice, loaded, place_numbers}
+use Rattle.stow_data.specs.Plans.{Plan, container_at, held, place_numbers}
+use Rattle.greedy_loader.specs.Loader.{is_directly_below, is_open, is_clean, choice, loaded}
 use Rattle.greedy_loader.proofs.Columns.{tier_of, lower_place}
 use Rattle.greedy_loader.proofs.Ranges.{every_at, found_at}
 use Rattle.greedy_loader.proofs.Choosing.{held_is, directly_below}
@@ -19,19 +20,19 @@ use Rattle.greedy_loader.proofs.Loading.{or_parts, and_then_parts, chosen_in}
 use Rattle.greedy_loader.proofs.Quays.{Distinct}
 
 -- one entry for each place, containers of the cargo, none twice, none over an empty place
-pub record IsSound (ship : Ship) (cargo : Cargo) (plan : Stowage) : Type 0 where
+pub record IsSound (ship : Ship) (cargo : Cargo) (plan : Plan) : Type 0 where
   pub each_place : length plan ≡ length (places ship)
   pub known : (p c : ℕ) → Holds plan p c → c < length cargo.containers
   pub once : (p q c : ℕ) → Holds plan p c → Holds plan q c → p ≡ q
   pub propped : (p c : ℕ) → Holds plan p c → 0 < tier_of ship p → (d : ℕ) × Holds plan (p - 1) d
 
 -- a place is filled where a look-up says so
-pub held_holds : (plan : Stowage) (p c : ℕ) → held plan p ≡ Some c → Holds plan p c
+pub held_holds : (plan : Plan) (p c : ℕ) → held plan p ≡ Some c → Holds plan p c
 held_holds [] p c h = absurd (none-some c h)
 held_holds (o ∷ os) zero c h = ap (λ (z : Option ℕ). Some z) h
 held_holds (o ∷ os) (suc p) c h = held_holds os p c h
 
-pub some_holds : (plan : Stowage) (p : ℕ) → is_some (held plan p) ≡ true → (c : ℕ) × Holds plan p c
+pub some_holds : (plan : Plan) (p : ℕ) → is_some (held plan p) ≡ true → (c : ℕ) × Holds plan p c
 some_holds plan p h = let r = some_of (held plan p) h in (r.0, held_holds plan p r.0 r.1)
   where
     some_of : (o : Option ℕ) → is_some o ≡ true → (c : ℕ) × (o ≡ Some c)
@@ -43,11 +44,11 @@ empty_of None h = refl
 empty_of (Some c) h = absurd cc
 
 -- what an open place is
-record IsOpen (ship : Ship) (plan : Stowage) (p : ℕ) : Type 0 where
+record IsOpen (ship : Ship) (plan : Plan) (p : ℕ) : Type 0 where
   empty : held plan p ≡ None
   over_filled : 0 < tier_of ship p → (d : ℕ) × Holds plan (p - 1) d
 
-open_is : (ship : Ship) (plan : Stowage) (p : ℕ) → IsForty ship → p < length (places ship) → is_open ship plan p ≡ true → IsOpen ship plan p
+open_is : (ship : Ship) (plan : Plan) (p : ℕ) → IsForty ship → p < length (places ship) → is_open ship plan p ≡ true → IsOpen ship plan p
 unfolding is_open
 open_is ship plan p f l h =
     let b = and_parts _ _ h in
@@ -62,7 +63,7 @@ open_is ship plan p f l h =
           (or_cases _ _ e));
     }
 
-chosen_open : (ship : Ship) (cargo : Cargo) (plan : Stowage) (dest p : ℕ) → choice ship cargo plan dest ≡ Some p → is_open ship plan p ≡ true
+chosen_open : (ship : Ship) (cargo : Cargo) (plan : Plan) (dest p : ℕ) → choice ship cargo plan dest ≡ Some p → is_open ship plan p ≡ true
 chosen_open ship cargo plan dest p h =
     let clean = λ (q : ℕ). is_open ship plan q && is_clean ship cargo plan dest q in
     let free = λ (q : ℕ). is_open ship plan q in
@@ -76,19 +77,19 @@ set_get [] i x y h = absurd (none-some y h)
 set_get (z ∷ zs) zero x y h = sym (same_Some x y h)
 set_get (z ∷ zs) (suc i) x y h = set_get zs i x y h
 
-put_from : (plan : Stowage) (p c q d : ℕ) → Holds (slice_set plan p (Some c)) q d → ((q ≡ p) × (d ≡ c)) ⊎ Holds plan q d
+put_from : (plan : Plan) (p c q d : ℕ) → Holds (slice_set plan p (Some c)) q d → ((q ≡ p) × (d ≡ c)) ⊎ Holds plan q d
 put_from plan p c q d h = ⊎_elim
     (λ (e : q ≡ p). inl (e, same_Some d c (set_get plan q (Some c) (Some d) (subst (λ (z : ℕ). slice_get (slice_set plan z (Some c)) q ≡ Some (Some d)) (sym e) h))))
     (λ (ne : q ≡ p → ⊥). inr (sym (slice_get-set_other plan p q (Some c) ne) ∙ h))
     (cases_eq q p)
 
-put_there : (plan : Stowage) (p c : ℕ) → p < length plan → Holds (slice_set plan p (Some c)) p c
+put_there : (plan : Plan) (p c : ℕ) → p < length plan → Holds (slice_set plan p (Some c)) p c
 put_there plan p c l = let r = slice_get_in plan p l in slice_get-set_same plan p (Some c) r.0 r.1
 
-put_keeps : (plan : Stowage) (p c q d : ℕ) → held plan p ≡ None → Holds plan q d → Holds (slice_set plan p (Some c)) q d
+put_keeps : (plan : Plan) (p c q d : ℕ) → held plan p ≡ None → Holds plan q d → Holds (slice_set plan p (Some c)) q d
 put_keeps plan p c q d e h = slice_get-set_other plan p q (Some c) (λ (s : q ≡ p). none-some d (sym e ∙ ap (held plan) (sym s) ∙ held_is plan q (Some d) h)) ∙ h
 
-put_sound : (ship : Ship) (cargo : Cargo) (plan : Stowage) (p c : ℕ) → p < length (places ship) → IsSound ship cargo plan → IsOpen ship plan p → c < length cargo.containers → ((q : ℕ) → Holds plan q c → ⊥) → IsSound ship cargo (slice_set plan p (Some c))
+put_sound : (ship : Ship) (cargo : Cargo) (plan : Plan) (p c : ℕ) → p < length (places ship) → IsSound ship cargo plan → IsOpen ship plan p → c < length cargo.containers → ((q : ℕ) → Holds plan q c → ⊥) → IsSound ship cargo (slice_set plan p (Some c))
 put_sound ship cargo plan p c l s o known fresh = record {
   each_place = length-set plan p (Some c) ∙ s.each_place;
   known = λ q d h. ⊎_elim
@@ -114,19 +115,19 @@ put_sound ship cargo plan p c l s o known fresh = record {
 }
 
 -- all of a list goes aboard, and nothing else moves
-pub record IsLoaded (ship : Ship) (cargo : Cargo) (plan : Stowage) (cs : List ℕ) (after : Stowage) : Type 0 where
+pub record IsLoaded (ship : Ship) (cargo : Cargo) (plan : Plan) (cs : List ℕ) (after : Plan) : Type 0 where
   pub sound : IsSound ship cargo after
   pub keeps : (p c : ℕ) → Holds plan p c → Holds after p c
   pub from : (p c : ℕ) → Holds after p c → Holds plan p c ⊎ Member c cs
   pub aboard : (c : ℕ) → Member c cs → (p : ℕ) × Holds after p c
 
 -- what waits is of the cargo and not aboard
-pub record Waits (cargo : Cargo) (plan : Stowage) (cs : List ℕ) : Type 0 where
+pub record Waits (cargo : Cargo) (plan : Plan) (cs : List ℕ) : Type 0 where
   pub known : (c : ℕ) → Member c cs → c < length cargo.containers
   pub fresh : (p c : ℕ) → Member c cs → Holds plan p c → ⊥
   pub distinct : Distinct cs
 
-waits_on : (cargo : Cargo) (plan : Stowage) (p c : ℕ) (cs : List ℕ) → Waits cargo plan (c ∷ cs) → Waits cargo (slice_set plan p (Some c)) cs
+waits_on : (cargo : Cargo) (plan : Plan) (p c : ℕ) (cs : List ℕ) → Waits cargo plan (c ∷ cs) → Waits cargo (slice_set plan p (Some c)) cs
 waits_on cargo plan p c cs w = record {
   known = λ d m. w.known d (inr m);
   fresh = λ q d m h. ⊎_elim
@@ -136,11 +137,11 @@ waits_on cargo plan p c cs w = record {
   distinct = w.distinct.1;
 }
 
-pub loaded_is : (ship : Ship) (cargo : Cargo) (cs : List ℕ) (plan after : Stowage) → IsForty ship → IsSound ship cargo plan → Waits cargo plan cs → loaded ship cargo plan cs ≡ Some after → IsLoaded ship cargo plan cs after
+pub loaded_is : (ship : Ship) (cargo : Cargo) (cs : List ℕ) (plan after : Plan) → IsForty ship → IsSound ship cargo plan → Waits cargo plan cs → loaded ship cargo plan cs ≡ Some after → IsLoaded ship cargo plan cs after
 unfolding loaded
 loaded_is ship cargo [] plan after f s w h =
     let e : plan ≡ after = cc in
-    subst (λ (z : Stowage). IsLoaded ship cargo plan [] z) e (record { sound = s; keeps = λ p c k. k; from = λ p c k. inl k; aboard = λ c m. absurd m })
+    subst (λ (z : Plan). IsLoaded ship cargo plan [] z) e (record { sound = s; keeps = λ p c k. k; from = λ p c k. inl k; aboard = λ c m. absurd m })
 loaded_is ship cargo (c ∷ cs) plan after f s w h =
     let r = and_then_parts (choice ship cargo plan (container_at cargo c).dest) _ after h in
     let l = chosen_in ship cargo plan (container_at cargo c).dest r.0 r.1 in

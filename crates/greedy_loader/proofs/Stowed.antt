@@ -13,7 +13,7 @@ use Rattle.stow_data.specs.declared.geometry.Length.TheVariants as length_of
 use Rattle.stow_data.specs.declared.geometry.Place.{Place}
 use Rattle.stow_data.specs.declared.geometry.Span.{Span}
 use Rattle.stow_data.specs.declared.geometry.Span.TheVariants.{Both}
-use Rattle.stow_data.specs.declared.shipments.Container.{Container}
+use Rattle.stow_data.specs.declared.cargoes.Container.{Container}
 use Rattle.stow_data.specs.Ship.{Ship, places, spans, TakesSide, HasLength}
 use Rattle.stow_data.specs.Shipment.{Cargo, IsAboard, IsShipped}
 use Rattle.stow_data.proofs.Listed.{place_from}
@@ -21,7 +21,7 @@ use Rattle.stow_data.proofs.Members.{Member}
 use Rattle.voyage_specs.specs.Plan.{Holds, IsWellFormed}
 use Rattle.voyage_specs.specs.Departure.{IsSupported, IsStowed, IsDeparture, HasArrival}
 use Rattle.plain_voyages.specs.Plain.{IsForty, IsPlainShip, IsPlainContainer, IsPlainCargo}
-use Rattle.greedy_loader.specs.Loader.{Stowage, place_at, container_at, no_container}
+use Rattle.stow_data.specs.Plans.{Plan, place_at, container_at, no_container}
 use Rattle.greedy_loader.proofs.Columns.{is_place, place_is, tier_of, stack_of, same_place, lower_place}
 use Rattle.greedy_loader.proofs.Sound.{IsSound}
 use Rattle.greedy_loader.proofs.Weights.{within_limits}
@@ -58,7 +58,7 @@ one_place ship p q x y f h k s t =
     (ap (λ (z : Place). z.stack) a ∙ s ∙ sym (ap (λ (z : Place). z.stack) b))
     (ap (λ (z : Place). z.tier) a ∙ t ∙ sym (ap (λ (z : Place). z.tier) b))
 
-supported : (ship : Ship) (cargo : Cargo) (plan : Stowage) → IsForty ship → IsSound ship cargo plan → IsSupported ship plan
+supported : (ship : Ship) (cargo : Cargo) (plan : Plan) → IsForty ship → IsSound ship cargo plan → IsSupported ship plan
 supported ship cargo plan f s stack tier aft c fills =
     let a = place_is ship fills.number fills.place fills.is_place in
     let inside = slice_get_within (places ship) fills.number fills.place fills.is_place in
@@ -81,14 +81,14 @@ supported ship cargo plan f s stack tier aft c fills =
     )
 
 -- exactly what is aboard after a call
-pub record IsCarried (cargo : Cargo) (call : ℕ) (plan : Stowage) : Type 0 where
+pub record IsCarried (cargo : Cargo) (call : ℕ) (plan : Plan) : Type 0 where
   pub there : (p c : ℕ) → Holds plan p c → IsAboard call (container_at cargo c)
   pub whole : (c : ℕ) → c < length cargo.containers → IsAboard call (container_at cargo c) → (p : ℕ) × Holds plan p c
 
 plain_container : (ship : Ship) (cargo : Cargo) (c : ℕ) (container : Container) → IsPlainCargo ship cargo → slice_get cargo.containers c ≡ Some container → IsPlainContainer container
 plain_container ship cargo c container plain h = each_is IsPlainContainer cargo.containers c container plain.each_plain h
 
-well_formed : (ship : Ship) (cargo : Cargo) (plan : Stowage) → IsForty ship → IsPlainCargo ship cargo → IsSound ship cargo plan → IsWellFormed ship cargo plan
+well_formed : (ship : Ship) (cargo : Cargo) (plan : Plan) → IsForty ship → IsPlainCargo ship cargo → IsSound ship cargo plan → IsWellFormed ship cargo plan
 well_formed ship cargo plan f plain s = record {
   each_place = s.each_place;
   known = λ p c h. (container_at cargo c, is_container cargo c (s.known p c h));
@@ -97,7 +97,7 @@ well_formed ship cargo plan f plain s = record {
   once = s.once;
 }
 
-pub sound_stowed : (ship : Ship) (cargo : Cargo) (call : ℕ) (plan : Stowage) → IsForty ship → IsPlainCargo ship cargo → IsSound ship cargo plan → IsCarried cargo call plan → IsStowed ship cargo call plan
+pub sound_stowed : (ship : Ship) (cargo : Cargo) (call : ℕ) (plan : Plan) → IsForty ship → IsPlainCargo ship cargo → IsSound ship cargo plan → IsCarried cargo call plan → IsStowed ship cargo call plan
 sound_stowed ship cargo call plan f plain s carried = record {
   well_formed = well_formed ship cargo plan f plain s;
   aboard = λ c container known.
@@ -114,7 +114,7 @@ sound_stowed ship cargo call plan f plain s carried = record {
       absurd (both_ways container.reefer dry reefer);
 }
 
-pub sound_departs : (ship : Ship) (cargo : Cargo) (call : ℕ) (plan : Stowage) → IsPlainShip ship → IsPlainCargo ship cargo → IsSound ship cargo plan → IsCarried cargo call plan → IsDeparture ship cargo call plan
+pub sound_departs : (ship : Ship) (cargo : Cargo) (call : ℕ) (plan : Plan) → IsPlainShip ship → IsPlainCargo ship cargo → IsSound ship cargo plan → IsCarried cargo call plan → IsDeparture ship cargo call plan
 sound_departs ship cargo call plan plain_ship plain s carried = record {
   stowed = sound_stowed ship cargo call plan plain_ship.each_long plain s carried;
   within = within_limits ship cargo plan plain_ship (λ p c h.
@@ -130,7 +130,7 @@ none_holds (suc n) zero c h = none-some c (same_Some None (Some c) h)
 none_holds (suc n) (suc p) c h = none_holds n p c h
 
 arrival_holds : (ship : Ship) (cargo : Cargo) (p c : ℕ) → IsPlainCargo ship cargo → Holds cargo.arrival p c → ⊥
-arrival_holds ship cargo p c plain h = none_holds (length (places ship)) p c (subst (λ (z : Stowage). Holds z p c) plain.empty h)
+arrival_holds ship cargo p c plain h = none_holds (length (places ship)) p c (subst (λ (z : Plan). Holds z p c) plain.empty h)
 
 pub arrival_sound : (ship : Ship) (cargo : Cargo) → IsPlainCargo ship cargo → IsSound ship cargo cargo.arrival
 arrival_sound ship cargo plain = record {

@@ -12,14 +12,14 @@ use Rattle.stow_data.specs.declared.geometry.Lengths.{Lengths}
 use Rattle.stow_data.specs.declared.geometry.Lengths.TheVariants.{Forty}
 use Rattle.stow_data.specs.declared.geometry.Place.{Place}
 use Rattle.stow_data.specs.declared.geometry.Span.{Span}
-use Rattle.stow_data.specs.declared.shipments.Container.{Container}
+use Rattle.stow_data.specs.declared.cargoes.Container.{Container}
 use Rattle.stow_data.specs.Kinds.{rounded}
 use Rattle.stow_data.specs.Ship.{Ship, places, spans, stack_places, tier_places}
 use Rattle.stow_data.specs.Shipment.{Cargo}
 use Rattle.voyage_specs.specs.Plan.{Holds}
 use Rattle.voyage_specs.specs.Departure.{weight_in, IsWithinLimits}
 use Rattle.plain_voyages.specs.Plain.{IsPlainShip, IsRoomy}
-use Rattle.greedy_loader.specs.Loader.{Stowage}
+use Rattle.stow_data.specs.Plans.{Plan}
 
 -- what each place of a stack may weigh
 abbrev share : ℕ → ℕ → Place → ℕ
@@ -50,7 +50,7 @@ weight_to step cargo s place (Some c) one h =
     let e : slice_get cargo.containers c ≡ Some r.0 = r.1 in
     rw e (cond_more (place.stack == s) (rounded step (r.0).kg) (rounded step 99999) (rounded_to step (r.0).kg 99999 one r.2))
 
-weights_to : (f : Place × Option ℕ → ℕ) (g : Place → ℕ) (ps : List Place) (plan : Stowage) → ((p : ℕ) (place : Place) (o : Option ℕ) → slice_get plan p ≡ Some o → f (place, o) ≤ g place) → sum_by f (zip ps plan) ≤ sum_by g ps
+weights_to : (f : Place × Option ℕ → ℕ) (g : Place → ℕ) (ps : List Place) (plan : Plan) → ((p : ℕ) (place : Place) (o : Option ℕ) → slice_get plan p ≡ Some o → f (place, o) ≤ g place) → sum_by f (zip ps plan) ≤ sum_by g ps
 weights_to f g [] plan h = omega arith
 weights_to f g (p ∷ ps) [] h = omega arith
 weights_to f g (p ∷ ps) (o ∷ os) h = omega (arith, sum_by-cons f (p, o) (zip ps os), sum_by-cons g p ps, h 0 p o refl, weights_to f g ps os (λ q place x e. h (suc q) place x e))
@@ -84,7 +84,7 @@ stacks_share most (x ∷ ss) a s zero stack f h e =
 stacks_share most (x ∷ ss) a s (suc k) stack f h e =
     omega (arith, sum_by-append (share most s) (stack_places (a, x)) (flat_map stack_places (enumerate_from (a + 1) ss)), other_share most a s 0 x.tiers x (f 0 x (omega arith)) (λ (q : a ≡ s). omega arith), stacks_share most ss (a + 1) s k stack (λ i d m. f (suc i) d (omega arith)) h (omega arith))
 
-pub within_limits : (ship : Ship) (cargo : Cargo) (plan : Stowage) → IsPlainShip ship → ((p c : ℕ) → Holds plan p c → IsLight cargo c) → IsWithinLimits ship cargo plan
+pub within_limits : (ship : Ship) (cargo : Cargo) (plan : Plan) → IsPlainShip ship → ((p c : ℕ) → Holds plan p c → IsLight cargo c) → IsWithinLimits ship cargo plan
 unfolding places
 within_limits ship cargo plan plain light s stack is =
     let most = rounded ship.weight_step 99999 in

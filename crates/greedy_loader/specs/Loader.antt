@@ -2,40 +2,9 @@
 use Rattle.std.specs.Prelude.{ℕ, zero, suc, ◌+◌, ◌-◌, Bool, false, not, ◌&&◌, ◌||◌, ◌==◌, nat_lt, if◌then◌else◌, List, [], ◌∷◌, length, map, filter, flat_map, Option, Some, None, is_some, is_none, option_and_then, slice_index_or, slice_set}
 use Rattle.std.specs.List.{list_any, list_all, find, range_with_len}
 use Rattle.std.specs.Option.{option_or}
-use Rattle.stow_data.specs.declared.geometry.Place.{Place}
-use Rattle.stow_data.specs.declared.geometry.Span.TheVariants.{Both}
-use Rattle.stow_data.specs.declared.geometry.Length.TheVariants.{Forty}
-use Rattle.stow_data.specs.declared.shipments.Container.{Container}
-use Rattle.stow_data.specs.declared.shipments.Origin.TheVariants.{Booked}
 use Rattle.stow_data.specs.Ship.{Ship, places}
 use Rattle.stow_data.specs.Shipment.{Cargo}
-
--- for each place what stands there
-abbrev pub Stowage : Type 0
-Stowage = List (Option ℕ)
-
--- what stands for a number past the end of a list
-abbrev pub no_place : Place
-no_place = record { stack = 0; tier = 0; span = Both; plug = false }
-
-abbrev pub no_container : Container
-no_container = record { id = []; load = 0; dest = 0; long = Forty; kg = 0; reefer = false; class = None; origin = Booked 0 }
-
-abbrev pub place_at : Ship → ℕ → Place
-place_at ship p = slice_index_or (places ship) p no_place
-
-abbrev pub container_at : Cargo → ℕ → Container
-container_at cargo c = slice_index_or cargo.containers c no_container
-
-abbrev pub held : Stowage → ℕ → Option ℕ
-held plan p = slice_index_or plan p None
-
--- the numbers of the places, and of the containers
-abbrev pub place_numbers : Ship → List ℕ
-place_numbers ship = range_with_len 0 (length (places ship))
-
-abbrev pub container_numbers : Cargo → List ℕ
-container_numbers cargo = range_with_len 0 (length cargo.containers)
+use Rattle.stow_data.specs.Plans.{Plan, place_at, container_at, held, place_numbers, container_numbers}
 
 -- place q lies below place p, in one stack; directly below: in the next tier
 abbrev pub is_below : Ship → ℕ → ℕ → Bool
@@ -54,19 +23,19 @@ leaves_before cargo call None = false
 leaves_before cargo call (Some c) = nat_lt (container_at cargo c).dest call
 
 -- an open place is empty, and what lies directly below it is filled
-unfoldable pub is_open : Ship → Stowage → ℕ → Bool
+unfoldable pub is_open : Ship → Plan → ℕ → Bool
 is_open ship plan p = is_none (held plan p) && list_all (λ q. not (is_directly_below ship q p) || is_some (held plan q)) (place_numbers ship)
 
 -- it is clean for a destination where nothing lower in its stack leaves before
-unfoldable pub is_clean : Ship → Cargo → Stowage → ℕ → ℕ → Bool
+unfoldable pub is_clean : Ship → Cargo → Plan → ℕ → ℕ → Bool
 is_clean ship cargo plan dest p = list_all (λ q. not (is_below ship q p) || not (leaves_before cargo dest (held plan q))) (place_numbers ship)
 
 -- the first clean open place by number, else the first open place
-abbrev pub choice : Ship → Cargo → Stowage → ℕ → Option ℕ
+abbrev pub choice : Ship → Cargo → Plan → ℕ → Option ℕ
 choice ship cargo plan dest = option_or (find (λ p. is_open ship plan p && is_clean ship cargo plan dest p) (place_numbers ship)) (find (λ p. is_open ship plan p) (place_numbers ship))
 
 -- the containers of the quay go aboard one after the other
-unfoldable pub loaded : Ship → Cargo → Stowage → List ℕ → Option Stowage
+unfoldable pub loaded : Ship → Cargo → Plan → List ℕ → Option Plan
 loaded ship cargo plan [] = Some plan
 loaded ship cargo plan (c ∷ cs) = option_and_then (λ p. loaded ship cargo (slice_set plan p (Some c)) cs) (choice ship cargo plan (container_at cargo c).dest)
 
@@ -83,33 +52,33 @@ unfoldable pub quay : Cargo → ℕ → List ℕ
 quay cargo call = flat_map (bound_for cargo call) (last_first (length cargo.rotation))
 
 -- what must be lifted at a call: what leaves there, and what stands above it
-abbrev pub is_lifted : Ship → Cargo → Stowage → ℕ → ℕ → Bool
+abbrev pub is_lifted : Ship → Cargo → Plan → ℕ → ℕ → Bool
 is_lifted ship cargo plan call p = list_any (λ q. ((q == p) || is_below ship q p) && leaves_at cargo call (held plan q)) (place_numbers ship)
 
 -- what stands there is lifted and doesn't leave at this call
-abbrev pub is_rehandled : Ship → Cargo → Stowage → ℕ → ℕ → Bool
+abbrev pub is_rehandled : Ship → Cargo → Plan → ℕ → ℕ → Bool
 is_rehandled ship cargo plan call p = (is_some (held plan p) && not (leaves_at cargo call (held plan p))) && is_lifted ship cargo plan call p
 
 -- a container is lifted away from its destination
-unfoldable pub has_rehandle : Ship → Cargo → Stowage → ℕ → Bool
+unfoldable pub has_rehandle : Ship → Cargo → Plan → ℕ → Bool
 has_rehandle ship cargo plan call = list_any (λ p. is_rehandled ship cargo plan call p) (place_numbers ship)
 
 -- the plan without what leaves at a call
 abbrev pub staying : Cargo → ℕ → Option ℕ → Option ℕ
 staying cargo call o = if leaves_at cargo call o then None else o
 
-abbrev pub discharged : Cargo → Stowage → ℕ → Stowage
+abbrev pub discharged : Cargo → Plan → ℕ → Plan
 discharged cargo plan call = map (staying cargo call) plan
 
 -- the departure of a call from the one before; none where a container is lifted away from its destination, or finds no place
-unfoldable pub departed : Ship → Cargo → Stowage → ℕ → Option Stowage
+unfoldable pub departed : Ship → Cargo → Plan → ℕ → Option Plan
 departed ship cargo before call = if has_rehandle ship cargo before call then None else loaded ship cargo (discharged cargo before call) (quay cargo call)
 
 -- the departures of so many calls, from this one on
-unfoldable pub departures : Ship → Cargo → Stowage → ℕ → ℕ → Option (List Stowage)
+unfoldable pub departures : Ship → Cargo → Plan → ℕ → ℕ → Option (List Plan)
 departures ship cargo before call zero = Some []
 departures ship cargo before call (suc left) = option_and_then (λ after. option_and_then (λ rest. Some (after ∷ rest)) (departures ship cargo after (call + 1) left)) (departed ship cargo before call)
 
 -- the departures of calls 1 to N-1
-abbrev pub load : Ship → Cargo → Option (List Stowage)
+abbrev pub load : Ship → Cargo → Option (List Plan)
 load ship cargo = departures ship cargo cargo.arrival 1 (length cargo.rotation - 1)

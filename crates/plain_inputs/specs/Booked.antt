@@ -4,8 +4,8 @@ use Rattle.std.specs.List.{enumerate_from}
 use Rattle.stow_data.specs.declared.geometry.Length.TheVariants.{Forty}
 use Rattle.stow_data.specs.declared.geometry.Lengths.TheVariants as lengths_of
 use Rattle.stow_data.specs.declared.geometry.Stack.{Stack}
-use Rattle.stow_data.specs.declared.shipments.Container.{Container}
-use Rattle.stow_data.specs.declared.shipments.Origin.TheVariants.{Booked}
+use Rattle.stow_data.specs.declared.cargoes.Container.{Container}
+use Rattle.stow_data.specs.declared.cargoes.Origin.TheVariants.{Booked}
 use Rattle.stow_data.specs.Ship.{Ship, places}
 use Rattle.stow_data.specs.Shipment.{Cargo}
 use Rattle.plain_voyages.specs.Plain.{HasNoPlug, IsRoomy}

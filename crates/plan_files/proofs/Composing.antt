@@ -10,7 +10,7 @@ use Rattle.stow_data.specs.Ship.{Ship}
 use Rattle.stow_data.specs.Shipment.{Cargo}
 use Rattle.stow_data.proofs.Members.{range-more as range-more-one}
 use Rattle.bookings.specs.declared.shipment.Bookings.{Bookings}
-use Rattle.greedy_loader.specs.Loader.{Stowage, held}
+use Rattle.stow_data.specs.Plans.{Plan, held}
 use Rattle.plan_files.specs.DepartureFile.{Group, group_at}
 
 pub compose_more : {B : Type 0} (f : B → List ℕ) (xs : List B) (i : ℕ) (d : B) (front list new : List (List (List ℕ))) → i < length xs → list ≡ front ++ map f (take i xs) ∷ [] → new ≡ on_last (λ e. e ++ f (get_or xs i d) ∷ []) list → new ≡ front ++ map f (take (i + 1) xs) ∷ []
@@ -22,10 +22,10 @@ pub pushed : {X : Type 0} (x : X) (list new more : List X) → new ≡ list ++ x
 pushed x list new more e = ap (λ z. z ++ more) e ∙ append_assoc list (x ∷ []) more
 
 -- the groups of the places below a number
-abbrev pub groups_below : Ship → Cargo → Bookings → Stowage → ℕ → List Group
+abbrev pub groups_below : Ship → Cargo → Bookings → Plan → ℕ → List Group
 groups_below ship cargo bookings plan n = flat_map (λ p. group_at ship cargo bookings p (held plan p)) (range_with_len 0 n)
 
-pub groups_more : (ship : Ship) (cargo : Cargo) (bookings : Bookings) (plan : Stowage) (n : ℕ) → groups_below ship cargo bookings plan (n + 1) ≡ groups_below ship cargo bookings plan n ++ group_at ship cargo bookings n (held plan n)
+pub groups_more : (ship : Ship) (cargo : Cargo) (bookings : Bookings) (plan : Plan) (n : ℕ) → groups_below ship cargo bookings plan (n + 1) ≡ groups_below ship cargo bookings plan n ++ group_at ship cargo bookings n (held plan n)
 groups_more ship cargo bookings plan n =
     let f = λ (p : ℕ). group_at ship cargo bookings p (held plan p) in
     let z : 0 + n ≡ n = omega arith in

@@ -5,7 +5,7 @@ use Rattle.std.proofs.lemmas.Bool.{cases_eq, cases_lt}
 use Rattle.std.proofs.lemmas.Option.{get_or_from_slice_get, slice_get-get_or, slice_get_within}
 use Rattle.stow_data.specs.declared.geometry.Place.{Place}
 use Rattle.stow_data.specs.declared.geometry.Stack.{Stack}
-use Rattle.stow_data.specs.declared.shipments.Container.{Container}
+use Rattle.stow_data.specs.declared.cargoes.Container.{Container}
 use Rattle.stow_data.specs.Ship.{Ship, places, number_in, HasNumber}
 use Rattle.stow_data.specs.Profile.{IsShip}
 use Rattle.stow_data.specs.Shipment.{Cargo, IsCargo, IsShipped}
@@ -15,8 +15,8 @@ use Rattle.voyage_specs.specs.Plan.{Holds, Fills}
 use Rattle.voyage_specs.specs.Departure.{IsStowed, AreDepartures}
 use Rattle.voyage_specs.specs.Shown.{CellGroup, Says, SomeSays, IsAboardGroup, SharesHalf, Shows, ShowAll, IsLegalFileSet}
 use Rattle.bookings.specs.declared.shipment.Bookings.{Bookings}
-use Rattle.greedy_loader.specs.Loader.{Stowage, place_at, container_at, held, place_numbers, no_place, no_container}
-use Rattle.plan_files.specs.DepartureFile.{Group, group_of, group_at, groups, cells, number_at, no_stack, port_of}
+use Rattle.stow_data.specs.Plans.{Plan, place_at, container_at, held, place_numbers, no_place, no_container, no_stack}
+use Rattle.plan_files.specs.DepartureFile.{Group, group_of, group_at, groups, cells, number_at, port_of}
 use Rattle.greedy_loader.proofs.Choosing.{held_is}
 use Rattle.greedy_loader.proofs.Columns.{place_is}
 use Rattle.plan_files.proofs.Pairs.{InPairs, pairs_flat, pairs_map, pairs_range, all_pairs, all_pairs_at}
@@ -36,7 +36,7 @@ one_group ship cargo bookings p None R = tt
 one_group ship cargo bookings p (Some c) R = (λ y m. absurd m, tt)
 
 -- what stands at a place
-held_holds : (plan : Stowage) (p c : ℕ) → held plan p ≡ Some c → Holds plan p c
+held_holds : (plan : Plan) (p c : ℕ) → held plan p ≡ Some c → Holds plan p c
 held_holds [] p c h = absurd cc
 held_holds (o ∷ os) zero c h = ap (λ (z : Option ℕ). Some z) h
 held_holds (o ∷ os) (suc p) c h = held_holds os p c h
@@ -71,7 +71,7 @@ numbered ship p place h =
       is_number = ap (λ (z : Stack). number_in z place) (sym stack) ∙ ap (λ (z : Place). number_in (slice_index_or ship.stacks (place_at ship p).stack no_stack) z) (sym same);
     }
 
-module _ (ship : Ship) (cargo : Cargo) (bookings : Bookings) (call : ℕ) (plan : Stowage) (rules : IsShip ship) (shipped : IsCargo cargo) (stowed : IsStowed ship cargo call plan) where
+module _ (ship : Ship) (cargo : Cargo) (bookings : Bookings) (call : ℕ) (plan : Plan) (rules : IsShip ship) (shipped : IsCargo cargo) (stowed : IsStowed ship cargo call plan) where
   -- a cell group is that of a container at its place
   record IsCell (g : CellGroup) (p c : ℕ) : Type 0 where
     holds : Holds plan p c
@@ -171,7 +171,7 @@ module _ (ship : Ship) (cargo : Cargo) (bookings : Bookings) (call : ℕ) (plan 
       says_that s.group f.0 f.1 p c f.2 s.says
 
 -- the groups of a departure show it
-pub groups_show : (ship : Ship) (cargo : Cargo) (bookings : Bookings) (call : ℕ) (plan : Stowage) → IsShip ship → IsCargo cargo → IsStowed ship cargo call plan → Shows ship cargo call (cells ship cargo bookings plan) plan
+pub groups_show : (ship : Ship) (cargo : Cargo) (bookings : Bookings) (call : ℕ) (plan : Plan) → IsShip ship → IsCargo cargo → IsStowed ship cargo call plan → Shows ship cargo call (cells ship cargo bookings plan) plan
 groups_show ship cargo bookings call plan rules shipped stowed = record {
   each_aboard = λ k d l. aboard_group ship cargo bookings call plan rules shipped stowed _ (member_of (cells ship cargo bookings plan) k (get_or (cells ship cargo bookings plan) k d) (slice_get-get_or (cells ship cargo bookings plan) k d l));
   ids_differ = all_pairs _ (cells ship cargo bookings plan) (cells_pairs ship cargo bookings call plan rules shipped stowed (λ (g h : CellGroup). g.id ≢ h.id) (one_id ship cargo bookings call plan rules shipped stowed));
@@ -181,11 +181,11 @@ groups_show ship cargo bookings call plan rules shipped stowed = record {
   holds = λ p c. (some_says ship cargo bookings call plan rules shipped stowed p c, said ship cargo bookings call plan rules shipped stowed p c);
 }
 
-show_all : (ship : Ship) (cargo : Cargo) (bookings : Bookings) (call : ℕ) (plans : List Stowage) → IsShip ship → IsCargo cargo → AreDepartures ship cargo call plans → ShowAll ship cargo call (map (cells ship cargo bookings) plans) plans
+show_all : (ship : Ship) (cargo : Cargo) (bookings : Bookings) (call : ℕ) (plans : List Plan) → IsShip ship → IsCargo cargo → AreDepartures ship cargo call plans → ShowAll ship cargo call (map (cells ship cargo bookings) plans) plans
 show_all ship cargo bookings call [] rules shipped legal = tt
 show_all ship cargo bookings call (plan ∷ plans) rules shipped legal = (groups_show ship cargo bookings call plan rules shipped legal.0.stowed, show_all ship cargo bookings (suc call) plans rules shipped legal.1)
 
 -- the groups of the departures of a voyage are a legal file set
-pub groups_legal : (ship : Ship) (cargo : Cargo) (bookings : Bookings) (plans : List Stowage) → IsShip ship → IsCargo cargo → length plans + 1 ≡ length cargo.rotation → AreDepartures ship cargo 1 plans
+pub groups_legal : (ship : Ship) (cargo : Cargo) (bookings : Bookings) (plans : List Plan) → IsShip ship → IsCargo cargo → length plans + 1 ≡ length cargo.rotation → AreDepartures ship cargo 1 plans
     → IsLegalFileSet ship cargo (map (cells ship cargo bookings) plans) plans
 groups_legal ship cargo bookings plans rules shipped each legal = record { each_call = each; shown = show_all ship cargo bookings 1 plans rules shipped legal; legal = legal }

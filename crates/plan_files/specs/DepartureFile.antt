@@ -6,19 +6,15 @@ use Rattle.edifact_segments.specs.Written.{written}
 use Rattle.stow_data.specs.declared.geometry.Stack.{Stack}
 use Rattle.stow_data.specs.declared.geometry.Length.TheVariants.{Forty}
 use Rattle.stow_data.specs.declared.geometry.Lengths.TheVariants as offers
-use Rattle.stow_data.specs.declared.shipments.Container.{Container}
-use Rattle.stow_data.specs.declared.shipments.Origin.{Origin}
-use Rattle.stow_data.specs.declared.shipments.Origin.TheVariants.{Arrived, Booked}
+use Rattle.stow_data.specs.declared.cargoes.Container.{Container}
+use Rattle.stow_data.specs.declared.cargoes.Origin.{Origin}
+use Rattle.stow_data.specs.declared.cargoes.Origin.TheVariants.{Arrived, Booked}
 use Rattle.stow_data.specs.Ship.{Ship, number_in}
 use Rattle.stow_data.specs.Shipment.{Cargo}
 use Rattle.voyage_specs.specs.Shown.{CellGroup}
 use Rattle.bookings.specs.declared.shipment.Booking.{Booking}
 use Rattle.bookings.specs.declared.shipment.Bookings.{Bookings}
-use Rattle.greedy_loader.specs.Loader.{Stowage, place_at, container_at, held, place_numbers}
-
--- what stands for a number past the end of a list
-abbrev pub no_stack : Stack
-no_stack = record { bay = 0; row = 0; lowest = 0; tiers = 0; lengths = offers.Forty; limit_kg = 0; plugs = [] }
+use Rattle.stow_data.specs.Plans.{Plan, place_at, container_at, held, place_numbers, no_stack}
 
 abbrev pub no_booking : Booking
 no_booking = record { id = []; load = 0; dest = 0; iso = []; long = Forty; kg = 0; vgm = false; empty = false; temperature = None; class = None; unno = 0 }
@@ -61,11 +57,11 @@ group_at ship cargo bookings p None = []
 group_at ship cargo bookings p (Some c) = group_of ship cargo bookings p (container_at cargo c) ∷ []
 
 -- the groups of a plan, in the order of their places
-unfoldable pub groups : Ship → Cargo → Bookings → Stowage → List Group
+unfoldable pub groups : Ship → Cargo → Bookings → Plan → List Group
 groups ship cargo bookings plan = flat_map (λ p. group_at ship cargo bookings p (held plan p)) (place_numbers ship)
 
 -- the facts of its cell groups
-abbrev pub cells : Ship → Cargo → Bookings → Stowage → List CellGroup
+abbrev pub cells : Ship → Cargo → Bookings → Plan → List CellGroup
 cells ship cargo bookings plan = map (λ g. g.cell) (groups ship cargo bookings plan)
 
 abbrev pub segment : List ℕ → List (List (List ℕ)) → Segment
@@ -203,5 +199,5 @@ unfoldable pub file_text : Cargo → Bookings → ℕ → List Group → List �
 file_text cargo bookings call gs = texts (file_segments cargo bookings call gs)
 
 -- every container of the plan is one of the cargo
-abbrev pub IsKnown : Cargo → Stowage → Type 0
+abbrev pub IsKnown : Cargo → Plan → Type 0
 IsKnown cargo plan = (p c : ℕ) → slice_get plan p ≡ Some (Some c) → c < length cargo.containers

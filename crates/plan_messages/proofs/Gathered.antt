@@ -3,10 +3,10 @@ use Rattle.std.proofs.Common.{◌≡◌, ℕ, ◌+◌, List, [], ◌∷◌, ◌+
 use Rattle.std.proofs.lemmas.List.{append-nil, map-append}
 use Rattle.std.proofs.lemmas.Option.{get_or_from_slice_get}
 use Rattle.std.specs.Prelude.{slice_get}
-use Rattle.stow_data.specs.declared.shipments.Container.{Container}
+use Rattle.stow_data.specs.declared.cargoes.Container.{Container}
 use Rattle.stow_data.specs.Ship.{Ship}
 use Rattle.stow_data.specs.Shipment.{Cargo}
-use Rattle.greedy_loader.specs.Loader.{Stowage, container_at, held}
+use Rattle.stow_data.specs.Plans.{Plan, container_at, held}
 use Rattle.greedy_loader.proofs.Stowed.{container_is}
 use Rattle.bookings.specs.declared.shipment.Bookings.{Bookings}
 use Rattle.plan_files.specs.DepartureFile.{Group, group_of, group_at}
@@ -14,7 +14,7 @@ use Rattle.plan_files.proofs.Composing.{groups_below, groups_more}
 use Rattle.baplie_model.specs.declared.parts.CellGroup.{CellGroup}
 use Rattle.plan_messages.specs.Departure.{cell_group_of}
 
-module _ (ship : Ship) (cargo : Cargo) (bookings : Bookings) (plan : Stowage) (n : ℕ) where
+module _ (ship : Ship) (cargo : Cargo) (bookings : Bookings) (plan : Plan) (n : ℕ) where
   -- a container stands at the next place
   pub filled : (c : ℕ) (container : Container) (list new : List CellGroup) (g : CellGroup) → list ≡ map cell_group_of (groups_below ship cargo bookings plan n) → slice_get plan n ≡ Some (Some c) → slice_get cargo.containers c ≡ Some container
       → g ≡ cell_group_of (group_of ship cargo bookings n container) → new ≡ list ++ g ∷ [] → new ≡ map cell_group_of (groups_below ship cargo bookings plan (n + 1))

@@ -7,14 +7,14 @@ use Rattle.std.specs.List.{flat_map, range_with_len, enumerate_from}
 use Rattle.stow_data.specs.declared.geometry.Length.{Length}
 use Rattle.stow_data.specs.declared.geometry.Span.{Span}
 use Rattle.stow_data.specs.declared.geometry.Span.TheVariants.{Fore, Aft, Both}
-use Rattle.stow_data.specs.declared.shipments.Container.{Container}
-use Rattle.stow_data.specs.declared.shipments.Origin.TheVariants.{Booked}
+use Rattle.stow_data.specs.declared.cargoes.Container.{Container}
+use Rattle.stow_data.specs.declared.cargoes.Origin.TheVariants.{Booked}
 use Rattle.stow_data.specs.Ship.{Ship, places, bay_of}
 use Rattle.stow_data.specs.Shipment.{Cargo}
 use Rattle.stow_data.specs.Profile.{IsShip, IsStack, is_class}
 use Rattle.stow_data.proofs.CellLemmas.{each_bounded, stack_rules}
 use Rattle.stow_data.proofs.Members.{member_of, map_at, numbered}
-use Rattle.greedy_loader.specs.Loader.{Stowage, place_at, container_at, held}
+use Rattle.stow_data.specs.Plans.{Plan, place_at, container_at, held, no_stack}
 use Rattle.greedy_loader.proofs.Columns.{is_place}
 use Rattle.greedy_loader.proofs.Stowed.{is_container}
 use Rattle.bookings.specs.declared.shipment.Booking.{Booking}
@@ -23,7 +23,7 @@ use Rattle.toml_values.specs.Values.{is_code}
 use Rattle.bookings.specs.Reading.{length_of}
 use Rattle.bookings.specs.Rules.{IsBooking, IsBookings}
 use Rattle.plain_inputs.specs.Booked.{booked_cargo, container_of}
-use Rattle.plan_files.specs.DepartureFile.{Group, no_stack, no_booking, port_of, number_at, booking_of, group_of, group_at, groups, IsKnown}
+use Rattle.plan_files.specs.DepartureFile.{Group, no_booking, port_of, number_at, booking_of, group_of, group_at, groups, IsKnown}
 use Rattle.baplie_model.specs.Texts.{long_of}
 use Rattle.baplie_write.specs.Whole.{IsWhole}
 use Rattle.plan_messages.specs.Departure.{message_of}
@@ -137,7 +137,7 @@ all-append [] ys a b = b
 all-append (x ∷ xs) ys a b = (a.0, all-append xs ys a.1 b)
 
 -- the groups of the places from a number on
-module _ (ship : Ship) (bookings : Bookings) (plan : Stowage) (s : IsShip ship) (b : IsBookings bookings) (known : IsKnown (booked_cargo ship bookings) plan) where
+module _ (ship : Ship) (bookings : Bookings) (plan : Plan) (s : IsShip ship) (b : IsBookings bookings) (known : IsKnown (booked_cargo ship bookings) plan) where
   at : ℕ → List Group
   at p = group_at ship (booked_cargo ship bookings) bookings p (held plan p)
 
@@ -145,7 +145,7 @@ module _ (ship : Ship) (bookings : Bookings) (plan : Stowage) (s : IsShip ship) 
   booked_at p h None e = tt
   booked_at p h (Some c) e = (booked_group_rules ship bookings p c s b h (known p c (found plan p c e)), tt)
     where
-      found : (xs : Stowage) (i c : ℕ) → slice_index_or xs i None ≡ Some c → slice_get xs i ≡ Some (Some c)
+      found : (xs : Plan) (i c : ℕ) → slice_index_or xs i None ≡ Some c → slice_get xs i ≡ Some (Some c)
       found [] i c f = absurd (let g : None ≡ Some c = f in cc)
       found (x ∷ xs) ℕ.zero c f = ap (λ y. Some y) f
       found (x ∷ xs) (suc i) c f = found xs i c f
@@ -158,20 +158,20 @@ one_at : (ship : Ship) (cargo : Cargo) (bookings : Bookings) (p : ℕ) (o : Opti
 one_at ship cargo bookings p None = omega arith
 one_at ship cargo bookings p (Some c) = omega arith
 
-few_at : (ship : Ship) (cargo : Cargo) (bookings : Bookings) (plan : Stowage) (first count : ℕ) → length (flat_map (λ p. group_at ship cargo bookings p (held plan p)) (range_with_len first count)) ≤ count
+few_at : (ship : Ship) (cargo : Cargo) (bookings : Bookings) (plan : Plan) (first count : ℕ) → length (flat_map (λ p. group_at ship cargo bookings p (held plan p)) (range_with_len first count)) ≤ count
 few_at ship cargo bookings plan first ℕ.zero = omega arith
 few_at ship cargo bookings plan first (suc count) =
     omega (arith, length-append (group_at ship cargo bookings first (held plan first)) (flat_map (λ p. group_at ship cargo bookings p (held plan p)) (range_with_len (first + 1) count)), one_at ship cargo bookings first (held plan first), few_at ship cargo bookings plan (first + 1) count)
 
-pub booked_groups : (ship : Ship) (bookings : Bookings) (plan : Stowage) → IsShip ship → IsBookings bookings → IsKnown (booked_cargo ship bookings) plan → AllBooked (groups ship (booked_cargo ship bookings) bookings plan)
+pub booked_groups : (ship : Ship) (bookings : Bookings) (plan : Plan) → IsShip ship → IsBookings bookings → IsKnown (booked_cargo ship bookings) plan → AllBooked (groups ship (booked_cargo ship bookings) bookings plan)
 unfolding groups
 booked_groups ship bookings plan s b known = all_at ship bookings plan s b known 0 (length (places ship)) (omega arith)
 
-pub few_groups : (ship : Ship) (bookings : Bookings) (plan : Stowage) → IsShip ship → length (groups ship (booked_cargo ship bookings) bookings plan) ≤ 3000
+pub few_groups : (ship : Ship) (bookings : Bookings) (plan : Plan) → IsShip ship → length (groups ship (booked_cargo ship bookings) bookings plan) ≤ 3000
 unfolding groups
 few_groups ship bookings plan s = omega (arith, few_at ship (booked_cargo ship bookings) bookings plan 0 (length (places ship)), s.few_places)
 
-pub plan_whole : (ship : Ship) (cargo : Cargo) (bookings : Bookings) (plan : Stowage) (call : ℕ) → IsShip ship → IsBookings bookings → cargo ≡ booked_cargo ship bookings → IsKnown cargo plan → call < length bookings.rotation → IsWhole (message_of cargo bookings call (groups ship cargo bookings plan))
+pub plan_whole : (ship : Ship) (cargo : Cargo) (bookings : Bookings) (plan : Plan) (call : ℕ) → IsShip ship → IsBookings bookings → cargo ≡ booked_cargo ship bookings → IsKnown cargo plan → call < length bookings.rotation → IsWhole (message_of cargo bookings call (groups ship cargo bookings plan))
 plan_whole ship cargo bookings plan call s b e known h =
     let K : Cargo → Type 0 = λ x. IsKnown x plan in
     let W : Cargo → Type 0 = λ x. IsWhole (message_of x bookings call (groups ship x bookings plan)) in

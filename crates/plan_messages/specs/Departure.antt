@@ -1,6 +1,6 @@
 -- The message that the departure file of a call is (SMDG BAPLIE 2.2).
 use Rattle.std.specs.Prelude.{ℕ, List, map, drop, Some, is_some}
-use Rattle.stow_data.specs.declared.shipments.Container.{Container}
+use Rattle.stow_data.specs.declared.cargoes.Container.{Container}
 use Rattle.stow_data.specs.Shipment.{Cargo}
 use Rattle.bookings.specs.declared.shipment.Booking.{Booking}
 use Rattle.bookings.specs.declared.shipment.Bookings.{Bookings}

@@ -2,7 +2,7 @@
 ghost use Rattle.std.specs.Prelude.{◌≡◌, ℕ, ◌<◌, List, length};
 ghost use Rattle.stow_data.specs.Ship.{Ship};
 ghost use Rattle.stow_data.specs.Profile.{IsShip};
-ghost use Rattle.greedy_loader.specs.Loader.{Stowage};
+ghost use Rattle.stow_data.specs.Plans.{Plan};
 ghost use Rattle.bookings.specs.declared.shipment.Bookings.{Bookings};
 ghost use Rattle.bookings.specs.Rules.{IsBookings};
 ghost use Rattle.plain_inputs.specs.Booked.{booked_cargo};
@@ -16,11 +16,11 @@ ghost use Rattle.plan_messages.specs.Departure.{message_of};
 /// tell the cells, numbers, types, lengths, ports of discharge and weights of what stands on the ship,
 /// which containers are empty and which reefers, and the classes of dangerous goods.
 pub fn departure_reads()
-    ensures whole { (ship : Ship) (bookings : Bookings) (plan : Stowage) (call : ℕ) → IsShip ship → IsBookings bookings → IsKnown (booked_cargo ship bookings) plan → call < length bookings.rotation
+    ensures whole { (ship : Ship) (bookings : Bookings) (plan : Plan) (call : ℕ) → IsShip ship → IsBookings bookings → IsKnown (booked_cargo ship bookings) plan → call < length bookings.rotation
         → IsWhole (message_of (booked_cargo ship bookings) bookings call (groups ship (booked_cargo ship bookings) bookings plan)) }
-    ensures segments { (ship : Ship) (bookings : Bookings) (plan : Stowage) (call : ℕ)
+    ensures segments { (ship : Ship) (bookings : Bookings) (plan : Plan) (call : ℕ)
         → segments_of (message_of (booked_cargo ship bookings) bookings call (groups ship (booked_cargo ship bookings) bookings plan))
         ≡ file_segments (booked_cargo ship bookings) bookings call (groups ship (booked_cargo ship bookings) bookings plan) }
-    ensures reads { (ship : Ship) (bookings : Bookings) (plan : Stowage) (call : ℕ) → IsShip ship → IsBookings bookings → IsKnown (booked_cargo ship bookings) plan → call < length bookings.rotation
+    ensures reads { (ship : Ship) (bookings : Bookings) (plan : Plan) (call : ℕ) → IsShip ship → IsBookings bookings → IsKnown (booked_cargo ship bookings) plan → call < length bookings.rotation
         → IsMessageOf (file_text (booked_cargo ship bookings) bookings call (groups ship (booked_cargo ship bookings) bookings plan)) (message_of (booked_cargo ship bookings) bookings call (groups ship (booked_cargo ship bookings) bookings plan)) }
 {}

@@ -4,7 +4,7 @@ use Rattle.std.specs.Prelude.{All, map, flat_map}
 use Rattle.stow_data.specs.Ship.{Ship}
 use Rattle.stow_data.specs.Profile.{IsShip}
 use Rattle.voyage_specs.specs.Shown.{CellGroup}
-use Rattle.greedy_loader.specs.Loader.{Stowage}
+use Rattle.stow_data.specs.Plans.{Plan}
 use Rattle.bookings.specs.declared.shipment.Bookings.{Bookings}
 use Rattle.bookings.specs.Rules.{IsBookings}
 use Rattle.plain_inputs.specs.Booked.{booked_cargo}
@@ -17,7 +17,7 @@ use Rattle.stow_cli.specs.Work.{files_of}
 use Rattle.stow_cli.specs.Voyages.{ReadAs, shown_in, shown_by}
 
 -- the messages of plans, of which the first is that of this call
-abbrev pub messages_of : Ship → Bookings → ℕ → List Stowage → List Message
+abbrev pub messages_of : Ship → Bookings → ℕ → List Plan → List Message
 messages_of ship booked call [] = []
 messages_of ship booked call (plan ∷ plans) = message_of (booked_cargo ship booked) booked call (groups ship (booked_cargo ship booked) booked plan) ∷ messages_of ship booked (call + 1) plans
 
@@ -25,13 +25,13 @@ groups_shown : (gs : List Group) → flat_map shown_in (map cell_group_of gs) �
 groups_shown [] = refl
 groups_shown (g ∷ gs) = ap (λ (xs : List CellGroup). g.cell ∷ xs) (groups_shown gs)
 
-pub all_shown : (ship : Ship) (booked : Bookings) (call : ℕ) (plans : List Stowage) → map shown_by (messages_of ship booked call plans) ≡ map (cells ship (booked_cargo ship booked) booked) plans
+pub all_shown : (ship : Ship) (booked : Bookings) (call : ℕ) (plans : List Plan) → map shown_by (messages_of ship booked call plans) ≡ map (cells ship (booked_cargo ship booked) booked) plans
 all_shown ship booked call [] = refl
 all_shown ship booked call (plan ∷ plans) =
     ap (λ (xs : List CellGroup). xs ∷ map shown_by (messages_of ship booked (call + 1) plans)) (groups_shown (groups ship (booked_cargo ship booked) booked plan))
     ∙ ap (λ (rest : List (List CellGroup)). cells ship (booked_cargo ship booked) booked plan ∷ rest) (all_shown ship booked (call + 1) plans)
 
-pub all_read : (base : List ℕ) (ship : Ship) (booked : Bookings) (call : ℕ) (plans : List Stowage) → IsShip ship → IsBookings booked → All (IsKnown (booked_cargo ship booked)) plans → call + length plans ≤ length booked.rotation
+pub all_read : (base : List ℕ) (ship : Ship) (booked : Bookings) (call : ℕ) (plans : List Plan) → IsShip ship → IsBookings booked → All (IsKnown (booked_cargo ship booked)) plans → call + length plans ≤ length booked.rotation
     → ReadAs (files_of base ship (booked_cargo ship booked) booked call plans) (messages_of ship booked call plans)
 unfolding files_of
 all_read base ship booked call [] s b known h = tt

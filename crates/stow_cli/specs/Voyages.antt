@@ -2,7 +2,7 @@
 use Rattle.std.specs.Prelude.{◌≡◌, ℕ, Bool, codes, List, [], ◌∷◌, ◌++◌, map, flat_map, length, Option, Some, None, pos, ◌≤ℤ◌}
 use Rattle.std.specs.Fmt.{decimal}
 use Rattle.stow_data.specs.Ship.{Ship}
-use Rattle.voyage_specs.specs.Plan.{Plan}
+use Rattle.stow_data.specs.Plans.{Plan}
 use Rattle.voyage_specs.specs.Shown.{CellGroup, IsLegalFileSet}
 use Rattle.baplie_model.specs.declared.parts.CellGroup as baplie
 use Rattle.baplie_model.specs.declared.parts.Facts.{Facts}

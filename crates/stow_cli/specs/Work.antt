@@ -6,7 +6,8 @@ use Rattle.stow_data.specs.Shipment.{Cargo}
 use Rattle.bookings.specs.declared.shipment.Bookings.{Bookings}
 use Rattle.stow_cli.specs.declared.writing.NamedFile.{NamedFile}
 use Rattle.stow_cli.specs.declared.work.Work.{Work}
-use Rattle.greedy_loader.specs.Loader.{Stowage, load}
+use Rattle.stow_data.specs.Plans.{Plan}
+use Rattle.greedy_loader.specs.Loader.{load}
 use Rattle.plain_inputs.specs.Booked.{booked_cargo}
 use Rattle.plan_files.specs.DepartureFile.{groups, file_text}
 use Rattle.certificate.specs.declared.tree.End.TheVariants.{Leaf}
@@ -23,11 +24,11 @@ abbrev pub file_name : List ℕ → ℕ → List ℕ
 file_name base call = (base ++ (codes "-" ++ two_digits call)) ++ codes ".edi"
 
 -- the departure file of a call, under its name
-abbrev pub file_of : List ℕ → Ship → Cargo → Bookings → ℕ → Stowage → NamedFile
+abbrev pub file_of : List ℕ → Ship → Cargo → Bookings → ℕ → Plan → NamedFile
 file_of base ship cargo bookings call plan = record { name = file_name base call; bytes = file_text cargo bookings call (groups ship cargo bookings plan) }
 
 -- a file for each plan, from this call on
-unfoldable pub files_of : List ℕ → Ship → Cargo → Bookings → ℕ → List Stowage → List NamedFile
+unfoldable pub files_of : List ℕ → Ship → Cargo → Bookings → ℕ → List Plan → List NamedFile
 files_of base ship cargo bookings call [] = []
 files_of base ship cargo bookings call (plan ∷ plans) = file_of base ship cargo bookings call plan ∷ files_of base ship cargo bookings (call + 1) plans
 
@@ -50,10 +51,10 @@ abbrev pub report : List ℕ
 report = codes "outcome optimal\nrehandles 0\nbound 0\nnodes 1\n"
 
 -- the departure files from call 1 on, and the certificate
-abbrev pub all_files : List ℕ → Ship → Cargo → Bookings → List Stowage → List NamedFile
+abbrev pub all_files : List ℕ → Ship → Cargo → Bookings → List Plan → List NamedFile
 all_files base ship cargo bookings plans = files_of base ship cargo bookings 1 plans ++ cert_file base head (leaf ∷ []) ∷ []
 
-abbrev pub work_of_plans : List ℕ → Ship → Cargo → Bookings → List Stowage → Work
+abbrev pub work_of_plans : List ℕ → Ship → Cargo → Bookings → List Plan → Work
 work_of_plans base ship cargo bookings plans = record { files = all_files base ship cargo bookings plans; report = report }
 
 -- none where the loader's rule gives no plans

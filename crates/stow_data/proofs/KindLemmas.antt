@@ -8,7 +8,7 @@ use Rattle.std.proofs.lemmas.Option.{none-some, same_Some, slice_get_within, get
 use Rattle.std.proofs.lemmas.List.{get_or_past, take_more}
 use Rattle.stow_data.specs.declared.geometry.Length.{Length}
 use Rattle.stow_data.specs.declared.geometry.Length.TheVariants.{Twenty, Forty}
-use Rattle.stow_data.specs.declared.shipments.Container.{Container}
+use Rattle.stow_data.specs.declared.cargoes.Container.{Container}
 use Rattle.stow_data.specs.declared.kind_list.Kind.{Kind}
 use Rattle.stow_data.specs.Kinds.{kind_of, same_length, same_flag, alike, with_kind, kinds_after, kinds_of, number_in, kind_number, loads_in, KindTable, AreKinds}
 use Rattle.stow_data.specs.Shipment.{Cargo, IsCargo, IsShipped}

@@ -1,5 +1,5 @@
 -- What the fields of a cargo mean.
-use Rattle.stow_data.specs.declared.shipments.Cargo.TheInside.{Inside}
+use Rattle.stow_data.specs.declared.cargoes.Cargo.TheInside.{Inside}
 use Rattle.stow_data.specs.Shipment.{Cargo, IsCargo}
 
 abbrev pub cargo_of : Inside → Cargo

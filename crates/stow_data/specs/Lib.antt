@@ -4,6 +4,7 @@ pub mod CellTable
 pub mod CoverTable
 pub mod Tables
 pub mod Shipment
+pub mod Plans
 pub mod Cargoes
 pub mod Kinds
 pub mod KindFields

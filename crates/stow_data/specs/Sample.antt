@@ -6,8 +6,8 @@ use Rattle.stow_data.specs.declared.geometry.Separation.{Separation}
 use Rattle.stow_data.specs.declared.geometry.Lengths.{Lengths}
 use Rattle.stow_data.specs.declared.geometry.Lengths.TheVariants.{Forty, Twenty, Mixed, ForeOnly, AftOnly}
 use Rattle.stow_data.specs.declared.geometry.Length.TheVariants as of_length
-use Rattle.stow_data.specs.declared.shipments.Container.{Container}
-use Rattle.stow_data.specs.declared.shipments.Origin.TheVariants.{Booked}
+use Rattle.stow_data.specs.declared.cargoes.Container.{Container}
+use Rattle.stow_data.specs.declared.cargoes.Origin.TheVariants.{Booked}
 use Rattle.stow_data.specs.Ship.{Ship}
 
 -- a stack whose lowest tier has a reefer plug or none

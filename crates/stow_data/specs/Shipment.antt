@@ -1,6 +1,6 @@
 -- What contracts see of a cargo, and the rules that it obeys.
 use Rattle.std.specs.Prelude.{◌≢◌, ◌^◌, ◌<◌, ◌≤◌, ℕ, List, Option, length, All, AllPairs}
-use Rattle.stow_data.specs.declared.shipments.Container.{Container}
+use Rattle.stow_data.specs.declared.cargoes.Container.{Container}
 
 -- the ports of the calls from 1, the containers, and for each place what stands there at arrival
 pub record Cargo : Type 0 where

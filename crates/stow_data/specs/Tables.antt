@@ -1,6 +1,6 @@
 -- What the fields of a ship mean.
 use Rattle.std.specs.Prelude.{◌≡◌, length}
-use Rattle.stow_data.specs.declared.vessel.Ship.TheInside.{Inside}
+use Rattle.stow_data.specs.declared.ships.Ship.TheInside.{Inside}
 use Rattle.stow_data.specs.Ship.{Ship, places, halves}
 use Rattle.stow_data.specs.Profile.{IsShip}
 use Rattle.stow_data.specs.CellTable.{IsCellTable}

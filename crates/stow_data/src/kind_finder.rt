@@ -5,13 +5,13 @@ ghost use Rattle.std.specs.Cmp.Lexicographic.{pointwise};
 ghost use Rattle.stow_data.specs.Kinds.{rounded, kind_of, kinds_of, kind_number, same_length, alike, number_in, with_kind, loads_in, AreKinds};
 ghost use Rattle.stow_data.specs.Shipment.{IsCargo};
 
+use crate::cargoes::{Cargo, Container};
 use crate::geometry::Length;
 use crate::kind_list::{Kind, Kinds};
 use crate::list::{NoMemory, NumberList, Seq};
 use crate::names::Name;
 use crate::numbers::{CallNo, ContainerNo, KindNo};
-use crate::shipments::{Cargo, Container};
-use crate::vessel::Ship;
+use crate::ships::Ship;
 use std::alloc::Global;
 
 /// A weight rounded up to a step.

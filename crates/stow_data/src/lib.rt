@@ -1,6 +1,7 @@
 //! What every crate speaks of: lists, names, the ship's geometry, plans and the cargo.
 #![tactic(auto)]
 
+mod cargoes;
 mod cells;
 mod geometry;
 mod hatches;
@@ -10,14 +11,14 @@ mod limits;
 mod list;
 mod names;
 mod numbers;
-mod shipments;
-mod stowage;
+mod plans;
+mod ships;
 mod tables;
 #[cfg(test)]
 mod tests;
-mod vessel;
 mod words;
 
+pub use cargoes::{Cargo, Container, ContainerList, Origin};
 pub use geometry::{
     Cover, CoverList, Half, Length, Lengths, Place, Separation, SeparationList, Span, Stack,
     StackList, Stacks,
@@ -28,7 +29,6 @@ pub use limits::Limit;
 pub use list::{Bytes, FlagList, NoMemory, NumberList, Seq};
 pub use names::{Name, NameList};
 pub use numbers::{CallNo, ContainerNo, CoverNo, HalfNo, KindNo, PlaceNo, StackNo, VarNo};
-pub use shipments::{Cargo, Container, ContainerList, Origin};
-pub use stowage::{Plan, PlanList};
-pub use vessel::Ship;
+pub use plans::{Plan, PlanList};
+pub use ships::Ship;
 pub use words::{Word, WordList};

@@ -6,7 +6,8 @@ use Rattle.voyage_specs.specs.declared.moves.Move.{Move}
 use Rattle.voyage_specs.specs.declared.moves.Move.TheVariants.{OffCover, OnCover, Lift, Put}
 use Rattle.stow_data.specs.Ship.{Ship}
 use Rattle.stow_data.specs.Shipment.{Cargo}
-use Rattle.voyage_specs.specs.Plan.{Plan, Holds}
+use Rattle.stow_data.specs.Plans.{Plan}
+use Rattle.voyage_specs.specs.Plan.{Holds}
 use Rattle.voyage_specs.specs.Moves.{State, AllAllowed, after, lift_count, rehandles}
 use Rattle.voyage_specs.specs.Least.{counted}
 use Rattle.voyage_specs.proofs.Lower.{put_elsewhere, is_lifted}

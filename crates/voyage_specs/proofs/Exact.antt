@@ -9,7 +9,7 @@ use Rattle.voyage_specs.specs.declared.moves.Move.{Move}
 use Rattle.voyage_specs.specs.declared.moves.Move.TheVariants.{OffCover, OnCover, Lift, Put}
 use Rattle.stow_data.specs.Ship.{Ship, places}
 use Rattle.stow_data.specs.Shipment.{Cargo}
-use Rattle.voyage_specs.specs.Plan.{Plan}
+use Rattle.stow_data.specs.Plans.{Plan}
 use Rattle.voyage_specs.specs.Moves.{State, after, end_of, lift_count, rehandles}
 use Rattle.voyage_specs.specs.Voyage.{start}
 use Rattle.voyage_specs.specs.Least.{counted}

@@ -6,7 +6,8 @@ use Rattle.stow_data.specs.declared.geometry.Half.{Half}
 use Rattle.stow_data.specs.declared.geometry.Length.{Length}
 use Rattle.stow_data.specs.Ship.{Ship, places}
 use Rattle.stow_data.specs.Shipment.{Cargo}
-use Rattle.voyage_specs.specs.Plan.{Plan, Fills}
+use Rattle.stow_data.specs.Plans.{Plan}
+use Rattle.voyage_specs.specs.Plan.{Fills}
 use Rattle.voyage_specs.specs.Places.{FillsFrom, IsTaken, IsTakenFrom, IsBearing, IsBearingFrom, HasTwentyOnly, HasTwentyOnlyFrom}
 
 fills : {ship : Ship} {plan : Plan} {n : ℕ} {h : Half} {c : ℕ} → FillsFrom ship plan n h c → Fills ship plan h c

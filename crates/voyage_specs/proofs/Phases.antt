@@ -4,11 +4,12 @@ use Rattle.std.proofs.Common.{refl, sym, ◌∙◌, ap, arith, subst, inl, inr, 
 use Rattle.std.proofs.lemmas.Bool.{and_from, and_parts, both_ways, or_cases, or_left, or_right, eq-eqb, eqb-true, cases_eq, ne_eqb, not_from_false, not_from_true}
 use Rattle.std.proofs.lemmas.Option.{none-some, same_Some, slice_get_within}
 use Rattle.std.proofs.lemmas.List.{length-set}
-use Rattle.stow_data.specs.declared.shipments.Container.{Container}
+use Rattle.stow_data.specs.declared.cargoes.Container.{Container}
 use Rattle.voyage_specs.specs.declared.moves.Move.TheVariants.{Lift, Put}
 use Rattle.stow_data.specs.Ship.{Ship}
 use Rattle.stow_data.specs.Shipment.{Cargo}
-use Rattle.voyage_specs.specs.Plan.{Plan, Holds, IsWellFormed}
+use Rattle.stow_data.specs.Plans.{Plan}
+use Rattle.voyage_specs.specs.Plan.{Holds, IsWellFormed}
 use Rattle.voyage_specs.specs.Moves.{State, after, leaves, quay_with}
 use Rattle.voyage_specs.proofs.Lower.{slice_get-set_other, slice_get-set_same}
 use Rattle.voyage_specs.proofs.Steps.{Lifting, Putting, still_held, lifting_more, putting_more, slice_get_in}

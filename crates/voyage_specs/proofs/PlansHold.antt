@@ -7,10 +7,11 @@ use Rattle.stow_data.specs.declared.geometry.Half.{Half}
 use Rattle.stow_data.specs.declared.geometry.Place.{Place}
 use Rattle.stow_data.specs.declared.geometry.Span.{Span}
 use Rattle.stow_data.specs.declared.geometry.Span.TheVariants.{Fore, Aft, Both}
-use Rattle.stow_data.specs.declared.shipments.Container.{Container}
+use Rattle.stow_data.specs.declared.cargoes.Container.{Container}
 use Rattle.stow_data.specs.Ship.{Ship, places, HasHalf, HasLength, TakesSide, half_at}
 use Rattle.stow_data.specs.Shipment.{Cargo}
-use Rattle.voyage_specs.specs.Plan.{Plan, Holds, IsWellFormed}
+use Rattle.stow_data.specs.Plans.{Plan}
+use Rattle.voyage_specs.specs.Plan.{Holds, IsWellFormed}
 use Rattle.voyage_specs.specs.Departure.{HoldsAboard, has_column_in_common, meets}
 use Rattle.voyage_specs.specs.Places.{FitsAt, StandsAlone, StandsAloneAt, IsSomewhere, AboardAt}
 use Rattle.voyage_specs.proofs.Fillers.{from}

@@ -5,7 +5,7 @@ use Rattle.stow_data.specs.declared.geometry.Place.{Place}
 use Rattle.stow_data.specs.declared.geometry.Span.TheVariants.{Fore, Aft, Both}
 use Rattle.stow_data.specs.declared.geometry.Lengths.TheVariants as offers
 use Rattle.stow_data.specs.declared.geometry.Length.TheVariants as long
-use Rattle.stow_data.specs.declared.shipments.Origin.TheVariants as origin
+use Rattle.stow_data.specs.declared.cargoes.Origin.TheVariants as origin
 use Rattle.stow_data.specs.Ship.{Ship, places}
 use Rattle.stow_data.specs.Shipment.{Cargo}
 use Rattle.voyage_specs.specs.declared.moves.Move.{Move}

@@ -5,10 +5,11 @@ use Rattle.std.proofs.lemmas.Option.{slice_get_within, none-some, same_Some, get
 use Rattle.std.proofs.lemmas.List.Sums.{sum_by_more}
 use Rattle.stow_data.specs.declared.geometry.Place.{Place}
 use Rattle.stow_data.specs.declared.geometry.Separation.{Separation}
-use Rattle.stow_data.specs.declared.shipments.Container.{Container}
+use Rattle.stow_data.specs.declared.cargoes.Container.{Container}
 use Rattle.stow_data.specs.Ship.{Ship, places, TakesSide}
 use Rattle.stow_data.specs.Shipment.{Cargo}
-use Rattle.voyage_specs.specs.Plan.{Plan, Holds, Fills, Stands}
+use Rattle.stow_data.specs.Plans.{Plan}
+use Rattle.voyage_specs.specs.Plan.{Holds, Fills, Stands}
 use Rattle.voyage_specs.specs.Departure.{half_of, IsSupported, IsTwentyOnTwenty, IsPlugged, IsWithinLimits, IsSeparated, IsSeparatedBy, stack_weight, weight_in}
 use Rattle.voyage_specs.specs.Places.{IsTaken, HasTwentyOnly, RestsOn, RestsOnTwenty, SupportedAt, TwentyAt, PluggedAt, WithinAt, WeighsAt, HasClassAt, KeptApart, KeptApartFrom, Obeys, rule_number}
 use Rattle.voyage_specs.specs.declared.rules.Rule.{Rule}

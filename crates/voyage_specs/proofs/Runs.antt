@@ -9,7 +9,8 @@ use Rattle.voyage_specs.specs.declared.moves.Move.{Move}
 use Rattle.voyage_specs.specs.declared.moves.Move.TheVariants.{Lift, Put}
 use Rattle.stow_data.specs.Ship.{Ship, places, LiesUnder, StandsOn}
 use Rattle.stow_data.specs.Shipment.{Cargo}
-use Rattle.voyage_specs.specs.Plan.{Plan, Holds, IsWellFormed}
+use Rattle.stow_data.specs.Plans.{Plan}
+use Rattle.voyage_specs.specs.Plan.{Holds, IsWellFormed}
 use Rattle.voyage_specs.specs.Departure.{IsStowed}
 use Rattle.voyage_specs.specs.Moves.{State, Allowed, AllAllowed, after, end_of}
 use Rattle.voyage_specs.specs.Least.{IsOver, IsClosed}

@@ -8,13 +8,13 @@ use Rattle.stow_data.specs.Ship.{Ship, places}
 use Rattle.stow_data.specs.Shipment.{Cargo}
 use Rattle.voyage_specs.specs.declared.moves.Move.{Move}
 use Rattle.voyage_specs.specs.declared.moves.Move.TheVariants.{OffCover, OnCover, Lift, Put}
-use Rattle.voyage_specs.specs.Plan.{Plan}
+use Rattle.stow_data.specs.Plans.{Plan}
 use Rattle.voyage_specs.specs.Moves.{State, Allowed, AllAllowed, after, end_of, leaves, quay_with, rehandles, rehandles_of}
 use Rattle.voyage_specs.specs.Places.{BelongsTo, IsInRange, NoneSet, EndsAt, Runs, StopsAt}
 use Rattle.voyage_specs.specs.Voyage.{AllOn, start, LeadsTo}
 use Rattle.voyage_specs.specs.Departure.{IsDeparture}
 use Rattle.stow_data.specs.declared.geometry.Cover.{Cover}
-use Rattle.stow_data.specs.declared.shipments.Container.{Container}
+use Rattle.stow_data.specs.declared.cargoes.Container.{Container}
 use Rattle.voyage_specs.proofs.Upper.{same_reads}
 use Rattle.voyage_specs.proofs.Steps.{slice_get_in}
 

@@ -8,7 +8,8 @@ use Rattle.stow_data.specs.declared.geometry.Length.{Length}
 use Rattle.stow_data.specs.declared.geometry.Length.TheVariants.{Twenty, Forty}
 use Rattle.stow_data.specs.Ship.{Ship, places, half_at, LiesUnder, StandsOn}
 use Rattle.stow_data.specs.Shipment.{Cargo}
-use Rattle.voyage_specs.specs.Plan.{Plan, Holds, Fills, IsWellFormed, Stands}
+use Rattle.stow_data.specs.Plans.{Plan}
+use Rattle.voyage_specs.specs.Plan.{Holds, Fills, IsWellFormed, Stands}
 use Rattle.voyage_specs.specs.Departure.{IsStowed, IsTwenty}
 use Rattle.voyage_specs.specs.Moves.{State, CanPut, CanLift, Bears}
 use Rattle.voyage_specs.specs.Least.{IsOver, IsClosed}

@@ -6,13 +6,14 @@ use Rattle.std.proofs.lemmas.Bool.{cond-true, true_from_ne_false, and_from, and_
 use Rattle.std.proofs.lemmas.Option.{none-some, same_Some, slice_get_within}
 use Rattle.std.proofs.lemmas.List.{length-map}
 use Rattle.stow_data.specs.declared.geometry.Cover.{Cover}
-use Rattle.stow_data.specs.declared.shipments.Container.{Container}
+use Rattle.stow_data.specs.declared.cargoes.Container.{Container}
 use Rattle.stow_data.specs.declared.geometry.Place.{Place}
 use Rattle.voyage_specs.specs.declared.moves.Move.{Move}
 use Rattle.voyage_specs.specs.declared.moves.Move.TheVariants.{OffCover, OnCover}
 use Rattle.stow_data.specs.Ship.{Ship, places, LiesUnder, StandsOn}
 use Rattle.stow_data.specs.Shipment.{Cargo, IsAboard}
-use Rattle.voyage_specs.specs.Plan.{Plan, Holds, IsWellFormed}
+use Rattle.stow_data.specs.Plans.{Plan}
+use Rattle.voyage_specs.specs.Plan.{Holds, IsWellFormed}
 use Rattle.voyage_specs.specs.Departure.{IsStowed}
 use Rattle.voyage_specs.specs.Moves.{State, end_of, IsBare, leaves}
 use Rattle.voyage_specs.specs.Voyage.{AllOn, start}

@@ -6,7 +6,7 @@ use Rattle.stow_data.specs.declared.geometry.Cover.{Cover}
 use Rattle.voyage_specs.specs.declared.moves.Move.{Move}
 use Rattle.stow_data.specs.Ship.{Ship}
 use Rattle.stow_data.specs.Shipment.{Cargo}
-use Rattle.voyage_specs.specs.Plan.{Plan}
+use Rattle.stow_data.specs.Plans.{Plan}
 use Rattle.voyage_specs.specs.Moves.{lift_count, rehandles}
 use Rattle.voyage_specs.specs.Voyage.{start, LeadsTo, IsVoyage, count}
 use Rattle.voyage_specs.specs.Least.{counted, counted_all, IsClosed, IsLeastClosed, AreLeast}

@@ -4,13 +4,14 @@ use Rattle.std.proofs.Common.{refl, sym, ◌∙◌, ap, arith, subst, ⊎_elim}
 use Rattle.std.proofs.lemmas.Bool.{both_ways, cases_Bool, eqb-true}
 use Rattle.std.proofs.lemmas.Option.{none-some, same_Some, get_or_from_slice_get, slice_get_within}
 use Rattle.std.proofs.lemmas.List.Elements.{All-get_or}
-use Rattle.stow_data.specs.declared.shipments.Container.{Container}
+use Rattle.stow_data.specs.declared.cargoes.Container.{Container}
 use Rattle.stow_data.specs.Ship.{Ship}
 use Rattle.stow_data.specs.Shipment.{Cargo, IsCargo, IsShipped}
 use Rattle.stow_data.specs.Profile.{IsShip, IsCover, highest}
 use Rattle.stow_data.specs.declared.geometry.Stack.{Stack}
 use Rattle.voyage_specs.specs.declared.moves.Move.{Move}
-use Rattle.voyage_specs.specs.Plan.{Plan, Holds}
+use Rattle.stow_data.specs.Plans.{Plan}
+use Rattle.voyage_specs.specs.Plan.{Holds}
 use Rattle.voyage_specs.specs.Departure.{IsStowed, IsDeparture, AreDepartures, HasArrival}
 use Rattle.voyage_specs.specs.Moves.{leaves, lift_count, rehandles}
 use Rattle.voyage_specs.specs.Voyage.{start, LeadsTo, IsVoyage, count, HasCount}

@@ -7,11 +7,12 @@ use Rattle.stow_data.specs.declared.geometry.Place.{Place}
 use Rattle.stow_data.specs.declared.geometry.Span.{Span}
 use Rattle.stow_data.specs.declared.geometry.Span.TheVariants.{Fore, Aft, Both}
 use Rattle.stow_data.specs.declared.geometry.Length.TheVariants.{Twenty}
-use Rattle.stow_data.specs.declared.shipments.Container.{Container}
+use Rattle.stow_data.specs.declared.cargoes.Container.{Container}
 use Rattle.stow_data.specs.Kinds.{rounded}
 use Rattle.stow_data.specs.Ship.{Ship, places}
 use Rattle.stow_data.specs.Shipment.{Cargo, IsAboard}
-use Rattle.voyage_specs.specs.Plan.{Plan, Holds, Fills, Stands, IsWellFormed}
+use Rattle.stow_data.specs.Plans.{Plan}
+use Rattle.voyage_specs.specs.Plan.{Holds, Fills, Stands, IsWellFormed}
 
 -- a half-cell of a stack, by tier from the bottom
 abbrev pub half_of : ℕ → ℕ → Bool → Half

@@ -3,7 +3,8 @@ use Rattle.std.specs.Prelude.{◌≡◌, ℕ, ◌+◌, suc, Bool, true, false, L
 use Rattle.stow_data.specs.declared.geometry.Place.{Place}
 use Rattle.stow_data.specs.Ship.{Ship, places, TakesSide, LiesUnder, StandsOn}
 use Rattle.stow_data.specs.Shipment.{Cargo}
-use Rattle.voyage_specs.specs.Plan.{Plan, Holds}
+use Rattle.stow_data.specs.Plans.{Plan}
+use Rattle.voyage_specs.specs.Plan.{Holds}
 use Rattle.voyage_specs.specs.Moves.{leaves, lift_count}
 
 -- place p has a half-cell directly above one of place q

@@ -3,12 +3,13 @@ use Rattle.std.specs.Prelude.{◌≡◌, ℕ, ◌+◌, Bool, true, false, List, 
 use Rattle.stow_data.specs.declared.geometry.Place.{Place}
 use Rattle.stow_data.specs.declared.geometry.Length.{Length}
 use Rattle.stow_data.specs.declared.geometry.Length.TheVariants.{Twenty, Forty}
-use Rattle.stow_data.specs.declared.shipments.Container.{Container}
+use Rattle.stow_data.specs.declared.cargoes.Container.{Container}
 use Rattle.stow_data.specs.Ship.{Ship, places, TakesSide, half_at, half_over, Fits, LiesUnder, StandsOn}
 use Rattle.stow_data.specs.Shipment.{Cargo}
 use Rattle.voyage_specs.specs.declared.moves.Move.{Move}
 use Rattle.voyage_specs.specs.declared.moves.Move.TheVariants.{OffCover, OnCover, Lift, Put}
-use Rattle.voyage_specs.specs.Plan.{Plan, Holds, Fills}
+use Rattle.stow_data.specs.Plans.{Plan}
+use Rattle.voyage_specs.specs.Plan.{Holds, Fills}
 use Rattle.voyage_specs.specs.Departure.{half_of, IsTwenty}
 
 -- the state at a call: the plan, for each container whether it is on the quay, for each hatch cover whether it is off

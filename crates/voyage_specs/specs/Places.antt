@@ -5,12 +5,13 @@ use Rattle.stow_data.specs.declared.geometry.Place.{Place}
 use Rattle.stow_data.specs.declared.geometry.Stack.{Stack}
 use Rattle.stow_data.specs.declared.geometry.Length.{Length}
 use Rattle.stow_data.specs.declared.geometry.Separation.{Separation as Separated}
-use Rattle.stow_data.specs.declared.shipments.Container.{Container}
+use Rattle.stow_data.specs.declared.cargoes.Container.{Container}
 use Rattle.stow_data.specs.Ship.{Ship, places, Fits, HasHalf, HasLength, LiesUnder, StandsOn, TakesSide, half_at, half_over}
 use Rattle.stow_data.specs.Shipment.{Cargo, IsAboard}
 use Rattle.voyage_specs.specs.declared.rules.Rule.{Rule}
 use Rattle.voyage_specs.specs.declared.rules.Rule.TheVariants.{Support, TwentyOnForty, NoPlug, StackWeight, Separation}
-use Rattle.voyage_specs.specs.Plan.{Plan, Holds, Fills, Stands}
+use Rattle.stow_data.specs.Plans.{Plan}
+use Rattle.voyage_specs.specs.Plan.{Holds, Fills, Stands}
 use Rattle.voyage_specs.specs.Departure.{half_of, IsTwenty, IsSupported, IsTwentyOnTwenty, IsPlugged, IsWithinLimits, IsSeparated, IsSeparatedBy, stack_weight, weight_in, near}
 use Rattle.voyage_specs.specs.declared.moves.Move.{Move}
 use Rattle.voyage_specs.specs.declared.moves.Move.TheVariants.{OffCover, OnCover, Lift, Put}

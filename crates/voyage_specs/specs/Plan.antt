@@ -2,13 +2,10 @@
 use Rattle.std.specs.Prelude.{◌≡◌, ℕ, List, Option, Some, slice_get, length}
 use Rattle.stow_data.specs.declared.geometry.Half.{Half}
 use Rattle.stow_data.specs.declared.geometry.Place.{Place}
-use Rattle.stow_data.specs.declared.shipments.Container.{Container}
+use Rattle.stow_data.specs.declared.cargoes.Container.{Container}
 use Rattle.stow_data.specs.Ship.{Ship, places, HasHalf, HasLength}
 use Rattle.stow_data.specs.Shipment.{Cargo}
-
--- for each place by number the container that stands there, or none
-abbrev pub Plan : Type 0
-Plan = List (Option ℕ)
+use Rattle.stow_data.specs.Plans.{Plan}
 
 -- container c stands at place p
 abbrev pub Holds : Plan → ℕ → ℕ → Type 0

@@ -2,10 +2,11 @@
 use Rattle.std.specs.Prelude.{◌≡◌, ◌≢◌, ℕ, ◌+◌, ◌-◌, suc, List, [], ◌∷◌, Some, slice_get, length, All, AllPairs, ◌↔◌}
 use Rattle.stow_data.specs.declared.geometry.Half.{Half}
 use Rattle.stow_data.specs.declared.geometry.Place.{Place}
-use Rattle.stow_data.specs.declared.shipments.Container.{Container}
+use Rattle.stow_data.specs.declared.cargoes.Container.{Container}
 use Rattle.stow_data.specs.Ship.{Ship, places, HasHalf, HasLength, HasNumber}
 use Rattle.stow_data.specs.Shipment.{Cargo, IsAboard}
-use Rattle.voyage_specs.specs.Plan.{Plan, Holds}
+use Rattle.stow_data.specs.Plans.{Plan}
+use Rattle.voyage_specs.specs.Plan.{Holds}
 use Rattle.voyage_specs.specs.Departure.{AreDepartures}
 
 -- the facts of a cell group: bay, row and tier number of its cell, id and port of discharge of its container

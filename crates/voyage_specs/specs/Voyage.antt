@@ -4,7 +4,7 @@ use Rattle.stow_data.specs.declared.geometry.Cover.{Cover}
 use Rattle.stow_data.specs.Ship.{Ship}
 use Rattle.stow_data.specs.Shipment.{Cargo}
 use Rattle.voyage_specs.specs.declared.moves.Move.{Move}
-use Rattle.voyage_specs.specs.Plan.{Plan}
+use Rattle.stow_data.specs.Plans.{Plan}
 use Rattle.voyage_specs.specs.Departure.{IsDeparture}
 use Rattle.voyage_specs.specs.Moves.{State, AllAllowed, end_of, rehandles}
 

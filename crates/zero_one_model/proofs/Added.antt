@@ -1,7 +1,7 @@
 -- Variables added, one part after another.
 use Rattle.std.proofs.Common.{◌≡◌, ℕ, ◌≤◌, ◌+◌, Bool, true, false, cond, ◌&&◌, List, [], ◌∷◌, ◌++◌, arith, refl, sym, subst, ◌∙◌, ap, length, length-append, append_assoc}
 use Rattle.std.specs.Prelude.{flat_map, filter, map, nat_lt, nat_le}
-use Rattle.std.proofs.lemmas.List.{length-map}
+use Rattle.std.proofs.lemmas.List.{length-map, append-nil}
 use Rattle.stow_data.specs.Ship.{places}
 use Rattle.zero_one_rows.specs.Variables.{Voyage, calls, kind, all_kinds, is_var, variables}
 use Rattle.zero_one_model.specs.Offering.{offered, may_put}
@@ -12,7 +12,6 @@ use Rattle.zero_one_rows.specs.declared.program.Var.{Var}
 use Rattle.zero_one_model.specs.Enumerated.{Adds, at_places, at_lift, at_lifts, at_put, IsListing}
 use Rattle.zero_one_model.specs.declared.listing.Listing.{Listing}
 use Rattle.std.proofs.lemmas.Grind.{flat_map-append}
-use Rattle.std.proofs.lemmas.List.{append-nil}
 
 pub adds_none : (l : Listing) → Adds l l []
 adds_none l = record { counted = omega arith; appended = λ h. sym (append-nil l.vars) }

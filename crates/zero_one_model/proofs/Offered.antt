@@ -9,13 +9,14 @@ use Rattle.std.proofs.lemmas.List.FromFn.{length-range_with_len}
 use Rattle.stow_data.specs.declared.geometry.Place.{Place}
 use Rattle.stow_data.specs.declared.geometry.Length.{Length}
 use Rattle.stow_data.specs.declared.kind_list.Kind.{Kind}
-use Rattle.stow_data.specs.declared.shipments.Container.{Container}
+use Rattle.stow_data.specs.declared.cargoes.Container.{Container}
 use Rattle.stow_data.specs.Ship.{places}
 use Rattle.stow_data.specs.Shipment.{Cargo, IsCargo}
 use Rattle.stow_data.specs.Kinds.{alike, with_kind, kinds_after, kinds_of, kind_of, number_in, kind_number}
 use Rattle.stow_data.proofs.Members.{range_at}
 use Rattle.stow_data.proofs.Distinct.{Each}
-use Rattle.zero_one_rows.specs.Variables.{Voyage, no_place, no_container, kind, arrived}
+use Rattle.zero_one_rows.specs.Variables.{Voyage, kind, arrived}
+use Rattle.stow_data.specs.Plans.{no_place, no_container}
 use Rattle.zero_one_model.specs.Grouping.{IsGrouped}
 use Rattle.zero_one_model.specs.Offering.{suits, offered, may_put, arrived_at}
 use Rattle.zero_one_model.proofs.Filters.{filter_more, filter_same, filter_none, length_filter}

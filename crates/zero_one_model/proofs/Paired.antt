@@ -4,7 +4,7 @@ use Rattle.std.proofs.lemmas.Option.{slice_get-get_or, slice_get_within}
 use Rattle.stow_data.specs.declared.geometry.Half.{Half}
 use Rattle.stow_data.specs.Ship.{Ship, halves}
 use Rattle.stow_data.proofs.Listed.{half_from}
-use Rattle.zero_one_rows.specs.Rows.{no_half}
+use Rattle.stow_data.specs.Plans.{no_half}
 use Rattle.std.specs.Prelude.{filter, flat_map, map, slice_index_or}
 use Rattle.std.specs.List.{range_with_len}
 use Rattle.std.proofs.lemmas.Grind.{flat_map-append}

@@ -15,7 +15,8 @@ use Rattle.zero_one_rows.specs.declared.program.Row.{Row}
 use Rattle.zero_one_rows.specs.declared.program.Row.TheVariants.{Flow, Start, Cell, Support, Twenty, Block, Hatch, Weight, Apart, Cross}
 use Rattle.zero_one_rows.specs.declared.program.Var.{Var}
 use Rattle.zero_one_rows.specs.Variables.{Voyage, place, variables, var}
-use Rattle.zero_one_rows.specs.Rows.{half, below, above, turned, coef, active, occ, stay, out, no_half}
+use Rattle.zero_one_rows.specs.Rows.{half, below, above, turned, coef, active, occ, stay, out}
+use Rattle.stow_data.specs.Plans.{no_half}
 use Rattle.zero_one_rows.proofs.Listing.{filter_at, filter_from, var_listed}
 use Rattle.zero_one_model.specs.Early.{Touches}
 use Rattle.zero_one_model.specs.Indexed.{IsIndex, place_shelf, half_shelf}

@@ -1,7 +1,7 @@
 -- The ship and the cargo of the tests obey their rules.
 use Rattle.std.proofs.Common.{◌≡◌, ◌≢◌, ℕ, zero, suc, ◌<◌, ◌≤◌, List, Option, [], ◌∷◌, arith, refl, ap, inr, length, false}
 use Rattle.std.specs.Prelude.{replicate, slice_index_or}
-use Rattle.stow_data.specs.declared.shipments.Container.{Container}
+use Rattle.stow_data.specs.declared.cargoes.Container.{Container}
 use Rattle.stow_data.specs.Ship.{places}
 use Rattle.stow_data.specs.Shipment.{IsCargo, IsShipped}
 use Rattle.stow_data.specs.Profile.{IsShip, IsStack, IsCover, IsSeparation, SharesCell, SamePair}

@@ -17,7 +17,8 @@ use Rattle.zero_one_rows.specs.declared.program.Var.{Var}
 use Rattle.zero_one_rows.specs.declared.program.Row.{Row}
 use Rattle.zero_one_rows.specs.declared.program.Row.TheVariants.{Flow, Start, Cell, Support, Twenty, Block, Hatch, Weight, Apart, Cross}
 use Rattle.zero_one_rows.specs.Variables.{Voyage, all_kinds}
-use Rattle.zero_one_rows.specs.Rows.{half, no_half, stack, no_stack, bit, turned, coef, rhs}
+use Rattle.zero_one_rows.specs.Rows.{half, stack, bit, turned, coef, rhs}
+use Rattle.stow_data.specs.Plans.{no_half, no_stack}
 use Rattle.zero_one_rows.specs.Ranges.{InRange}
 use Rattle.zero_one_model.specs.Early.{early}
 

@@ -8,8 +8,9 @@ use Rattle.stow_data.specs.Ship.{Ship, places, halves}
 use Rattle.zero_one_rows.specs.declared.program.Var.{Var}
 use Rattle.zero_one_rows.specs.declared.program.Row.{Row}
 use Rattle.zero_one_rows.specs.declared.program.Row.TheVariants.{Flow, Start, Cell, Support, Twenty, Block, Hatch, Weight, Apart, Cross}
-use Rattle.zero_one_rows.specs.Variables.{Voyage, all_kinds, no_place, variables, var}
-use Rattle.zero_one_rows.specs.Rows.{coef, no_half, below, above}
+use Rattle.zero_one_rows.specs.Variables.{Voyage, all_kinds, variables, var}
+use Rattle.stow_data.specs.Plans.{no_place, no_half}
+use Rattle.zero_one_rows.specs.Rows.{coef, below, above}
 use Rattle.zero_one_model.specs.Early.{Touches}
 use Rattle.zero_one_model.specs.Grouping.{IsGrouped}
 use Rattle.zero_one_model.specs.declared.index.Index.{Index}

@@ -5,7 +5,8 @@ use Rattle.stow_data.specs.declared.geometry.Length.{Length}
 use Rattle.stow_data.specs.declared.geometry.Length.TheVariants.{Twenty, Forty}
 use Rattle.stow_data.specs.declared.geometry.Place.{Place}
 use Rattle.stow_data.specs.Ship.{Ship, places}
-use Rattle.zero_one_rows.specs.Variables.{Voyage, has_length, no_place, fits, kind, place, arrived, all_kinds}
+use Rattle.zero_one_rows.specs.Variables.{Voyage, has_length, fits, kind, place, arrived, all_kinds}
+use Rattle.stow_data.specs.Plans.{no_place}
 use Rattle.zero_one_model.specs.declared.offers.Offers.{Offers}
 
 -- a container of this length, a reefer or not, fits the place

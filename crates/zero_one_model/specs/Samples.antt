@@ -3,8 +3,8 @@ use Rattle.std.specs.Prelude.{ℕ, false, List, Option, [], ◌∷◌, None, rep
 use Rattle.stow_data.specs.declared.geometry.Stack.{Stack}
 use Rattle.stow_data.specs.declared.geometry.Lengths.TheVariants as offers
 use Rattle.stow_data.specs.declared.geometry.Length.TheVariants as long
-use Rattle.stow_data.specs.declared.shipments.Container.{Container}
-use Rattle.stow_data.specs.declared.shipments.Origin.TheVariants as origin
+use Rattle.stow_data.specs.declared.cargoes.Container.{Container}
+use Rattle.stow_data.specs.declared.cargoes.Origin.TheVariants as origin
 use Rattle.stow_data.specs.Ship.{Ship}
 use Rattle.stow_data.specs.Shipment.{Cargo}
 

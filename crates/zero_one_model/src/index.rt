@@ -1,7 +1,7 @@
 //! The variables and half-cells by what they touch.
 ghost use Rattle.std.specs.Prelude.{◌≡◌, ℕ, ◌+◌, ◌*◌, ◌<◌, ◌≤◌, ◌^◌, IfOk, All, [], length, map, slice_index_or};
 ghost use Rattle.stow_data.specs.Ship.{places, halves};
-ghost use Rattle.zero_one_rows.specs.Variables.{no_place};
+ghost use Rattle.stow_data.specs.Plans.{no_place};
 ghost use Rattle.zero_one_model.specs.Indexed.{shelf, place_shelf, half_shelf, IsIndexOf, NamesHalf, first_of, second_of};
 ghost use Rattle.zero_one_model.specs.Touching.{group_before};
 

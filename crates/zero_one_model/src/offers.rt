@@ -2,7 +2,8 @@
 ghost use Rattle.std.specs.Prelude.{◌≡◌, ℕ, ◌+◌, ◌<◌, ◌≤◌, ◌^◌, ◌==◌, ◌&&◌, ◌||◌, not, cond, [], ◌∷◌, ◌++◌, IfOk, OnOk, length, slice_index_or};
 ghost use Rattle.stow_data.specs.Ship.{places};
 ghost use Rattle.stow_data.specs.Kinds.{AreKinds, kind_number};
-ghost use Rattle.zero_one_rows.specs.Variables.{Voyage, no_place, no_container, calls, arrived, all_kinds, has_length};
+ghost use Rattle.zero_one_rows.specs.Variables.{Voyage, calls, arrived, all_kinds, has_length};
+ghost use Rattle.stow_data.specs.Plans.{no_place, no_container};
 ghost use Rattle.zero_one_model.specs.Offering.{suits, suited, offered, IsOffers};
 
 use crate::groups::{Groups, group};

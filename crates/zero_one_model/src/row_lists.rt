@@ -5,7 +5,7 @@ ghost use Rattle.stow_data.specs.Ship.{halves};
 ghost use Rattle.stow_data.specs.Profile.{IsShip};
 ghost use Rattle.zero_one_rows.specs.declared.program.Row.{Row};
 ghost use Rattle.zero_one_rows.specs.Variables.{Voyage, calls as number_of_calls, all_kinds};
-ghost use Rattle.zero_one_rows.specs.Rows.{no_stack};
+ghost use Rattle.stow_data.specs.Plans.{no_stack};
 ghost use Rattle.zero_one_model.specs.Counted.{runs, has_below, has_above, pairs_at, per_call, flow_of, cell_rows, support_rows, block_rows, half_rows, rows_in, IsRowLists, IsFew};
 
 use crate::offers::push_wanted;

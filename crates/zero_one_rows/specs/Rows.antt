@@ -15,19 +15,13 @@ use Rattle.stow_data.specs.declared.geometry.Cover.{Cover}
 use Rattle.stow_data.specs.declared.geometry.Separation.{Separation}
 use Rattle.stow_data.specs.Ship.{places, halves}
 use Rattle.stow_data.specs.Kinds.{loading}
+use Rattle.stow_data.specs.Plans.{no_half, no_stack}
 use Rattle.voyage_specs.specs.Departure.{near}
 use Rattle.zero_one_rows.specs.declared.program.Var.{Var}
 use Rattle.zero_one_rows.specs.declared.program.Row.{Row}
 use Rattle.zero_one_rows.specs.declared.program.Row.TheVariants.{Flow, Start, Cell, Support, Twenty as TwentyOn, Block, Hatch, Weight, Apart, Cross}
 use Rattle.proof_trees.specs.Program.{Program, where_set, Solution}
 use Rattle.zero_one_rows.specs.Variables.{Voyage, calls, all_kinds, kind, place, variables, var, is_rehandled}
-
--- what stands for a number past the end of a list
-abbrev pub no_half : Half
-no_half = record { stack = 0; tier = 0; aft = false }
-
-abbrev pub no_stack : Stack
-no_stack = record { bay = 0; row = 0; lowest = 0; tiers = 0; lengths = offers.Forty; limit_kg = 0; plugs = [] }
 
 abbrev pub no_separation : Separation
 no_separation = record { a = []; b = []; level = 0 }

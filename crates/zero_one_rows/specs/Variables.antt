@@ -6,11 +6,12 @@ use Rattle.stow_data.specs.declared.geometry.Length.TheVariants.{Twenty, Forty}
 use Rattle.stow_data.specs.declared.geometry.Span.{Span}
 use Rattle.stow_data.specs.declared.geometry.Span.TheVariants.{Fore, Aft, Both}
 use Rattle.stow_data.specs.declared.geometry.Place.{Place}
-use Rattle.stow_data.specs.declared.shipments.Container.{Container}
-use Rattle.stow_data.specs.declared.shipments.Origin.TheVariants.{Booked}
+use Rattle.stow_data.specs.declared.cargoes.Container.{Container}
+use Rattle.stow_data.specs.declared.cargoes.Origin.TheVariants.{Booked}
 use Rattle.stow_data.specs.declared.kind_list.Kind.{Kind}
 use Rattle.stow_data.specs.Ship.{Ship, places}
 use Rattle.stow_data.specs.Shipment.{Cargo}
+use Rattle.stow_data.specs.Plans.{no_place, no_container}
 use Rattle.stow_data.specs.Kinds.{kinds_of, kind_number}
 use Rattle.zero_one_rows.specs.declared.program.Var.{Var}
 
@@ -19,15 +20,8 @@ pub record Voyage : Type 0 where
   pub ship : Ship
   pub cargo : Cargo
 
--- what stands for a number past the end of a list
-abbrev pub no_place : Place
-no_place = record { stack = 0; tier = 0; span = Both; plug = false }
-
 abbrev pub no_kind : Kind
 no_kind = record { dest = 0; long = Forty; reefer = false; class = None; kg = 0; first = 0 }
-
-abbrev pub no_container : Container
-no_container = record { id = []; load = 0; dest = 0; long = Forty; kg = 0; reefer = false; class = None; origin = Booked 0 }
 
 abbrev pub no_var : Var
 no_var = record { put = 0; kind = 0; lifted = 0; place = 0 }

@@ -3,8 +3,9 @@ ghost use Rattle.std.specs.Prelude.{◌≡◌, ℕ, ◌+◌, ◌-◌, ◌<◌, �
 ghost use Rattle.std.specs.Option.{option_eq};
 ghost use Rattle.std.specs.Cmp.Lexicographic.{pointwise};
 ghost use Rattle.proof_trees.specs.Program.{where_set};
-ghost use Rattle.zero_one_rows.specs.Rows.{takes, covers, below, above, bit, active, stays, ends, is_twenty, turned, no_half, no_separation, no_stack};
-ghost use Rattle.zero_one_rows.specs.Variables.{Voyage, no_place, no_kind, all_kinds};
+ghost use Rattle.zero_one_rows.specs.Rows.{takes, covers, below, above, bit, active, stays, ends, is_twenty, turned, no_separation};
+ghost use Rattle.stow_data.specs.Plans.{no_half, no_stack, no_place};
+ghost use Rattle.zero_one_rows.specs.Variables.{Voyage, no_kind, all_kinds};
 ghost use Rattle.stow_data.specs.Kinds.{AreKinds, loading};
 ghost use Rattle.stow_data.specs.Ship.{halves, places};
 

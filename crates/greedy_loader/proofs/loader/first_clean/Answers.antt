@@ -1,5 +1,4 @@
-use Rattle.std.proofs.Common.{sym, ◌∙◌, arith, length}
-use Rattle.std.proofs.Common.{◌&&◌}
+use Rattle.std.proofs.Common.{sym, ◌∙◌, arith, length, ◌&&◌}
 use Rattle.stow_data.specs.Ship.{places}
 use Rattle.greedy_loader.specs.Loader.{is_open, is_clean}
 use Rattle.greedy_loader.proofs.Ranges.{find_here, find_none}

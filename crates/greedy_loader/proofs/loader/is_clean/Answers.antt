@@ -1,6 +1,7 @@
 use Rattle.std.proofs.Common.{◌≡◌, ◌-◌, ℕ, ap, sym, ◌∙◌, arith}
 use borrow.Author.Count.{below_more}
-use Rattle.greedy_loader.specs.Loader.{held, leaves_before}
+use Rattle.stow_data.specs.Plans.{held}
+use Rattle.greedy_loader.specs.Loader.{leaves_before}
 use Rattle.greedy_loader.proofs.Choosing.{clean_from, clean_fails, held_is, tier_is, tier_number}
 use Rattle.greedy_loader.proofs.loader.is_clean.Goals as goal
 

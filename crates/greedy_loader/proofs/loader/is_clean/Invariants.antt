@@ -1,5 +1,6 @@
 use Rattle.std.proofs.Common.{◌≡◌, ℕ, ◌<◌, ◌-◌, false}
-use Rattle.greedy_loader.specs.Loader.{leaves_before, held}
+use Rattle.greedy_loader.specs.Loader.{leaves_before}
+use Rattle.stow_data.specs.Plans.{held}
 use Rattle.greedy_loader.proofs.loader.is_clean.Given as goal
 
 abbrev pub invariant-loop-lower : goal.invariant-loop-lower

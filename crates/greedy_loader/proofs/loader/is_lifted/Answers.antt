@@ -1,6 +1,7 @@
 use Rattle.std.proofs.Common.{◌≡◌, ◌<◌, ◌-◌, ◌+◌, ℕ, ap, sym, ◌∙◌, arith, false}
 use borrow.Author.Count.{below_more}
-use Rattle.greedy_loader.specs.Loader.{held, leaves_at}
+use Rattle.stow_data.specs.Plans.{held}
+use Rattle.greedy_loader.specs.Loader.{leaves_at}
 use Rattle.greedy_loader.proofs.Choosing.{lifted_at, lifted_none, held_is, tier_is, tier_number}
 use Rattle.greedy_loader.proofs.loader.is_lifted.Goals as goal
 

@@ -1,5 +1,6 @@
 use Rattle.std.proofs.Common.{◌≡◌, ℕ, ◌<◌, ◌-◌, false}
-use Rattle.greedy_loader.specs.Loader.{leaves_at, held}
+use Rattle.greedy_loader.specs.Loader.{leaves_at}
+use Rattle.stow_data.specs.Plans.{held}
 use Rattle.greedy_loader.proofs.loader.is_lifted.Given as goal
 
 abbrev pub invariant-loop-lower : goal.invariant-loop-lower

@@ -1,5 +1,4 @@
-use Rattle.std.proofs.Common.{◌≡◌, ◌-◌, ap, sym, ◌∙◌, arith, length}
-use Rattle.std.proofs.Common.{None, Some}
+use Rattle.std.proofs.Common.{◌≡◌, ◌-◌, ap, sym, ◌∙◌, arith, length, None, Some}
 use Rattle.greedy_loader.specs.Loader.{departed, departures}
 use Rattle.greedy_loader.proofs.Loading.{sails_on, sails_not, sailed, sets_out, departed_long}
 use Rattle.greedy_loader.proofs.loader.load.Goals as goal

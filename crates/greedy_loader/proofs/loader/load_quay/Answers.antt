@@ -1,5 +1,4 @@
-use Rattle.std.proofs.Common.{ap, sym, ◌∙◌, length}
-use Rattle.std.proofs.Common.{length-set}
+use Rattle.std.proofs.Common.{ap, sym, ◌∙◌, length, length-set}
 use Rattle.greedy_loader.proofs.Loading.{load_one, load_fails, load_all, chosen_in}
 use Rattle.greedy_loader.proofs.loader.load_quay.Goals as goal
 

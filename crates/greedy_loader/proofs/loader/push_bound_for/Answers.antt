@@ -1,7 +1,6 @@
-use Rattle.std.proofs.Common.{ℕ, sym, ◌∙◌}
-use Rattle.std.proofs.Common.{◌&&◌}
+use Rattle.std.proofs.Common.{ℕ, sym, ◌∙◌, ◌&&◌}
 use Rattle.std.specs.Prelude.{◌==◌}
-use Rattle.greedy_loader.specs.Loader.{container_at}
+use Rattle.stow_data.specs.Plans.{container_at}
 use Rattle.greedy_loader.proofs.Loading.{kept_one, kept_none}
 use Rattle.greedy_loader.proofs.loader.push_bound_for.Goals as goal
 use Rattle.greedy_loader.proofs.loader.push_bound_for.Goals.{then-is_bound_for+in_ok-push, else-is_bound_for}

@@ -1,7 +1,7 @@
 use Rattle.std.proofs.Common.{◌≡◌, ◌++◌, ◌&&◌}
 use Rattle.std.specs.Prelude.{◌==◌, filter}
 use Rattle.std.specs.List.{range_with_len}
-use Rattle.greedy_loader.specs.Loader.{container_at}
+use Rattle.stow_data.specs.Plans.{container_at}
 use Rattle.greedy_loader.proofs.loader.push_bound_for.Given as goal
 
 abbrev pub invariant-loop-number : goal.invariant-loop-number

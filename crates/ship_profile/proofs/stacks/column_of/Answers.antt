@@ -1,7 +1,6 @@
-use Rattle.std.proofs.Common.{◌≡◌, true, ap, sym, ◌∙◌}
+use Rattle.std.proofs.Common.{◌≡◌, true, ap, sym, ◌∙◌, arith}
 use Rattle.std.specs.Prelude.{slice_index}
 use Rattle.std.proofs.lemmas.Grind.{common_steps}
-use Rattle.std.proofs.Common.{arith}
 use Rattle.toml.specs.View.{table_view}
 use Rattle.ship_profile.specs.declared.faults.ProfileKey.TheVariants as key
 use Rattle.ship_profile.specs.Keys.{keyed}

@@ -1,6 +1,6 @@
 use Rattle.std.proofs.Common.{◌≡◌, ◌<◌, ◌∙◌, ℕ, List, [], map, ap, arith, sym, subst, length}
 use Rattle.std.specs.Prelude.{slice_get, slice_index, slice_index_or}
-use Rattle.stow_data.specs.declared.shipments.Container.{Container}
+use Rattle.stow_data.specs.declared.cargoes.Container.{Container}
 use Rattle.stow_data.specs.declared.kind_list.Kind.{Kind}
 use Rattle.stow_data.specs.Kinds.{number_in, kind_of, kinds_of, loads_in, KindTable, AreKinds}
 use Rattle.stow_data.proofs.KindLemmas.{each_in, kinds_few, are_kinds, load_low}

@@ -2,7 +2,7 @@ use Rattle.std.proofs.Common.{◌≡◌, ◌+◌, ◌<◌, ◌∙◌, ℕ, ap, a
 use Rattle.std.specs.Prelude.{slice_index}
 use Rattle.std.proofs.lemmas.List.{length-take}
 use Rattle.std.proofs.lemmas.Option.{get_or_from_slice_get, slice_get_within}
-use Rattle.stow_data.specs.declared.shipments.Container.{Container}
+use Rattle.stow_data.specs.declared.cargoes.Container.{Container}
 use Rattle.stow_data.proofs.KindLemmas.{loads_few, row_raised, row_kept}
 use Rattle.stow_data.proofs.kind_finder.loads_of.Goals as goal
 use Rattle.stow_data.proofs.kind_finder.loads_of.Goals.{then-container-call, else-container-call}

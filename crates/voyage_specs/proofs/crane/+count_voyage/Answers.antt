@@ -1,5 +1,5 @@
 use Rattle.std.proofs.Common.{arith, ap, sym, ◌∙◌, length, get_or, List, [], suc}
-use Rattle.voyage_specs.specs.Plan.{Plan}
+use Rattle.stow_data.specs.Plans.{Plan}
 use Rattle.voyage_specs.proofs.crane.+count_voyage.Goals as goal
 
 pub count_voyage-requires : goal.count_voyage-requires

@@ -1,6 +1,5 @@
-use Rattle.std.proofs.Common.{false}
+use Rattle.std.proofs.Common.{false, refl}
 use Rattle.std.proofs.lemmas.Bool.{both_ways}
-use Rattle.std.proofs.Common.{refl}
 use Rattle.voyage_specs.proofs.departures.is_departure.Goals as goal
 
 pub returns-in-Some : goal.returns-in-Some

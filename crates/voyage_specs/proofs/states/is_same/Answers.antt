@@ -1,8 +1,7 @@
-use Rattle.std.proofs.Common.{arith, below_more, refl, false}
+use Rattle.std.proofs.Common.{arith, below_more, refl, false, ap}
 use Rattle.std.proofs.lemmas.Bool.{both_ways}
-use Rattle.std.proofs.Common.{ap}
 use Rattle.std.specs.Prelude.{slice_get}
-use Rattle.voyage_specs.specs.Plan.{Plan}
+use Rattle.stow_data.specs.Plans.{Plan}
 use Rattle.voyage_specs.proofs.RunsHold.{same_plans}
 use Rattle.voyage_specs.proofs.states.is_same.Goals as goal
 

@@ -1,6 +1,6 @@
 use Rattle.std.proofs.Common.{◌≡◌, take}
 use Rattle.std.specs.Prelude.{map, ◌==◌}
-use Rattle.stow_data.specs.declared.shipments.Container.{Container}
+use Rattle.stow_data.specs.declared.cargoes.Container.{Container}
 use Rattle.voyage_specs.proofs.states.loading.Given as goal
 
 abbrev pub invariant-loop-c : goal.invariant-loop-c

@@ -1,7 +1,7 @@
 use Rattle.std.proofs.Common.{◌≡◌, map, take}
 use Rattle.std.specs.Prelude.{slice_index_or}
 use Rattle.stow_data.specs.Ship.{places}
-use Rattle.zero_one_rows.specs.Variables.{no_place}
+use Rattle.stow_data.specs.Plans.{no_place}
 use Rattle.zero_one_model.specs.Indexed.{place_shelf}
 use Rattle.zero_one_model.proofs.index.shelf_keys.Given as goal
 

@@ -2,7 +2,7 @@ use Rattle.std.proofs.Common.{◌≡◌}
 use Rattle.std.specs.Prelude.{filter, slice_index_or}
 use Rattle.std.specs.List.{range_with_len}
 use Rattle.stow_data.specs.Ship.{places}
-use Rattle.zero_one_rows.specs.Variables.{no_place}
+use Rattle.stow_data.specs.Plans.{no_place}
 use Rattle.zero_one_model.specs.Offering.{suits}
 use Rattle.zero_one_model.proofs.offers.suited_places.Given as goal
 

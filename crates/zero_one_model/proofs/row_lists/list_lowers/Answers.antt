@@ -2,7 +2,7 @@ use Rattle.std.proofs.Common.{◌∙◌, ◌+◌, arith, ap}
 use Rattle.std.specs.Prelude.{nat_lt, slice_index_or}
 use Rattle.stow_data.specs.declared.geometry.Half.{Half}
 use Rattle.stow_data.specs.Ship.{Ship, halves}
-use Rattle.zero_one_rows.specs.Rows.{no_half, no_stack}
+use Rattle.stow_data.specs.Plans.{no_half, no_stack}
 use Rattle.zero_one_model.specs.Counted.{has_above}
 use Rattle.zero_one_model.proofs.Paired.{wanted_more, half_stack_in}
 use Rattle.zero_one_model.proofs.row_lists.list_lowers.Goals as goal

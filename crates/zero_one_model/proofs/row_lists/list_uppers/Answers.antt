@@ -2,7 +2,7 @@ use Rattle.std.proofs.Common.{◌∙◌, ap}
 use Rattle.std.specs.Prelude.{nat_lt, slice_index_or}
 use Rattle.stow_data.specs.declared.geometry.Half.{Half}
 use Rattle.stow_data.specs.Ship.{Ship, halves}
-use Rattle.zero_one_rows.specs.Rows.{no_half}
+use Rattle.stow_data.specs.Plans.{no_half}
 use Rattle.zero_one_model.specs.Counted.{has_below}
 use Rattle.zero_one_model.proofs.Paired.{wanted_more}
 use Rattle.zero_one_model.proofs.row_lists.list_uppers.Goals as goal

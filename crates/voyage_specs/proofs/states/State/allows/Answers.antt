@@ -1,7 +1,7 @@
 use Rattle.std.proofs.Common.{ap, subst, ◌≡◌, sym, IsTrue, Some, false}
 use Rattle.std.specs.Prelude.{slice_get}
 use Rattle.voyage_specs.specs.declared.moves.Move.{Move}
-use Rattle.voyage_specs.specs.Plan.{Plan}
+use Rattle.stow_data.specs.Plans.{Plan}
 use Rattle.voyage_specs.specs.Moves.{State, Allowed, IsBare}
 use Rattle.voyage_specs.proofs.states.State.allows.Goals as goal
 

@@ -1,6 +1,7 @@
 use Rattle.std.proofs.Common.{ap, subst}
 use Rattle.voyage_specs.specs.Moves.{State}
-use Rattle.voyage_specs.specs.Plan.{Plan, Holds}
+use Rattle.stow_data.specs.Plans.{Plan}
+use Rattle.voyage_specs.specs.Plan.{Holds}
 use Rattle.voyage_specs.proofs.MovesHold.{lift_parts, lift_from, tier_low}
 use Rattle.voyage_specs.proofs.states.State.can_lift.Goals as goal
 

@@ -1,6 +1,6 @@
 use Rattle.std.proofs.Common.{ap, subst, sym, ◌≡◌, Some, true, List, Bool}
 use Rattle.std.specs.Prelude.{slice_get}
-use Rattle.voyage_specs.specs.Plan.{Plan}
+use Rattle.stow_data.specs.Plans.{Plan}
 use Rattle.voyage_specs.specs.Moves.{State}
 use Rattle.voyage_specs.specs.Places.{IsOpen, IsShut, IsEmptyOn, IsBorneOn}
 use Rattle.voyage_specs.proofs.MovesHold.{passes_all, borne_of}

@@ -5,7 +5,7 @@ use Rattle.stow_data.specs.declared.hatches.Naming.TheVariants.{Under, On}
 use Rattle.stow_data.specs.Ship.{places, halves, stack_places, stack_halves}
 use Rattle.stow_data.proofs.CellLemmas.{each_bounded}
 use Rattle.stow_data.proofs.CoverLemmas.{named_in}
-use Rattle.stow_data.proofs.vessel.Ship.new.Goals as goal
+use Rattle.stow_data.proofs.ships.Ship.new.Goals as goal
 
 pub place_table-requires : goal.place_table-requires
 place_table-requires c = rw c.as_slice.ensures (λ k d lt. (c.requires.each_stack k d lt).plug_each)

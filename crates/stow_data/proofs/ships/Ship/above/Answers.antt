@@ -2,7 +2,7 @@ use Rattle.std.proofs.Common.{◌≡◌, ◌+◌, ℕ, arith, ap, subst, length}
 use Rattle.std.proofs.lemmas.Option.{slice_get_within}
 use Rattle.stow_data.specs.Ship.{halves, sides, IsAbove}
 use Rattle.stow_data.proofs.InOrder.{half_stack_in, half_low, above_at, none_above}
-use Rattle.stow_data.proofs.vessel.Ship.above.Goals as goal
+use Rattle.stow_data.proofs.ships.Ship.above.Goals as goal
 
 pub stack-stack-requires : goal.stack-stack-requires
 stack-stack-requires c = half_stack_in c.args.self.now c.args.h c.half-half.result c.half-half.ensures

@@ -4,7 +4,7 @@ ghost use Rattle.stow_data.specs.Ship.{places};
 
 use crate::list::{NoMemory, Seq};
 use crate::numbers::{ContainerNo, PlaceNo};
-use crate::vessel::Ship;
+use crate::ships::Ship;
 use std::alloc::Global;
 use std::marker::Model;
 

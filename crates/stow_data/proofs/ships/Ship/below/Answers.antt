@@ -1,7 +1,7 @@
 use Rattle.std.proofs.Common.{◌≡◌, ◌-◌, ℕ, arith, ap, subst, length}
 use Rattle.stow_data.specs.Ship.{IsAbove}
 use Rattle.stow_data.proofs.InOrder.{half_stack_in, below_at}
-use Rattle.stow_data.proofs.vessel.Ship.below.Goals as goal
+use Rattle.stow_data.proofs.ships.Ship.below.Goals as goal
 
 pub stack-stack-requires : goal.stack-stack-requires
 stack-stack-requires c = half_stack_in c.args.self.now c.args.h c.half-half.result c.half-half.ensures

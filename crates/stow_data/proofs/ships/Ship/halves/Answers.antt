@@ -1,7 +1,7 @@
 use Rattle.std.proofs.Common.{length, ap, arith}
 use Rattle.stow_data.specs.Tables.{ship_of}
 use Rattle.stow_data.proofs.Listed.{halves_few}
-use Rattle.stow_data.proofs.vessel.Ship.halves.Goals as goal
+use Rattle.stow_data.proofs.ships.Ship.halves.Goals as goal
 
 pub overflow_cast-result : goal.overflow_cast-result
 overflow_cast-result c =

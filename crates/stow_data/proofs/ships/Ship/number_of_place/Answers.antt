@@ -1,5 +1,5 @@
 use Rattle.stow_data.proofs.Made.{place_bounded, stack_in}
-use Rattle.stow_data.proofs.vessel.Ship.number_of_place.Goals as goal
+use Rattle.stow_data.proofs.ships.Ship.number_of_place.Goals as goal
 
 pub stack-requires : goal.stack-requires
 stack-requires c = stack_in c.args.self.now c.args.p c.place-place.result c.place-place.ensures

@@ -2,7 +2,7 @@ use Rattle.std.proofs.Common.{arith, ap, subst, length}
 use Rattle.stow_data.specs.Ship.{Ship}
 use Rattle.stow_data.specs.Profile.{IsShip}
 use Rattle.stow_data.proofs.CoverLemmas.{over_said, under_in}
-use Rattle.stow_data.proofs.vessel.Ship.cover_over.Goals as goal
+use Rattle.stow_data.proofs.ships.Ship.cover_over.Goals as goal
 
 pub returns-then-stack-len : goal.returns-then-stack-len
 returns-then-stack-len c = λ k h.

@@ -6,7 +6,7 @@ use crate::geometry::Length;
 use crate::list::Seq;
 use crate::names::{Name, NameList};
 use crate::numbers::{CallNo, ContainerNo};
-use crate::stowage::Plan;
+use crate::plans::Plan;
 use std::marker::Model;
 
 /// Where a container comes from: its group among all groups of the arrival's bay plan, or its booking in the list of bookings, both from 0.
