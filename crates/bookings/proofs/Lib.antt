@@ -1,3 +1,4 @@
 pub mod BookingLaws
 pub mod IdLaws
 pub mod RuleLaws
+pub mod CargoLaws

@@ -6,14 +6,12 @@ use Rattle.std.proofs.lemmas.Option.{get_or_from_slice_get}
 use Rattle.stow_data.specs.declared.geometry.Place.{Place}
 use Rattle.stow_data.specs.Ship.{Ship, places}
 use Rattle.stow_data.specs.Shipment.{Cargo}
-use Rattle.plain_voyages.specs.Plain.{IsForty}
+use Rattle.greedy_loader.specs.Plain.{IsForty}
 use Rattle.stow_data.specs.Plans.{Plan, held}
 use Rattle.greedy_loader.specs.Loader.{is_below, is_directly_below, is_open, is_clean, is_lifted, leaves_at, leaves_before}
-use Rattle.greedy_loader.proofs.Columns.{place_is, same_place, lower_place, stack_of, tier_of}
+use Rattle.stow_data.proofs.PlanLookups.{place_is}
+use Rattle.greedy_loader.proofs.Columns.{same_place, lower_place, stack_of, tier_of}
 use Rattle.greedy_loader.proofs.Ranges.{every_from, every_fails, some_from, some_fails}
-
-pub held_is : (plan : Plan) (p : ℕ) (o : Option ℕ) → slice_get plan p ≡ Some o → held plan p ≡ o
-held_is plan p o h = get_or_from_slice_get plan p o None h
 
 none_not : (o : Option ℕ) → is_some o ≡ true → is_none o ≡ false
 none_not None h = absurd cc

@@ -11,8 +11,9 @@ use Rattle.stow_data.specs.declared.geometry.Span.{Span}
 use Rattle.stow_data.specs.declared.geometry.Span.TheVariants.{Both}
 use Rattle.stow_data.specs.Ship.{Ship, places, spans, stack_places, tier_places}
 use Rattle.stow_data.proofs.Listed.{place_from}
-use Rattle.plain_voyages.specs.Plain.{IsForty}
-use Rattle.stow_data.specs.Plans.{place_at, no_place}
+use Rattle.stow_data.proofs.PlanLookups.{is_place, place_is}
+use Rattle.greedy_loader.specs.Plain.{IsForty}
+use Rattle.stow_data.specs.Plans.{place_at}
 
 pub split_get : {X : Type 0} (xs ys : List X) (k : ℕ) (z : X) → slice_get (xs ++ ys) k ≡ Some z → ((k < length xs) × (slice_get xs k ≡ Some z)) ⊎ ((j : ℕ) × (k ≡ length xs + j) × (slice_get ys j ≡ Some z))
 split_get [] ys k z h = inr (k, omega arith, h)
@@ -99,13 +100,6 @@ number_is (x ∷ ss) a p place f h = ⊎_elim
     let r = number_is ss (a + 1) u.0 place f.1 u.2 in
     (suc r.0, omega (arith, r.1), omega (arith, r.2, u.1, stack_long a x f.0)))
     (split_get (stack_places (a, x)) (flat_map stack_places (enumerate_from (a + 1) ss)) p place h)
-
--- a place of the ship, by its number
-pub is_place : (ship : Ship) (p : ℕ) → p < length (places ship) → slice_get (places ship) p ≡ Some (place_at ship p)
-is_place ship p l = slice_get-get_or (places ship) p no_place l
-
-pub place_is : (ship : Ship) (p : ℕ) (place : Place) → slice_get (places ship) p ≡ Some place → place_at ship p ≡ place
-place_is ship p place h = get_or_from_slice_get (places ship) p place no_place h
 
 abbrev pub stack_of : Ship → ℕ → ℕ
 stack_of ship p = (place_at ship p).stack

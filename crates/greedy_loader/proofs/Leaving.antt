@@ -7,12 +7,12 @@ use Rattle.std.proofs.lemmas.Option.{none-some, same_Some, slice_get_within, sli
 use Rattle.stow_data.specs.Ship.{Ship, places}
 use Rattle.stow_data.specs.Shipment.{Cargo}
 use Rattle.voyage_specs.specs.Plan.{Holds}
-use Rattle.plain_voyages.specs.Plain.{IsForty}
+use Rattle.greedy_loader.specs.Plain.{IsForty}
 use Rattle.stow_data.specs.Plans.{Plan, held}
 use Rattle.greedy_loader.specs.Loader.{is_below, is_lifted, is_rehandled, has_rehandle, leaves_at, staying, discharged}
 use Rattle.greedy_loader.proofs.Columns.{lower_place}
 use Rattle.greedy_loader.proofs.Ranges.{some_from}
-use Rattle.greedy_loader.proofs.Choosing.{held_is}
+use Rattle.stow_data.proofs.PlanLookups.{held_is}
 use Rattle.greedy_loader.proofs.Sound.{IsSound}
 
 -- below what stays, nothing leaves

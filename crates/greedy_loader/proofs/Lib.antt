@@ -8,3 +8,4 @@ pub mod Weights
 pub mod Leaving
 pub mod Stowed
 pub mod Sailing
+pub mod PlainCargo

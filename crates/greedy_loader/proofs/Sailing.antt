@@ -15,15 +15,16 @@ use Rattle.voyage_specs.specs.Least.{IsOver, RehandlesNone, RehandleNone}
 use Rattle.voyage_specs.specs.Voyage.{HasCount}
 use Rattle.voyage_specs.proofs.Upper.{leaves_is}
 use Rattle.voyage_specs.proofs.Whole.{none_count}
-use Rattle.plain_voyages.specs.Plain.{IsPlainShip, IsPlainCargo}
+use Rattle.greedy_loader.specs.Plain.{IsPlainShip, IsPlainCargo}
 use Rattle.stow_data.specs.Plans.{Plan, container_at}
 use Rattle.greedy_loader.specs.Loader.{is_below, leaves_at, has_rehandle, loaded, quay, discharged, departed, departures, load}
-use Rattle.greedy_loader.proofs.Columns.{place_is, stack_of, tier_of}
+use Rattle.stow_data.proofs.PlanLookups.{place_is, is_container}
+use Rattle.greedy_loader.proofs.Columns.{stack_of, tier_of}
 use Rattle.greedy_loader.proofs.Loading.{and_then_parts}
 use Rattle.greedy_loader.proofs.Quays.{quay_at, quay_from, quay_distinct}
 use Rattle.greedy_loader.proofs.Sound.{IsSound, IsLoaded, Waits, loaded_is}
 use Rattle.greedy_loader.proofs.Leaving.{nothing_below, stayed_from, stays_there, discharged_sound}
-use Rattle.greedy_loader.proofs.Stowed.{IsCarried, each_is, is_container, sound_departs, arrival_sound, arrival_carried, plain_arrival}
+use Rattle.greedy_loader.proofs.Stowed.{IsCarried, each_is, sound_departs, arrival_sound, arrival_carried, plain_arrival}
 
 -- a departure is that of a call without rehandles
 record IsReached (ship : Ship) (cargo : Cargo) (before : Plan) (call : ℕ) (after : Plan) : Type 0 where

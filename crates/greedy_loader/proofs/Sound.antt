@@ -10,12 +10,13 @@ use Rattle.stow_data.proofs.Members.{Member}
 use Rattle.voyage_specs.specs.Plan.{Holds}
 use Rattle.voyage_specs.proofs.Lower.{slice_get-set_other, slice_get-set_same}
 use Rattle.voyage_specs.proofs.Steps.{slice_get_in}
-use Rattle.plain_voyages.specs.Plain.{IsForty}
+use Rattle.greedy_loader.specs.Plain.{IsForty}
 use Rattle.stow_data.specs.Plans.{Plan, container_at, held, place_numbers}
 use Rattle.greedy_loader.specs.Loader.{is_directly_below, is_open, is_clean, choice, loaded}
 use Rattle.greedy_loader.proofs.Columns.{tier_of, lower_place}
 use Rattle.greedy_loader.proofs.Ranges.{every_at, found_at}
-use Rattle.greedy_loader.proofs.Choosing.{held_is, directly_below}
+use Rattle.stow_data.proofs.PlanLookups.{held_is}
+use Rattle.greedy_loader.proofs.Choosing.{directly_below}
 use Rattle.greedy_loader.proofs.Loading.{or_parts, and_then_parts, chosen_in}
 use Rattle.greedy_loader.proofs.Quays.{Distinct}
 

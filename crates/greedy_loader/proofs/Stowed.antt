@@ -20,21 +20,16 @@ use Rattle.stow_data.proofs.Listed.{place_from}
 use Rattle.stow_data.proofs.Members.{Member}
 use Rattle.voyage_specs.specs.Plan.{Holds, IsWellFormed}
 use Rattle.voyage_specs.specs.Departure.{IsSupported, IsStowed, IsDeparture, HasArrival}
-use Rattle.plain_voyages.specs.Plain.{IsForty, IsPlainShip, IsPlainContainer, IsPlainCargo}
+use Rattle.greedy_loader.specs.Plain.{IsForty, IsPlainShip, IsPlainContainer, IsPlainCargo}
 use Rattle.stow_data.specs.Plans.{Plan, place_at, container_at, no_container}
-use Rattle.greedy_loader.proofs.Columns.{is_place, place_is, tier_of, stack_of, same_place, lower_place}
+use Rattle.stow_data.proofs.PlanLookups.{is_place, place_is, is_container, container_is}
+use Rattle.greedy_loader.proofs.Columns.{tier_of, stack_of, same_place, lower_place}
 use Rattle.greedy_loader.proofs.Sound.{IsSound}
 use Rattle.greedy_loader.proofs.Weights.{within_limits}
 
 -- what holds of all items holds of each
 pub each_is : {X : Type 0} (P : X → Type 0) (xs : List X) (k : ℕ) (x : X) → All P xs → slice_get xs k ≡ Some x → P x
 each_is P xs k x all h = subst P (get_or_from_slice_get xs k x x h) (all k x (slice_get_within xs k x h))
-
-pub container_is : (cargo : Cargo) (c : ℕ) (container : Container) → slice_get cargo.containers c ≡ Some container → container_at cargo c ≡ container
-container_is cargo c container h = get_or_from_slice_get cargo.containers c container no_container h
-
-pub is_container : (cargo : Cargo) (c : ℕ) → c < length cargo.containers → slice_get cargo.containers c ≡ Some (container_at cargo c)
-is_container cargo c l = slice_get-get_or cargo.containers c no_container l
 
 -- every place takes both sides
 pub forty_span : (ship : Ship) (p : ℕ) (place : Place) → IsForty ship → slice_get (places ship) p ≡ Some place → place.span ≡ Both

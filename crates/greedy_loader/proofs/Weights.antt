@@ -18,7 +18,7 @@ use Rattle.stow_data.specs.Ship.{Ship, places, spans, stack_places, tier_places}
 use Rattle.stow_data.specs.Shipment.{Cargo}
 use Rattle.voyage_specs.specs.Plan.{Holds}
 use Rattle.voyage_specs.specs.Departure.{weight_in, IsWithinLimits}
-use Rattle.plain_voyages.specs.Plain.{IsPlainShip, IsRoomy}
+use Rattle.greedy_loader.specs.Plain.{IsPlainShip, IsRoomy}
 use Rattle.stow_data.specs.Plans.{Plan}
 
 -- what each place of a stack may weigh

@@ -2,5 +2,10 @@
 #![tactic(auto)]
 
 mod loader;
+mod plain;
 
 pub use loader::load;
+pub use plain::{are_plain, is_plain_ship};
+
+#[cfg(test)]
+mod plain_tests;

@@ -2,7 +2,7 @@
 ghost use Rattle.std.specs.Prelude.{◌≡◌, ◌<◌, ◌+◌, ◌++◌, ◌&&◌, ◌==◌, IfOk, OnOk, length};
 ghost use Rattle.std.specs.List.{find};
 ghost use Rattle.stow_data.specs.Ship.{places};
-ghost use Rattle.plain_voyages.specs.Plain.{IsForty};
+ghost use Rattle.greedy_loader.specs.Plain.{IsForty};
 ghost use Rattle.greedy_loader.specs.Loader.{is_open, is_clean, is_lifted, is_rehandled, has_rehandle, leaves_at, leaves_before, staying, discharged, choice, loaded, departed, load, bound_for, quay};
 ghost use Rattle.stow_data.specs.Plans.{container_at, place_numbers};
 

@@ -2,3 +2,11 @@ pub mod Pairs
 pub mod Numbers
 pub mod Composing
 pub mod Showing
+pub mod Texts
+pub mod Writable
+pub mod Known
+pub mod Quiet
+pub mod Groups
+pub mod Departures
+pub mod Planned
+pub mod Gathered

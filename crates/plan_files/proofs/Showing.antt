@@ -17,8 +17,7 @@ use Rattle.voyage_specs.specs.Shown.{CellGroup, Says, SomeSays, IsAboardGroup, S
 use Rattle.bookings.specs.declared.shipment.Bookings.{Bookings}
 use Rattle.stow_data.specs.Plans.{Plan, place_at, container_at, held, place_numbers, no_place, no_container, no_stack}
 use Rattle.plan_files.specs.DepartureFile.{Group, group_of, group_at, groups, cells, number_at, port_of}
-use Rattle.greedy_loader.proofs.Choosing.{held_is}
-use Rattle.greedy_loader.proofs.Columns.{place_is}
+use Rattle.stow_data.proofs.PlanLookups.{held_is, is_held, place_is}
 use Rattle.plan_files.proofs.Pairs.{InPairs, pairs_flat, pairs_map, pairs_range, all_pairs, all_pairs_at}
 use Rattle.plan_files.proofs.Numbers.{number_once}
 
@@ -34,12 +33,6 @@ in_group ship cargo bookings p (Some c) g (inr n) = absurd n
 one_group : (ship : Ship) (cargo : Cargo) (bookings : Bookings) (p : ℕ) (o : Option ℕ) (R : Group → Group → Type 0) → InPairs R (group_at ship cargo bookings p o)
 one_group ship cargo bookings p None R = tt
 one_group ship cargo bookings p (Some c) R = (λ y m. absurd m, tt)
-
--- what stands at a place
-held_holds : (plan : Plan) (p c : ℕ) → held plan p ≡ Some c → Holds plan p c
-held_holds [] p c h = absurd cc
-held_holds (o ∷ os) zero c h = ap (λ (z : Option ℕ). Some z) h
-held_holds (o ∷ os) (suc p) c h = held_holds os p c h
 
 -- an id is that of one container alone
 id_once : (cargo : Cargo) (c d : ℕ) (x y : Container) → IsCargo cargo → slice_get cargo.containers c ≡ Some x → slice_get cargo.containers d ≡ Some y → x.id ≡ y.id → c ≡ d
@@ -88,7 +81,7 @@ module _ (ship : Ship) (cargo : Cargo) (bookings : Bookings) (call : ℕ) (plan 
       let a = map_at (λ (x : Group). x.cell) (groups ship cargo bookings plan) g m in
       let b = flat_at (λ (p : ℕ). group_at ship cargo bookings p (held plan p)) (place_numbers ship) a.0 a.1 in
       let d = in_group ship cargo bookings b.0 (held plan b.0) a.0 b.2 in
-      (b.0, d.0, record { holds = held_holds plan b.0 d.0 d.1; is_cell = a.2 ∙ ap (λ (x : Group). x.cell) d.2 })
+      (b.0, d.0, record { holds = is_held plan b.0 d.0 d.1; is_cell = a.2 ∙ ap (λ (x : Group). x.cell) d.2 })
 
   cell_in : (p c : ℕ) → Holds plan p c → Member (cell_of ship cargo bookings p c) (cells ship cargo bookings plan)
   unfolding groups
@@ -138,7 +131,7 @@ module _ (ship : Ship) (cargo : Cargo) (bookings : Bookings) (call : ℕ) (plan 
       (pairs_range _ 0 (length (places ship)) (λ i j l x y a b.
       let c = in_group ship cargo bookings i (held plan i) x a in
       let d = in_group ship cargo bookings j (held plan j) y b in
-      let r : R (cell_of ship cargo bookings i c.0) (cell_of ship cargo bookings j d.0) = h i j c.0 d.0 l (held_holds plan i c.0 c.1) (held_holds plan j d.0 d.1) in
+      let r : R (cell_of ship cargo bookings i c.0) (cell_of ship cargo bookings j d.0) = h i j c.0 d.0 l (is_held plan i c.0 c.1) (is_held plan j d.0 d.1) in
       subst (λ (z : Group). R z.cell y.cell) (sym c.2) (subst (λ (z : Group). R (cell_of ship cargo bookings i c.0) z.cell) (sym d.2) r))))
 
   one_id : (p q c d : ℕ) → p < q → Holds plan p c → Holds plan q d → (cell_of ship cargo bookings p c).id ≢ (cell_of ship cargo bookings q d).id

@@ -197,7 +197,3 @@ texts segments = flat_map text_of segments
 -- the text of the file
 unfoldable pub file_text : Cargo → Bookings → ℕ → List Group → List ℕ
 file_text cargo bookings call gs = texts (file_segments cargo bookings call gs)
-
--- every container of the plan is one of the cargo
-abbrev pub IsKnown : Cargo → Plan → Type 0
-IsKnown cargo plan = (p c : ℕ) → slice_get plan p ≡ Some (Some c) → c < length cargo.containers

@@ -1,1 +1,2 @@
 pub mod DepartureFile
+pub mod Departure

@@ -1,8 +1,9 @@
-//! The segments of the departure file of a call (ISO 9735, SMDG BAPLIE 2.2).
+//! The departure file of a call: its segments, its message and its text (ISO 9735, SMDG BAPLIE 2.2).
 #![tactic(auto)]
 
 mod departures;
+mod law;
+mod messages;
 
-pub use departures::{
-    bgm, booking_of, dtm, group, loc, no_booking, number_at, port_of, tdt, unb, unh,
-};
+pub use law::departure_reads;
+pub use messages::departure_text;

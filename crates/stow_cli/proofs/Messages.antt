@@ -4,15 +4,15 @@ use Rattle.std.specs.Prelude.{All, map, flat_map}
 use Rattle.stow_data.specs.Ship.{Ship}
 use Rattle.stow_data.specs.Profile.{IsShip}
 use Rattle.voyage_specs.specs.Shown.{CellGroup}
-use Rattle.stow_data.specs.Plans.{Plan}
+use Rattle.stow_data.specs.Plans.{Plan, IsKnown}
 use Rattle.bookings.specs.declared.shipment.Bookings.{Bookings}
 use Rattle.bookings.specs.Rules.{IsBookings}
-use Rattle.plain_inputs.specs.Booked.{booked_cargo}
-use Rattle.plan_files.specs.DepartureFile.{Group, IsKnown, cells, groups}
+use Rattle.bookings.specs.BookedCargo.{booked_cargo}
+use Rattle.plan_files.specs.DepartureFile.{Group, cells, groups}
 use Rattle.baplie_model.specs.declared.parts.Message.{Message}
-use Rattle.plan_messages.specs.Departure.{cell_group_of, message_of}
-use Rattle.plan_messages.proofs.Departures.{reads_as}
-use Rattle.plan_messages.proofs.Planned.{plan_whole}
+use Rattle.plan_files.specs.Departure.{cell_group_of, message_of}
+use Rattle.plan_files.proofs.Departures.{reads_as}
+use Rattle.plan_files.proofs.Planned.{plan_whole}
 use Rattle.stow_cli.specs.Work.{files_of}
 use Rattle.stow_cli.specs.Voyages.{ReadAs, shown_in, shown_by}
 

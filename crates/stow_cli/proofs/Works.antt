@@ -9,14 +9,13 @@ use Rattle.stow_data.specs.Shipment.{Cargo}
 use Rattle.voyage_specs.specs.Departure.{AreDepartures}
 use Rattle.bookings.specs.declared.shipment.Bookings.{Bookings}
 use Rattle.stow_cli.specs.declared.writing.NamedFile.{NamedFile}
-use Rattle.stow_data.specs.Plans.{Plan}
+use Rattle.stow_data.specs.Plans.{Plan, IsKnown}
 use Rattle.greedy_loader.specs.Loader.{load}
 use Rattle.bookings.specs.Rules.{IsBookings}
-use Rattle.plan_files.specs.DepartureFile.{IsKnown}
 use Rattle.stow_cli.specs.Work.{file_of, files_of, all_files, head, leaf, work_of_plans, work_for, report}
 use Rattle.stow_cli.specs.declared.work.Work.{Work}
-use Rattle.plain_voyages.specs.Plain.{IsPlainShip, IsPlainCargo}
-use Rattle.plain_inputs.specs.Booked.{booked_cargo}
+use Rattle.greedy_loader.specs.Plain.{IsPlainShip, IsPlainCargo}
+use Rattle.bookings.specs.BookedCargo.{booked_cargo}
 use Rattle.stow_cli.specs.Voyages.{Sails, report_of, voyage}
 use Rattle.stow_cli.proofs.Bounds.{leaf_proves, zero_bounds}
 use Rattle.stow_cli.proofs.Messages.{messages_of, all_shown, all_read}

@@ -2,8 +2,7 @@
 use Rattle.std.specs.Prelude.{◌≡◌, ◌⊎◌, ℕ, List, Option, IfSome, IsOk, Ok, Err}
 use Rattle.stow_io.specs.Files.{Files, bytes_at}
 use Rattle.stow_data.specs.Ship.{Ship}
-use Rattle.plain_voyages.specs.Plain.{IsPlainShip}
-use Rattle.plain_inputs.specs.Booked.{ArePlain}
+use Rattle.greedy_loader.specs.Plain.{IsPlainShip, ArePlain}
 use Rattle.ship_profile.specs.ShipText.{profile_of}
 use Rattle.ship_profile.specs.declared.faults.ProfileFault.{ProfileFault}
 use Rattle.bookings.specs.Reading.{bookings_of}

@@ -12,7 +12,7 @@ use Rattle.stow_cli.specs.declared.writing.NamedFile.{NamedFile}
 use Rattle.voyage_specs.specs.Voyage.{HasCount}
 use Rattle.bookings.specs.declared.shipment.Bookings.{Bookings}
 use Rattle.stow_cli.specs.declared.work.Work.{Work}
-use Rattle.plain_inputs.specs.Booked.{booked_cargo}
+use Rattle.bookings.specs.BookedCargo.{booked_cargo}
 use Rattle.stow_cli.specs.Work.{files_of, cert_file}
 use Rattle.proof_trees.specs.Program.{cost_of}
 use Rattle.zero_one_rows.specs.Variables.{Voyage}

@@ -8,7 +8,7 @@ use Rattle.stow_cli.specs.declared.writing.NamedFile.{NamedFile}
 use Rattle.stow_cli.specs.declared.work.Work.{Work}
 use Rattle.stow_data.specs.Plans.{Plan}
 use Rattle.greedy_loader.specs.Loader.{load}
-use Rattle.plain_inputs.specs.Booked.{booked_cargo}
+use Rattle.bookings.specs.BookedCargo.{booked_cargo}
 use Rattle.plan_files.specs.DepartureFile.{groups, file_text}
 use Rattle.certificate.specs.declared.tree.End.TheVariants.{Leaf}
 use Rattle.certificate.specs.declared.tree.Head.{Head}

@@ -9,7 +9,7 @@ use crate::answer::{Answer, PlainInputs};
 use crate::lines::refused;
 use crate::order::Inputs;
 use bookings::{BookingFault, Bookings, read_bookings};
-use plain_inputs::{are_plain, is_plain_ship};
+use greedy_loader::{are_plain, is_plain_ship};
 use ship_profile::{ProfileFault, read_profile};
 use std::alloc::Global;
 use stow_data::{Bytes, NoMemory, Ship, Word};

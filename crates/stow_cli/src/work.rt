@@ -1,19 +1,18 @@
 //! What is written and printed for a ship and its bookings.
 ghost use Rattle.std.specs.Prelude.{◌≡◌, ◌<◌, ◌≤◌, ◌+◌, ◌++◌, ◌∷◌, [], IfOk, IfSome, length, All};
 ghost use Rattle.stow_data.specs.Ship.{places};
-ghost use Rattle.plan_files.specs.DepartureFile.{IsKnown};
+ghost use Rattle.stow_data.specs.Plans.{IsKnown};
 ghost use Rattle.stow_cli.specs.Inputs.{IsPlain};
 ghost use Rattle.bookings.specs.Rules.{IsBookings};
-ghost use Rattle.plain_inputs.specs.Booked.{booked_cargo};
+ghost use Rattle.bookings.specs.BookedCargo.{booked_cargo};
 ghost use Rattle.stow_cli.specs.Voyages.{Sails};
 ghost use Rattle.stow_cli.specs.Work.{file_name, file_of, files_of, all_files, cert_name, cert_file, head, leaf, work_for};
 
 use crate::writing::{FileList, NamedFile};
-use bookings::Bookings;
+use bookings::{Bookings, cargo_of};
 use certificate::{End, Head, Outcome, Record, Tree, write_cert};
 use greedy_loader::load;
-use plain_inputs::cargo_of;
-use plan_messages::departure_text;
+use plan_files::departure_text;
 use std::alloc::Global;
 use stow_data::{Bytes, Cargo, NoMemory, Plan, Ship, Word};
 use zero_one_rows::{RaiseList, RowList};

@@ -7,3 +7,4 @@ pub mod CellLemmas
 pub mod CoverLemmas
 pub mod SampleLemmas
 pub mod KindLemmas
+pub mod PlanLookups

@@ -1,5 +1,5 @@
 -- Plans, and total look-ups in the lists of a ship and a cargo.
-use Rattle.std.specs.Prelude.{ℕ, false, List, [], length, Option, None, slice_index_or}
+use Rattle.std.specs.Prelude.{◌≡◌, ◌<◌, ℕ, false, List, [], length, Option, Some, None, slice_get, slice_index_or}
 use Rattle.std.specs.List.{range_with_len}
 use Rattle.stow_data.specs.declared.geometry.Half.{Half}
 use Rattle.stow_data.specs.declared.geometry.Place.{Place}
@@ -45,3 +45,7 @@ place_numbers ship = range_with_len 0 (length (places ship))
 
 abbrev pub container_numbers : Cargo → List ℕ
 container_numbers cargo = range_with_len 0 (length cargo.containers)
+
+-- every container of the plan is one of the cargo
+abbrev pub IsKnown : Cargo → Plan → Type 0
+IsKnown cargo plan = (p c : ℕ) → slice_get plan p ≡ Some (Some c) → c < length cargo.containers

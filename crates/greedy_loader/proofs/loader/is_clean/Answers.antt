@@ -2,7 +2,8 @@ use Rattle.std.proofs.Common.{◌≡◌, ◌-◌, ℕ, ap, sym, ◌∙◌, arith
 use borrow.Author.Count.{below_more}
 use Rattle.stow_data.specs.Plans.{held}
 use Rattle.greedy_loader.specs.Loader.{leaves_before}
-use Rattle.greedy_loader.proofs.Choosing.{clean_from, clean_fails, held_is, tier_is, tier_number}
+use Rattle.greedy_loader.proofs.Choosing.{clean_from, clean_fails, tier_is, tier_number}
+use Rattle.stow_data.proofs.PlanLookups.{held_is}
 use Rattle.greedy_loader.proofs.loader.is_clean.Goals as goal
 
 pub overflow_sub-p-inside : goal.overflow_sub-p-inside

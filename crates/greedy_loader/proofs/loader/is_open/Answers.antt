@@ -1,7 +1,8 @@
 use Rattle.std.proofs.Common.{◌≡◌, ◌-◌, ℕ, ap, sym, ◌∙◌, arith}
 use Rattle.std.specs.Prelude.{is_some}
 use Rattle.stow_data.specs.Plans.{held}
-use Rattle.greedy_loader.proofs.Choosing.{open_filled, open_floor, open_above, held_is, tier_is, tier_number}
+use Rattle.greedy_loader.proofs.Choosing.{open_filled, open_floor, open_above, tier_is, tier_number}
+use Rattle.stow_data.proofs.PlanLookups.{held_is}
 use Rattle.greedy_loader.proofs.loader.is_open.Goals as goal
 
 pub returns-then-is_some : goal.returns-then-is_some

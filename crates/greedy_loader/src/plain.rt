@@ -1,0 +1,77 @@
+//! Plain ships and plain bookings.
+ghost use Rattle.std.specs.Prelude.{◌↔◌, ◌≡◌, ◌≤◌, All, IsTrue};
+ghost use Rattle.stow_data.specs.Kinds.{rounded};
+ghost use Rattle.stow_data.specs.Profile.{IsShip};
+ghost use Rattle.greedy_loader.specs.Plain.{HasNoPlug, IsPlainShip, IsRoomy, ArePlain, IsPlainBooking, IsPlainStack};
+
+use bookings::{Booking, Bookings};
+use stow_data::{Length, Lengths, Ship, Stack, StackNo};
+
+/// The heaviest weight of a container, rounded up to a step.
+fn heaviest(step: u32) -> u32
+    requires from { 1 ≤ step }
+    requires to { step ≤ 10000 }
+    ensures { result ≡ rounded step 99999 }
+{
+    step * ((99_999 + step - 1) / step)
+}
+
+/// Whether none of a stack's places has a reefer plug.
+fn has_no_plug(stack: &Stack) -> bool
+    ensures { IsTrue result ↔ HasNoPlug stack.now }
+{
+    stack.plugs.as_slice().iter().all(|plug| !*plug)
+}
+
+/// Whether the heaviest containers in all tiers of a stack stay within its limit.
+fn is_roomy(ship: &Ship, stack: &Stack) -> bool
+    requires { IsShip ship.now }
+    ensures { IsTrue result ↔ IsRoomy ship.now stack.now }
+{
+    let most = heaviest(ship.weight_step());
+    stack.tiers as u64 * most as u64 <= stack.limit_kg as u64
+}
+
+fn is_plain_stack(ship: &Ship, stack: &Stack) -> bool
+    requires { IsShip ship.now }
+    ensures { IsTrue result ↔ IsPlainStack ship.now stack.now }
+{
+    stack.lengths == Lengths::Forty && has_no_plug(stack) && is_roomy(ship, stack)
+}
+
+fn has_plain_stacks(ship: &Ship) -> bool
+    requires { IsShip ship.now }
+    ensures { IsTrue result ↔ All (IsPlainStack ship.now) ship.now.stacks }
+{
+    for number in 0..ship.stacks() {
+        if !is_plain_stack(ship, ship.stack(StackNo(number))) {
+            return false;
+        }
+    }
+    true
+}
+
+/// Whether a ship is plain: 40-foot stacks alone, whose limits no weight reaches, without reefer plugs, hatch covers and separations.
+pub fn is_plain_ship(ship: &Ship) -> bool
+    requires { IsShip ship.now }
+    ensures { IsTrue result ↔ IsPlainShip ship.now }
+{
+    ship.covers() == 0 && ship.separations() == 0 && has_plain_stacks(ship)
+}
+
+fn is_plain(booking: &Booking) -> bool
+    ensures { IsTrue result ↔ IsPlainBooking booking.now }
+{
+    booking.long == Length::Forty && booking.temperature.is_none()
+}
+
+/// Whether bookings are plain: 40-foot containers alone, none of them a reefer.
+pub fn are_plain(bookings: &Bookings) -> bool
+    ensures { IsTrue result ↔ ArePlain bookings.now }
+{
+    bookings
+        .containers
+        .as_slice()
+        .iter()
+        .all(|booking| is_plain(booking))
+}

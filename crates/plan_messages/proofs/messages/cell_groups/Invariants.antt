@@ -1,7 +1,0 @@
-use Rattle.std.proofs.Common.{◌≡◌, map}
-use Rattle.plan_files.proofs.Composing.{groups_below}
-use Rattle.plan_messages.specs.Departure.{cell_group_of}
-use Rattle.plan_messages.proofs.messages.cell_groups.Given as goal
-
-abbrev pub invariant-loop-number : goal.invariant-loop-number
-invariant-loop-number l = l.list ≡ map cell_group_of (groups_below l.ship l.cargo l.bookings l.plan l.number)
