@@ -6,7 +6,7 @@ use Rattle.std.proofs.lemmas.List.{length-map}
 use Rattle.std.proofs.lemmas.Option.{none-some, same_Some, slice_get_within, slice_get-map}
 use Rattle.stow_data.specs.Ship.{Ship, places}
 use Rattle.stow_data.specs.Shipment.{Cargo}
-use Rattle.voyage_specs.specs.Plan.{Holds}
+use Rattle.stowage_rules.specs.Plan.{Holds}
 use Rattle.greedy_loader.specs.Plain.{IsForty}
 use Rattle.stow_data.specs.Plans.{Plan, held}
 use Rattle.greedy_loader.specs.Loader.{is_below, is_lifted, is_rehandled, has_rehandle, leaves_at, staying, discharged}

@@ -8,13 +8,13 @@ use Rattle.stow_data.specs.declared.geometry.Place.{Place}
 use Rattle.stow_data.specs.Ship.{Ship, places}
 use Rattle.stow_data.specs.Shipment.{Cargo, IsShipped}
 use Rattle.stow_data.proofs.Members.{Member}
-use Rattle.voyage_specs.specs.Plan.{Holds}
-use Rattle.voyage_specs.specs.Departure.{AreDepartures}
-use Rattle.voyage_specs.specs.Moves.{leaves}
-use Rattle.voyage_specs.specs.Least.{IsOver, RehandlesNone, RehandleNone}
-use Rattle.voyage_specs.specs.Voyage.{HasCount}
-use Rattle.voyage_specs.proofs.Upper.{leaves_is}
-use Rattle.voyage_specs.proofs.Whole.{none_count}
+use Rattle.stowage_rules.specs.Plan.{Holds}
+use Rattle.stowage_rules.specs.Departure.{AreDepartures}
+use Rattle.voyage_meaning.specs.Moves.{leaves}
+use Rattle.plan_lifts.specs.Least.{IsOver, RehandlesNone, RehandleNone}
+use Rattle.voyage_meaning.specs.Voyage.{HasCount}
+use Rattle.plan_lifts.proofs.Upper.{leaves_is}
+use Rattle.plan_lifts.proofs.Whole.{none_count}
 use Rattle.greedy_loader.specs.Plain.{IsPlainShip, IsPlainCargo}
 use Rattle.stow_data.specs.Plans.{Plan, container_at}
 use Rattle.greedy_loader.specs.Loader.{is_below, leaves_at, has_rehandle, loaded, quay, discharged, departed, departures, load}

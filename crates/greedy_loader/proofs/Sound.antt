@@ -7,9 +7,8 @@ use Rattle.std.proofs.lemmas.Option.{none-some, same_Some}
 use Rattle.stow_data.specs.Ship.{Ship, places}
 use Rattle.stow_data.specs.Shipment.{Cargo}
 use Rattle.stow_data.proofs.Members.{Member}
-use Rattle.voyage_specs.specs.Plan.{Holds}
-use Rattle.voyage_specs.proofs.Lower.{slice_get-set_other, slice_get-set_same}
-use Rattle.voyage_specs.proofs.Steps.{slice_get_in}
+use Rattle.stowage_rules.specs.Plan.{Holds}
+use Rattle.stowage_rules.proofs.Items.{slice_get-set_other, slice_get-set_same, slice_get_in}
 use Rattle.greedy_loader.specs.Plain.{IsForty}
 use Rattle.stow_data.specs.Plans.{Plan, container_at, held, place_numbers}
 use Rattle.greedy_loader.specs.Loader.{is_directly_below, is_open, is_clean, choice, loaded}

@@ -18,8 +18,8 @@ use Rattle.stow_data.specs.Ship.{Ship, places, spans, TakesSide, HasLength}
 use Rattle.stow_data.specs.Shipment.{Cargo, IsAboard, IsShipped}
 use Rattle.stow_data.proofs.Listed.{place_from}
 use Rattle.stow_data.proofs.Members.{Member}
-use Rattle.voyage_specs.specs.Plan.{Holds, IsWellFormed}
-use Rattle.voyage_specs.specs.Departure.{IsSupported, IsStowed, IsDeparture, HasArrival}
+use Rattle.stowage_rules.specs.Plan.{Holds, IsWellFormed}
+use Rattle.stowage_rules.specs.Departure.{IsSupported, IsStowed, IsDeparture, HasArrival}
 use Rattle.greedy_loader.specs.Plain.{IsForty, IsPlainShip, IsPlainContainer, IsPlainCargo}
 use Rattle.stow_data.specs.Plans.{Plan, place_at, container_at, no_container}
 use Rattle.stow_data.proofs.PlanLookups.{is_place, place_is, is_container, container_is}

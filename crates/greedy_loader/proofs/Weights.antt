@@ -16,8 +16,8 @@ use Rattle.stow_data.specs.declared.cargoes.Container.{Container}
 use Rattle.stow_data.specs.Kinds.{rounded}
 use Rattle.stow_data.specs.Ship.{Ship, places, spans, stack_places, tier_places}
 use Rattle.stow_data.specs.Shipment.{Cargo}
-use Rattle.voyage_specs.specs.Plan.{Holds}
-use Rattle.voyage_specs.specs.Departure.{weight_in, IsWithinLimits}
+use Rattle.stowage_rules.specs.Plan.{Holds}
+use Rattle.stowage_rules.specs.Departure.{weight_in, IsWithinLimits}
 use Rattle.greedy_loader.specs.Plain.{IsPlainShip, IsRoomy}
 use Rattle.stow_data.specs.Plans.{Plan}
 

@@ -11,9 +11,9 @@ use Rattle.stow_data.specs.Profile.{IsShip}
 use Rattle.stow_data.specs.Shipment.{Cargo, IsCargo, IsShipped}
 use Rattle.stow_data.proofs.Members.{Member, member_of, index_of, flat_at, flat_from, map_at, map_from, range_from}
 use Rattle.stow_data.proofs.Listed.{place_from}
-use Rattle.voyage_specs.specs.Plan.{Holds, Fills}
-use Rattle.voyage_specs.specs.Departure.{IsStowed, AreDepartures}
-use Rattle.voyage_specs.specs.Shown.{CellGroup, Says, SomeSays, IsAboardGroup, SharesHalf, Shows, ShowAll, IsLegalFileSet}
+use Rattle.stowage_rules.specs.Plan.{Holds, Fills}
+use Rattle.stowage_rules.specs.Departure.{IsStowed, AreDepartures}
+use Rattle.plan_files.specs.Shown.{CellGroup, Says, SomeSays, IsAboardGroup, SharesHalf, Shows, ShowAll, IsLegalFileSet}
 use Rattle.bookings.specs.declared.shipment.Bookings.{Bookings}
 use Rattle.stow_data.specs.Plans.{Plan, place_at, container_at, held, place_numbers, no_place, no_container, no_stack}
 use Rattle.plan_files.specs.DepartureFile.{Group, group_of, group_at, groups, cells, number_at, port_of}

@@ -11,7 +11,7 @@ use Rattle.stow_data.specs.declared.cargoes.Origin.{Origin}
 use Rattle.stow_data.specs.declared.cargoes.Origin.TheVariants.{Arrived, Booked}
 use Rattle.stow_data.specs.Ship.{Ship, number_in}
 use Rattle.stow_data.specs.Shipment.{Cargo}
-use Rattle.voyage_specs.specs.Shown.{CellGroup}
+use Rattle.plan_files.specs.Shown.{CellGroup}
 use Rattle.bookings.specs.declared.shipment.Booking.{Booking}
 use Rattle.bookings.specs.declared.shipment.Bookings.{Bookings}
 use Rattle.stow_data.specs.Plans.{Plan, place_at, container_at, held, place_numbers, no_stack}

@@ -3,7 +3,7 @@ use Rattle.std.proofs.Common.{◌≡◌, ℕ, zero, suc, ◌+◌, ◌≤◌, Lis
 use Rattle.std.specs.Prelude.{All, map, flat_map}
 use Rattle.stow_data.specs.Ship.{Ship}
 use Rattle.stow_data.specs.Profile.{IsShip}
-use Rattle.voyage_specs.specs.Shown.{CellGroup}
+use Rattle.plan_files.specs.Shown.{CellGroup}
 use Rattle.stow_data.specs.Plans.{Plan, IsKnown}
 use Rattle.bookings.specs.declared.shipment.Bookings.{Bookings}
 use Rattle.bookings.specs.Rules.{IsBookings}

@@ -6,7 +6,7 @@ use Rattle.std.proofs.lemmas.List.{append-nil, drop_all, drop_more}
 use Rattle.std.proofs.lemmas.Option.{slice_get_within}
 use Rattle.stow_data.specs.Ship.{Ship, places}
 use Rattle.stow_data.specs.Shipment.{Cargo}
-use Rattle.voyage_specs.specs.Departure.{AreDepartures}
+use Rattle.stowage_rules.specs.Departure.{AreDepartures}
 use Rattle.bookings.specs.declared.shipment.Bookings.{Bookings}
 use Rattle.stow_cli.specs.declared.writing.NamedFile.{NamedFile}
 use Rattle.stow_data.specs.Plans.{Plan, IsKnown}
@@ -19,7 +19,7 @@ use Rattle.bookings.specs.BookedCargo.{booked_cargo}
 use Rattle.stow_cli.specs.Voyages.{Sails, report_of, voyage}
 use Rattle.stow_cli.proofs.Bounds.{leaf_proves, zero_bounds}
 use Rattle.stow_cli.proofs.Messages.{messages_of, all_shown, all_read}
-use Rattle.voyage_specs.specs.Shown.{CellGroup, IsLegalFileSet}
+use Rattle.plan_files.specs.Shown.{CellGroup, IsLegalFileSet}
 use Rattle.greedy_loader.proofs.Sailing.{load_is_legal, load_has_count}
 use Rattle.plan_files.proofs.Showing.{groups_legal}
 

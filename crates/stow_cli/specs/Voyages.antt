@@ -3,13 +3,13 @@ use Rattle.std.specs.Prelude.{◌≡◌, ℕ, Bool, codes, List, [], ◌∷◌, 
 use Rattle.std.specs.Fmt.{decimal}
 use Rattle.stow_data.specs.Ship.{Ship}
 use Rattle.stow_data.specs.Plans.{Plan}
-use Rattle.voyage_specs.specs.Shown.{CellGroup, IsLegalFileSet}
+use Rattle.plan_files.specs.Shown.{CellGroup, IsLegalFileSet}
 use Rattle.baplie_model.specs.declared.parts.CellGroup as baplie
 use Rattle.baplie_model.specs.declared.parts.Facts.{Facts}
 use Rattle.baplie_model.specs.declared.parts.Message.{Message}
 use Rattle.baplie_model.specs.Messages.{IsMessageOf}
 use Rattle.stow_cli.specs.declared.writing.NamedFile.{NamedFile}
-use Rattle.voyage_specs.specs.Voyage.{HasCount}
+use Rattle.voyage_meaning.specs.Voyage.{HasCount}
 use Rattle.bookings.specs.declared.shipment.Bookings.{Bookings}
 use Rattle.stow_cli.specs.declared.work.Work.{Work}
 use Rattle.bookings.specs.BookedCargo.{booked_cargo}

@@ -5,7 +5,7 @@ use Rattle.stow_data.specs.declared.cargoes.Container.{Container}
 use Rattle.stow_data.specs.Ship.{places}
 use Rattle.stow_data.specs.Shipment.{IsCargo, IsShipped}
 use Rattle.stow_data.specs.Profile.{IsShip, IsStack, IsCover, IsSeparation, SharesCell, SamePair}
-use Rattle.voyage_specs.proofs.SampleRules.{all_from, pairs_from}
+use Rattle.sample_voyage.proofs.SampleRules.{all_from, pairs_from}
 use Rattle.zero_one_model.specs.Samples as samples
 
 plugs : (n : ℕ) → length (replicate n false) ≡ n

@@ -1,0 +1,11 @@
+pub mod Lower
+pub mod Count
+pub mod Voyages
+pub mod Order
+pub mod Steps
+pub mod Phases
+pub mod Runs
+pub mod Upper
+pub mod Exact
+pub mod Closed
+pub mod Whole

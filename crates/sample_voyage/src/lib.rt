@@ -1,0 +1,6 @@
+//! A small ship, its cargo and plans of it, for the tests of other crates.
+#![tactic(auto)]
+
+mod sample;
+
+pub use sample::{Entries, plan_of, small_cargo, small_ship};

@@ -1,0 +1,5 @@
+pub mod Items
+pub mod Fillers
+pub mod RulesHold
+pub mod PlansHold
+pub mod Rows

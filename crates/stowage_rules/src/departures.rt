@@ -1,0 +1,181 @@
+//! Departures: plain, slow tests of a plan.
+ghost use Rattle.std.specs.Prelude.{◌≡◌, ◌↔◌, ◌<◌, ℕ, IsTrue, length};
+ghost use Rattle.stow_data.specs.Ship.{places, HasLength};
+ghost use Rattle.stow_data.specs.Shipment.{IsAboard};
+ghost use Rattle.stowage_rules.specs.Plan.{Holds, IsWellFormed};
+ghost use Rattle.stowage_rules.specs.Departure.{HoldsAboard, IsStowed, IsDeparture};
+ghost use Rattle.stowage_rules.specs.Places.{AboardAt, FitsAt, IsSomewhere, StandsAlone, StandsAloneAt};
+
+use crate::rules::{is_plugged, is_supported, is_twenty_on_twenty, is_within_limits};
+use crate::separation::{broken_separation, shares_half};
+use stow_data::{CallNo, Cargo, Container, ContainerNo, Length, PlaceNo, Plan, Ship, Span};
+
+/// Whether the span takes a container of this length.
+fn has_length(span: Span, long: Length) -> bool
+    ensures { IsTrue result ↔ HasLength span long }
+{
+    match span {
+        Span::Both => long == Length::Forty,
+        Span::Fore => long == Length::Twenty,
+        Span::Aft => long == Length::Twenty,
+    }
+}
+
+/// Whether what stands at a place is a container of the cargo whose length fits there.
+fn fits_at(ship: &Ship, cargo: &Cargo, plan: &Plan, p: PlaceNo) -> bool
+    requires each_place { length plan.now ≡ length (places ship.now) }
+    requires inside { p < length (places ship.now) }
+    ensures { IsTrue result ↔ FitsAt ship.now cargo.now plan.now p }
+{
+    match plan.at(p) {
+        None => true,
+        Some(c) => {
+            if c.0 >= cargo.len() {
+                return false;
+            }
+            has_length(ship.place(p).span, cargo.container(c).long)
+        }
+    }
+}
+
+/// Whether what stands at each place is a container of the cargo whose length fits there.
+fn all_fit(ship: &Ship, cargo: &Cargo, plan: &Plan) -> bool
+    requires { length plan.now ≡ length (places ship.now) }
+    ensures { IsTrue result ↔ ((n : ℕ) → FitsAt ship.now cargo.now plan.now n) }
+{
+    for p in 0..ship.places() {
+        if !fits_at(ship, cargo, plan, PlaceNo(p)) {
+            return false;
+        }
+    }
+    true
+}
+
+/// Whether two places, if they aren't one, hold different containers and have no half-cell in common where both are filled.
+fn stands_alone(ship: &Ship, plan: &Plan, p: PlaceNo, q: PlaceNo) -> bool
+    requires each_place { length plan.now ≡ length (places ship.now) }
+    requires p_in { p < length (places ship.now) }
+    requires q_in { q < length (places ship.now) }
+    ensures { IsTrue result ↔ StandsAlone ship.now plan.now p q }
+{
+    if p == q {
+        return true;
+    }
+    match (plan.at(p), plan.at(q)) {
+        (Some(c), Some(d)) => c != d && !shares_half(&ship.place(p), &ship.place(q)),
+        _ => true,
+    }
+}
+
+/// Whether a place is so beside all others.
+fn stands_alone_at(ship: &Ship, plan: &Plan, p: PlaceNo) -> bool
+    requires each_place { length plan.now ≡ length (places ship.now) }
+    requires inside { p < length (places ship.now) }
+    ensures { IsTrue result ↔ StandsAloneAt ship.now plan.now p }
+{
+    for q in 0..ship.places() {
+        if !stands_alone(ship, plan, p, PlaceNo(q)) {
+            return false;
+        }
+    }
+    true
+}
+
+/// Whether each place is so beside all others.
+fn all_stand_alone(ship: &Ship, plan: &Plan) -> bool
+    requires { length plan.now ≡ length (places ship.now) }
+    ensures { IsTrue result ↔ ((n : ℕ) → StandsAloneAt ship.now plan.now n) }
+{
+    for p in 0..ship.places() {
+        if !stands_alone_at(ship, plan, PlaceNo(p)) {
+            return false;
+        }
+    }
+    true
+}
+
+/// Whether a plan with an entry for each place is well formed.
+pub fn is_well_formed(ship: &Ship, cargo: &Cargo, plan: &Plan) -> bool
+    requires { length plan.now ≡ length (places ship.now) }
+    ensures { IsTrue result ↔ IsWellFormed ship.now cargo.now plan.now }
+{
+    all_fit(ship, cargo, plan) && all_stand_alone(ship, plan)
+}
+
+/// Whether a container is aboard after a call.
+pub fn is_aboard(container: &Container, call: CallNo) -> bool
+    ensures { IsTrue result ↔ IsAboard call container.now }
+{
+    container.load <= call && call < container.dest
+}
+
+/// Whether a container stands at this place.
+fn holds(plan: &Plan, p: PlaceNo, c: ContainerNo) -> bool
+    requires { p < length plan.now }
+    ensures { IsTrue result ↔ Holds plan.now p c }
+{
+    plan.at(p) == Some(c)
+}
+
+/// Whether a container stands somewhere.
+fn is_somewhere(ship: &Ship, plan: &Plan, c: ContainerNo) -> bool
+    requires { length plan.now ≡ length (places ship.now) }
+    ensures { IsTrue result ↔ IsSomewhere plan.now c }
+{
+    for p in 0..ship.places() {
+        if holds(plan, PlaceNo(p), c) {
+            return true;
+        }
+    }
+    false
+}
+
+/// Whether a container stands somewhere exactly where it is aboard after the call.
+fn aboard_at(ship: &Ship, cargo: &Cargo, plan: &Plan, call: CallNo, c: ContainerNo) -> bool
+    requires each_place { length plan.now ≡ length (places ship.now) }
+    requires inside { c < length cargo.now.containers }
+    ensures { IsTrue result ↔ AboardAt cargo.now call plan.now c }
+{
+    is_somewhere(ship, plan, c) == is_aboard(cargo.container(c), call)
+}
+
+/// Whether a plan holds exactly the containers that are aboard after the call.
+pub fn holds_aboard(ship: &Ship, cargo: &Cargo, plan: &Plan, call: CallNo) -> bool
+    requires { length plan.now ≡ length (places ship.now) }
+    ensures { IsTrue result ↔ HoldsAboard cargo.now call plan.now }
+{
+    for c in 0..cargo.len() {
+        if !aboard_at(ship, cargo, plan, call, ContainerNo(c)) {
+            return false;
+        }
+    }
+    true
+}
+
+/// Whether a plan is well formed, holds exactly what is aboard after the call, and meets the first three rules.
+pub fn is_stowed(ship: &Ship, cargo: &Cargo, plan: &Plan, call: CallNo) -> bool
+    requires { length plan.now ≡ length (places ship.now) }
+    ensures { IsTrue result ↔ IsStowed ship.now cargo.now call plan.now }
+{
+    if !is_well_formed(ship, cargo, plan) || !holds_aboard(ship, cargo, plan, call) {
+        return false;
+    }
+    if !is_supported(ship, plan) || !is_twenty_on_twenty(ship, cargo, plan) {
+        return false;
+    }
+    is_plugged(ship, cargo, plan)
+}
+
+/// Whether a plan is a legal departure of the call.
+pub fn is_departure(ship: &Ship, cargo: &Cargo, plan: &Plan, call: CallNo) -> bool
+    requires { length plan.now ≡ length (places ship.now) }
+    ensures { IsTrue result ↔ IsDeparture ship.now cargo.now call plan.now }
+{
+    if !is_stowed(ship, cargo, plan, call) || !is_within_limits(ship, cargo, plan) {
+        return false;
+    }
+    match broken_separation(ship, cargo, plan) {
+        Some(_) => false,
+        None => true,
+    }
+}

@@ -1,0 +1,4 @@
+pub mod Bearers
+pub mod MovesHold
+pub mod RunsHold
+pub mod Rows

@@ -1,0 +1,15 @@
+use Rattle.std.proofs.Common.{arith, ap, sym, ◌∙◌, length, get_or, List, [], suc}
+use Rattle.stow_data.specs.Plans.{Plan}
+use Rattle.voyage_meaning.proofs.crane.+count_voyage.Goals as goal
+
+pub count_voyage-requires : goal.count_voyage-requires
+count_voyage-requires t c =
+    let both = c.in-Some-Some.ensures'.cases in
+    let shorter = both.1 in
+    let falls = c.decreases in (
+      omega (arith, shorter, falls),
+      (
+        sym (ap (λ (ds : List Plan). length (get_or ds 0 [])) both.0) ∙ c.requires.each 0 [] (omega (arith, shorter)),
+        λ k d l. sym (ap (λ (ds : List Plan). length (get_or ds (suc k) d)) both.0) ∙ c.requires.each (suc k) d (omega (arith, shorter)),
+      ),
+    )

@@ -1,5 +1,0 @@
-use Rattle.voyage_specs.proofs.RunsHold.{RunsTo}
-use Rattle.voyage_specs.proofs.crane.run.Given as goal
-
-abbrev pub invariant-loop-i : goal.invariant-loop-i
-invariant-loop-i l = RunsTo l.ship l.cargo l.call l.initial.state l.moves l.i l.state l.count

@@ -1,5 +1,0 @@
-use Rattle.voyage_specs.proofs.SampleRules.{cargo_rules}
-use Rattle.voyage_specs.proofs.tests.small_cargo.Goals as goal
-
-pub new-requires : goal.new-requires
-new-requires c = rw (c.in_ok-rotation.ensures, c.in_ok-containers.ensures) (cargo_rules _)
