@@ -10,8 +10,10 @@ use Rattle.stow_data.specs.declared.geometry.Length.{Length}
 use Rattle.stow_data.specs.declared.geometry.Length.TheVariants.{Twenty, Forty}
 use Rattle.stow_data.specs.declared.cargoes.Container.{Container}
 use Rattle.stow_data.specs.declared.kind_list.Kind.{Kind}
-use Rattle.stow_data.specs.Kinds.{kind_of, same_length, same_flag, alike, with_kind, kinds_after, kinds_of, number_in, kind_number, loads_in, KindTable, AreKinds}
+use Rattle.stow_data.specs.Kinds.{kind_of, same_flag, alike, kinds_of, number_in, kind_number, loads_in, KindTable, AreKinds}
+use Rattle.stow_data.specs.Ship.{same_length}
 use Rattle.stow_data.specs.Shipment.{Cargo, IsCargo, IsShipped}
+use Rattle.stow_data.proofs.KindJoins.{with_kind, kinds_after, kinds_more, kinds_joined, alike_equiv}
 
 -- where none is alike, a kind is new
 pub joins_new : (ks : List Kind) (k : Kind) → length ks ≤ number_in ks k → with_kind ks k ≡ ks ++ k ∷ []
@@ -31,28 +33,9 @@ joins_old (y ∷ ys) k x h = go (alike y k) h (λ h. joins_old ys k x h)
     go true h later = ap (λ (z : Kind). record z { first = min z.first k.first } ∷ ys) (same_Some y x h)
     go false h later = ap (λ (zs : List Kind). y ∷ zs) (later h)
 
-same_bytes : (xs : List ℕ) → pointwise nat_eq xs xs ≡ true
-same_bytes [] = refl
-same_bytes (x ∷ xs) = and_from (nat_eq x x) (pointwise nat_eq xs xs) (eq-eqb x x refl) (same_bytes xs)
-
-same_class : (c : Option (List ℕ)) → option_eq (pointwise nat_eq) c c ≡ true
-same_class None = refl
-same_class (Some xs) = same_bytes xs
-
-same_long : (l : Length) → same_length l l ≡ true
-same_long Twenty = refl
-same_long Forty = refl
-
-same_bit : (b : Bool) → same_flag b b ≡ true
-same_bit true = refl
-same_bit false = refl
-
-alike_self : (k : Kind) → alike k k ≡ true
-alike_self k = and_from _ _ (eq-eqb k.dest k.dest refl) (and_from _ _ (same_long k.long) (and_from _ _ (same_bit k.reefer) (and_from _ _ (same_class k.class) (eq-eqb k.kg k.kg refl))))
-
 -- a kind that has joined is there
 joined : (ks : List Kind) (k : Kind) → number_in (with_kind ks k) k < length (with_kind ks k)
-joined [] k = subst (λ (b : Bool). cond b 0 1 < 1) (sym (alike_self k)) (let q : 0 < 1 = omega arith in q)
+joined [] k = subst (λ (b : Bool). cond b 0 1 < 1) (sym (alike_equiv.refl k)) (let q : 0 < 1 = omega arith in q)
 joined (x ∷ xs) k = go (alike x k) refl (joined xs k)
   where
     go : (b : Bool) → alike x k ≡ b → number_in (with_kind xs k) k < length (with_kind xs k) → number_in (cond b (record x { first = min x.first k.first } ∷ xs) (x ∷ with_kind xs k)) k < length (cond b (record x { first = min x.first k.first } ∷ xs) (x ∷ with_kind xs k))
@@ -80,7 +63,7 @@ kind_found step ks (x ∷ xs) (suc i) c h = kind_found step (with_kind ks (kind_
 
 -- each container is of one of the kinds
 pub kind_in : (step : ℕ) (cs : List Container) (i : ℕ) (c : Container) → slice_get cs i ≡ Some c → kind_number step cs c < length (kinds_of step cs)
-kind_in step cs i c h = kind_found step [] cs i c h
+kind_in step cs i c h = subst (λ (ks : List Kind). number_in ks (kind_of step c) < length ks) (kinds_joined step cs) (kind_found step [] cs i c h)
 
 all_map : {X Y : Type 0} (P : Y → Type 0) (f : X → Y) (cs : List X) → ((i : ℕ) (c : X) → slice_get cs i ≡ Some c → P (f c)) → (k : ℕ) (d : Y) → k < length (map f cs) → P (slice_index_or (map f cs) k d)
 all_map P f [] h k d l = absurd (omega arith)
@@ -104,7 +87,11 @@ few_after step ks [] = omega arith
 few_after step ks (c ∷ cs) = let r = few_after step (with_kind ks (kind_of step c)) cs in let s = join_few ks (kind_of step c) in omega (arith, r, s)
 
 pub kinds_few : (step : ℕ) (cs : List Container) → length (kinds_of step cs) ≤ length cs
-kinds_few step cs = let r = few_after step [] cs in omega (arith, r)
+kinds_few step cs = let r = few_after step [] cs in let e = ap length (kinds_joined step cs) in omega (arith, r, e)
+
+-- a list that a container's kind has joined
+pub joined_more : (step : ℕ) (cs : List Container) (c : Container) (list : List Kind) (shown : Kind) → list ≡ kinds_of step cs → shown ≡ kind_of step c → with_kind list shown ≡ kinds_of step (cs ++ c ∷ [])
+joined_more step cs c list shown e f = ap (λ (ks : List Kind). with_kind ks shown) e ∙ ap (with_kind (kinds_of step cs)) f ∙ sym (kinds_more step cs c)
 
 -- the counts of one container more
 pub loads_more : (i g : ℕ) (cs : List Container) (ks : List ℕ) (c : Container) (k : ℕ) → length cs ≡ length ks → loads_in i (cs ++ c ∷ []) (ks ++ k ∷ []) g ≡ loads_in i cs ks g + cond ((c.load == i) && (k == g)) 1 0

@@ -1,10 +1,14 @@
 pub mod Members
+pub mod Fitting
 pub mod Distinct
 pub mod Listed
 pub mod Made
 pub mod InOrder
 pub mod CellLemmas
 pub mod CoverLemmas
+pub mod OneCover
 pub mod SampleLemmas
+pub mod Firsts
+pub mod KindJoins
 pub mod KindLemmas
 pub mod PlanLookups

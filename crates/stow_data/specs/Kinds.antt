@@ -1,11 +1,10 @@
 -- Kinds of containers: those that are alike, and how many of a kind load at a call.
-use Rattle.std.specs.Prelude.{◌≡◌, ℕ, suc, ◌+◌, ◌-◌, ◌*◌, ◌/◌, ◌<◌, min, Bool, true, false, not, List, [], ◌∷◌, length, map, cond, ◌==◌, ◌&&◌, slice_index, slice_index_or, nat_eq}
+use Rattle.std.specs.Prelude.{◌≡◌, ℕ, suc, ◌+◌, ◌-◌, ◌*◌, ◌/◌, ◌<◌, min, Bool, true, false, not, List, [], ◌∷◌, length, map, filter, cond, ◌==◌, ◌&&◌, slice_index, slice_index_or, nat_eq}
 use Rattle.std.specs.Option.{option_eq}
 use Rattle.std.specs.Cmp.Lexicographic.{pointwise}
-use Rattle.stow_data.specs.declared.geometry.Length.{Length}
-use Rattle.stow_data.specs.declared.geometry.Length.TheVariants.{Twenty, Forty}
 use Rattle.stow_data.specs.declared.cargoes.Container.{Container}
 use Rattle.stow_data.specs.declared.kind_list.Kind.{Kind}
+use Rattle.stow_data.specs.Ship.{same_length}
 
 -- a weight rounded up to the ship's step
 abbrev pub rounded : ℕ → ℕ → ℕ
@@ -15,12 +14,6 @@ rounded step kg = step * ((kg + step - 1) / step)
 abbrev pub kind_of : ℕ → Container → Kind
 kind_of step c = record { dest = c.dest; long = c.long; reefer = c.reefer; class = c.class; kg = rounded step c.kg; first = c.load }
 
-abbrev pub same_length : Length → Length → Bool
-same_length Twenty Twenty = true
-same_length Forty Forty = true
-same_length Twenty Forty = false
-same_length Forty Twenty = false
-
 abbrev pub same_flag : Bool → Bool → Bool
 same_flag true b = b
 same_flag false b = not b
@@ -29,18 +22,27 @@ same_flag false b = not b
 abbrev pub alike : Kind → Kind → Bool
 alike a b = (a.dest == b.dest) && (same_length a.long b.long && (same_flag a.reefer b.reefer && (option_eq (pointwise nat_eq) a.class b.class && (a.kg == b.kg))))
 
--- a container joins the kind that is alike, which then begins at the lesser call, or is a new kind at the end
-abbrev pub with_kind : List Kind → Kind → List Kind
-with_kind [] k = k ∷ []
-with_kind (x ∷ xs) k = cond (alike x k) (record x { first = min x.first k.first } ∷ xs) (x ∷ with_kind xs k)
+-- two containers are of one kind
+abbrev pub of_one_kind : ℕ → Container → Container → Bool
+of_one_kind step c d = alike (kind_of step c) (kind_of step d)
 
-abbrev pub kinds_after : ℕ → List Kind → List Container → List Kind
-kinds_after step ks [] = ks
-kinds_after step ks (c ∷ cs) = kinds_after step (with_kind ks (kind_of step c)) cs
+-- the items that are like none before them, in their order
+abbrev pub first_ones : {X : Type 0} → (X → X → Bool) → List X → List X
+first_ones like [] = []
+first_ones like (x ∷ xs) = x ∷ filter (λ y. not (like x y)) (first_ones like xs)
 
--- the kinds of the containers, in the order in which a container of the kind first stands in the cargo
+-- the least of a call and the calls at which the containers load
+abbrev pub least_load : ℕ → List Container → ℕ
+least_load call [] = call
+least_load call (c ∷ cs) = least_load (min call c.load) cs
+
+-- the kind of a container: what it shows, and the least load of those of its kind
+abbrev pub kind_among : ℕ → List Container → Container → Kind
+kind_among step containers c = record (kind_of step c) { first = least_load c.load (filter (of_one_kind step c) containers) }
+
+-- the kinds of the containers: one for each container that is of the kind of none before it, in the order of these
 abbrev pub kinds_of : ℕ → List Container → List Kind
-kinds_of step containers = kinds_after step [] containers
+kinds_of step containers = map (kind_among step containers) (first_ones (of_one_kind step) containers)
 
 -- the number of the kind that is alike
 abbrev pub number_in : List Kind → Kind → ℕ

@@ -1,5 +1,5 @@
 -- A ship: stacks, half-cells, places, columns and covers (ISO 9711).
-use Rattle.std.specs.Prelude.{◌≡◌, ℕ, ◌+◌, ◌-◌, ◌*◌, Bool, true, false, List, [], ◌∷◌, Some, slice_get, slice_index_or, flat_map, map, Contains, IsTrue}
+use Rattle.std.specs.Prelude.{◌≡◌, ℕ, ◌+◌, ◌-◌, ◌*◌, Bool, true, false, not, ◌&&◌, ◌||◌, List, [], ◌∷◌, Some, slice_get, slice_index_or, flat_map, map, Contains, IsTrue}
 use Rattle.std.specs.List.{enumerate_from, range_with_len}
 use Rattle.stow_data.specs.declared.geometry.Stack.{Stack}
 use Rattle.stow_data.specs.declared.geometry.Cover.{Cover}
@@ -92,15 +92,33 @@ pub record IsAbove (ship : Ship) (u h : ℕ) : Type 0 where
   pub is_lower : slice_get (halves ship) h ≡ Some lower
   pub directly : IsDirectlyAbove upper lower
 
--- a container of this length, a reefer or not, fits the place
-abbrev pub HasLength : Span → Length → Type 0
-HasLength Both long = long ≡ length_of.Forty
-HasLength Fore long = long ≡ length_of.Twenty
-HasLength Aft long = long ≡ length_of.Twenty
+-- the length of what stands in a span: 40 foot in both half-cells of a cell, 20 foot in one of them
+abbrev pub length_in : Span → Length
+length_in Both = length_of.Forty
+length_in Fore = length_of.Twenty
+length_in Aft = length_of.Twenty
 
+abbrev pub HasLength : Span → Length → Type 0
+HasLength span long = long ≡ length_in span
+
+-- the place takes containers of this length
+abbrev pub Takes : Place → Length → Type 0
+Takes p long = HasLength p.span long
+
+-- a container of this length, a reefer or not, fits the place
 pub record Fits (p : Place) (long : Length) (reefer : Bool) : Type 0 where
-  pub length_fits : HasLength p.span long
+  pub length_fits : Takes p long
   pub has_plug : IsTrue reefer → IsTrue p.plug
+
+-- the same as a truth value
+abbrev pub same_length : Length → Length → Bool
+same_length length_of.Twenty length_of.Twenty = true
+same_length length_of.Forty length_of.Forty = true
+same_length length_of.Twenty length_of.Forty = false
+same_length length_of.Forty length_of.Twenty = false
+
+abbrev pub fits : Place → Length → Bool → Bool
+fits p long reefer = same_length long (length_in p.span) && (not reefer || p.plug)
 
 -- stack s lies under cover k, or stands on it
 pub record LiesUnder (ship : Ship) (s k : ℕ) : Type 0 where

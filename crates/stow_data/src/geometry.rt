@@ -1,4 +1,7 @@
 //! The parts of a ship: lengths, half-cells, places, stacks, hatch covers and separations (ISO 9711).
+ghost use Rattle.std.specs.Prelude.{◌↔◌, IsTrue};
+ghost use Rattle.stow_data.specs.Ship.{Takes};
+
 use crate::list::{FlagList, Seq};
 use crate::names::Name;
 use crate::numbers::StackNo;
@@ -44,6 +47,18 @@ pub struct Place {
     pub span: Span,
     /// Whether it has a reefer plug.
     pub plug: bool,
+}
+
+impl Place {
+    /// Whether it takes containers of this length.
+    pub fn takes(self, long: Length) -> bool
+        ensures { IsTrue result ↔ Takes self long }
+    {
+        match self.span {
+            Span::Both => long == Length::Forty,
+            Span::Fore | Span::Aft => long == Length::Twenty,
+        }
+    }
 }
 
 /// A stack: the cells of one bay and row, in the hold or on deck.

@@ -1,8 +1,10 @@
 //! Sorting the containers of a cargo by kind.
-ghost use Rattle.std.specs.Prelude.{◌≡◌, ℕ, ◌+◌, ◌-◌, ◌*◌, ◌/◌, ◌<◌, ◌≤◌, ◌^◌, ◌&&◌, ◌==◌, [], nat_eq, min, All, IfOk, OnOk, length, map, slice_index, slice_index_or};
+ghost use Rattle.std.specs.Prelude.{◌≡◌, ℕ, List, ◌∷◌, ◌++◌, ◌+◌, ◌-◌, ◌*◌, ◌/◌, ◌<◌, ◌≤◌, ◌^◌, ◌&&◌, ◌==◌, [], nat_eq, min, All, IfOk, OnOk, length, map, slice_index, slice_index_or};
 ghost use Rattle.std.specs.Option.{option_eq};
 ghost use Rattle.std.specs.Cmp.Lexicographic.{pointwise};
-ghost use Rattle.stow_data.specs.Kinds.{rounded, kind_of, kinds_of, kind_number, same_length, alike, number_in, with_kind, loads_in, AreKinds};
+ghost use Rattle.stow_data.specs.Kinds.{kind_of, kinds_of, kind_number, alike, number_in, loads_in, AreKinds};
+ghost use Rattle.stow_data.specs.declared.cargoes.Container.{Container};
+ghost use Rattle.stow_data.specs.Ship.{same_length};
 ghost use Rattle.stow_data.specs.Shipment.{IsCargo};
 
 use crate::cargoes::{Cargo, Container};
@@ -14,38 +16,17 @@ use crate::numbers::{CallNo, ContainerNo, KindNo};
 use crate::ships::Ship;
 use std::alloc::Global;
 
-/// A weight rounded up to a step.
-fn rounded_up(step: u32, kg: u32) -> u32
-    requires from { 1 ≤ step }
-    requires to { step ≤ 10000 }
-    requires kg_to { kg ≤ 99999 }
-    ensures { result ≡ rounded step kg }
-{
-    step * ((kg + step - 1) / step)
-}
-
-fn copy_class(class: &Option<Name>) -> Option<Name>
-    ensures { result ≡ class.now }
-{
-    match class {
-        Some(name) => Some(name.copy()),
-        None => None,
-    }
-}
-
 /// What a container shows of its kind.
-fn shown_by(step: u32, container: &Container) -> Kind
-    requires from { 1 ≤ step }
-    requires to { step ≤ 10000 }
-    requires kg_to { container.now.kg ≤ 99999 }
-    ensures { result ≡ kind_of step container.now }
+fn shown_by(ship: &Ship, container: &Container) -> Kind
+    requires { container.now.kg ≤ 99999 }
+    ensures { result ≡ kind_of ship.now.weight_step container.now }
 {
     Kind {
         dest: container.dest,
         long: container.long,
         reefer: container.reefer,
-        class: copy_class(&container.class),
-        kg: rounded_up(step, container.kg),
+        class: Name::copied(&container.class),
+        kg: ship.rounded(container.kg),
         first: container.load,
     }
 }
@@ -105,15 +86,15 @@ fn begun_by(kind: &Kind, call: CallNo) -> Kind
         dest: kind.dest,
         long: kind.long,
         reefer: kind.reefer,
-        class: copy_class(&kind.class),
+        class: Name::copied(&kind.class),
         kg: kind.kg,
         first,
     }
 }
 
-/// Adds what a container shows to the kinds so far.
+/// Adds what a container shows to the kinds of those before it.
 fn join(list: &mut Seq<Kind>, shown: Kind) -> Result<(), NoMemory>
-    ensures { OnOk result (list.new ≡ with_kind list.old shown) }
+    ensures { (step : ℕ) (cs : List Container) (c : Container) → list.old ≡ kinds_of step cs → shown ≡ kind_of step c → OnOk result (list.new ≡ kinds_of step (cs ++ c ∷ [])) }
 {
     let number = position_of(list.as_slice(), &shown);
     if number >= list.len() {
@@ -125,15 +106,13 @@ fn join(list: &mut Seq<Kind>, shown: Kind) -> Result<(), NoMemory>
 }
 
 /// The kinds of these containers.
-fn list_of(alloc: Global, step: u32, containers: &[Container]) -> Result<Seq<Kind>, NoMemory>
-    requires from { 1 ≤ step }
-    requires to { step ≤ 10000 }
-    requires kg_to { All (λ c. c.kg ≤ 99999) containers.now }
-    ensures { IfOk result (λ list. list ≡ kinds_of step containers.now) }
+fn list_of(alloc: Global, ship: &Ship, containers: &[Container]) -> Result<Seq<Kind>, NoMemory>
+    requires { All (λ c. c.kg ≤ 99999) containers.now }
+    ensures { IfOk result (λ list. list ≡ kinds_of ship.now.weight_step containers.now) }
 {
     let mut list = Seq::new(alloc);
     for container in containers {
-        join(&mut list, shown_by(step, container))?;
+        join(&mut list, shown_by(ship, container))?;
     }
     Ok(list)
 }
@@ -141,18 +120,16 @@ fn list_of(alloc: Global, step: u32, containers: &[Container]) -> Result<Seq<Kin
 /// For each container the number of its kind.
 fn each_of(
     alloc: Global,
-    step: u32,
+    ship: &Ship,
     containers: &[Container],
     list: &[Kind],
 ) -> Result<Seq<KindNo>, NoMemory>
-    requires from { 1 ≤ step }
-    requires to { step ≤ 10000 }
-    requires kg_to { All (λ c. c.kg ≤ 99999) containers.now }
-    ensures { IfOk result (λ each. each ≡ map (λ c. number_in list.now (kind_of step c)) containers.now) }
+    requires { All (λ c. c.kg ≤ 99999) containers.now }
+    ensures { IfOk result (λ each. each ≡ map (λ c. number_in list.now (kind_of ship.now.weight_step c)) containers.now) }
 {
     let mut each = Seq::new(alloc);
     for container in containers {
-        let number = position_of(list, &shown_by(step, container));
+        let number = position_of(list, &shown_by(ship, container));
         each.push(KindNo(u32::try_from(number).map_err(|_| NoMemory)?))?;
     }
     Ok(each)
@@ -210,12 +187,10 @@ fn rows_of(
 pub fn kinds(alloc: Global, ship: &Ship, cargo: &Cargo) -> Result<Kinds, NoMemory>
     ensures { IfOk result (λ k. AreKinds ship.now.weight_step cargo.now.containers k) }
 {
-    let _places = ship.places();
     let calls = cargo.calls();
-    let step = ship.weight_step();
     let containers = cargo.containers();
-    let list = list_of(alloc, step, containers)?;
-    let each = each_of(alloc, step, containers, list.as_slice())?;
+    let list = list_of(alloc, ship, containers)?;
+    let each = each_of(alloc, ship, containers, list.as_slice())?;
     let loads = rows_of(alloc, calls, containers, each.as_slice(), list.len())?;
     Ok(Kinds { list, each, loads })
 }

@@ -1,8 +1,12 @@
-//! Small lists, and what stands for want of memory.
-ghost use Rattle.std.specs.Prelude.{◌≡◌, ◌<◌, [], ◌∷◌, ◌++◌, length, replicate, is_ok, IfOk, if◌then◌else◌, slice_index_or, slice_get, slice_set, Some, IsTrue, ◌↔◌};
+//! Lists, and what stands for want of memory.
+ghost use Rattle.std.specs.Prelude.{◌≡◌, ◌<◌, ◌^◌, [], ◌∷◌, ◌++◌, length, replicate, is_ok, IfOk, if◌then◌else◌, slice_get, slice_set, Some, IsTrue, ◌↔◌};
+ghost use Rattle.std.specs.Slice.Iter.{iter_rest, iter_steps};
+ghost use Rattle.std.specs.Iterator.Runs.{EveryRun, ItemsMapTo};
 
 use std::alloc::{AllocError, AllocFailed, Global};
 use std::marker::Model;
+use std::ops::DerefSlice;
+use std::slice;
 
 /// Want of memory: the one answer that any allocating call may give.
 #[derive(Clone, Copy, Debug, PartialEq, Eq)]
@@ -72,6 +76,44 @@ impl<T> Seq<T> {
     {
         self.items.as_slice()
     }
+
+    /// The items, given out.
+    pub fn into_items(self) -> Vec<T>
+        ensures { result.items ≡ self }
+    {
+        self.items
+    }
+
+    /// Gives unused room back. The items stay.
+    pub fn fit(&mut self)
+        ensures { self.new ≡ self.old }
+    {
+        self.items.shrink_to_fit();
+    }
+}
+
+/// A list acts as the slice of its items: it has `iter`, `contains`, `first`, an index in brackets and the like.
+impl<T> DerefSlice for Seq<T> {
+    type Elem = T;
+
+    ghost deref_gives = { λ s xs. xs ≡ s };
+
+    fn deref(&self) -> &[T] {
+        self.as_slice()
+    }
+}
+
+impl<'a, T> IntoIterator for &'a Seq<T> {
+    type Item = &'a T;
+
+    type IntoIter = slice::Iter<'a, T>;
+
+    ghost into_iter_gives = { λ s it. (iter_rest it ≡ s.now) × (length (iter_rest it) < 2 ^ 64)
+        × EveryRun (iter_steps {A = T}) (λ p. ItemsMapTo p (λ x. x.now) (iter_rest p.from)) };
+
+    fn into_iter(self) -> slice::Iter<'a, T> {
+        self.as_slice().iter()
+    }
 }
 
 impl<T: Drop> Seq<T> {
@@ -108,11 +150,33 @@ impl<T: Copy> Seq<T> {
     pub fn copy(&self, alloc: Global) -> Result<Self, NoMemory>
         ensures { IfOk result (λ s. s ≡ self.now) }
     {
-        let mut items = Vec::new(alloc);
-        for item in &self.items {
-            items.push(*item)?;
-        }
-        Ok(Seq { items })
+        Seq::of(alloc, self.items.as_slice())
+    }
+
+    /// A list of these items.
+    pub fn of(alloc: Global, items: &[T]) -> Result<Self, NoMemory>
+        ensures { IfOk result (λ s. s ≡ items.now) }
+    {
+        Ok(Seq {
+            items: Vec::from_slice(alloc, items)?,
+        })
+    }
+
+    /// The empty list, with room for so many items.
+    pub fn with_room(alloc: Global, room: usize) -> Result<Self, NoMemory>
+        ensures { IfOk result (λ s. s ≡ []) }
+    {
+        Ok(Seq {
+            items: Vec::with_capacity(alloc, room)?,
+        })
+    }
+
+    /// Appends items. The list stays as it was where memory is wanting.
+    pub fn extend(&mut self, items: &[T]) -> Result<(), NoMemory>
+        ensures { self.new ≡ (if is_ok result then self.old ++ items.now else self.old) }
+    {
+        self.items.extend_from_slice(items)?;
+        Ok(())
     }
 }
 
@@ -124,31 +188,3 @@ pub type NumberList = Seq<u32>;
 
 /// A list of truth values.
 pub type FlagList = Seq<bool>;
-
-impl Seq<u8> {
-    /// A list of these bytes.
-    pub fn of(alloc: Global, bytes: &[u8]) -> Result<Self, NoMemory>
-        ensures { IfOk result (λ s. s ≡ bytes.now) }
-    {
-        Ok(Seq {
-            items: bytes.to_vec(alloc)?,
-        })
-    }
-
-    /// The empty list, with room for so many bytes.
-    pub fn with_room(alloc: Global, room: usize) -> Result<Self, NoMemory>
-        ensures { IfOk result (λ s. s ≡ []) }
-    {
-        Ok(Seq {
-            items: Vec::with_capacity(alloc, room)?,
-        })
-    }
-
-    /// Appends bytes. The list stays as it was where memory is wanting.
-    pub fn extend(&mut self, bytes: &[u8]) -> Result<(), NoMemory>
-        ensures { self.new ≡ (if is_ok result then self.old ++ bytes.now else self.old) }
-    {
-        self.items.extend_from_slice(bytes)?;
-        Ok(())
-    }
-}

@@ -48,6 +48,13 @@ impl Name {
     {
         Name::of(self.bytes())
     }
+
+    /// A copy of a name that may be missing, as of a class of dangerous goods.
+    pub fn copied(name: &Option<Name>) -> Option<Name>
+        ensures { result ≡ name.now }
+    {
+        name.as_ref().map(|name| name.copy())
+    }
 }
 
 /// A list of names.

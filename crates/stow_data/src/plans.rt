@@ -32,6 +32,13 @@ impl Plan {
         })
     }
 
+    /// The number of places.
+    pub fn len(&self) -> usize
+        ensures { result ≡ length self.now }
+    {
+        self.places.len()
+    }
+
     /// What stands at a place.
     pub fn at(&self, p: PlaceNo) -> Option<ContainerNo>
         requires { p < length self.now }

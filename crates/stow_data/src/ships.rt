@@ -1,9 +1,10 @@
 //! The ship, with its places and half-cells in tables.
 ghost use Rattle.std.specs.Prelude.{◌≡◌, ◌<◌, ◌≤◌, ◌↔◌, ℕ, IfOk, IsTrue, MatchOption, Some, length, slice_get};
+ghost use Rattle.stow_data.specs.Kinds.{rounded};
 
 use crate::cells::{CellNumber, cell_table, number_on};
 use crate::geometry::{
-    Cover, CoverList, Half, Length, Place, Separation, SeparationList, Span, Stack, Stacks,
+    Cover, CoverList, Half, Length, Place, Separation, SeparationList, Stack, Stacks,
 };
 use crate::hatches::{Naming, cover_table};
 use crate::list::{NoMemory, Seq};
@@ -89,6 +90,23 @@ impl Ship {
         ensures { result ≡ self.now.weight_step }
     {
         self.weight_step
+    }
+
+    /// A weight in kilograms, rounded up to the ship's step.
+    pub fn rounded(&self, kg: u32) -> u32
+        requires { kg ≤ 99999 }
+        ensures value { result ≡ rounded self.now.weight_step kg }
+        ensures small { result ≤ 110000 }
+    {
+        let step = self.weight_step;
+        (kg + step - 1) / step * step
+    }
+
+    /// The ship obeys the rules of a profile: a law, which costs nothing when it runs.
+    pub fn obeys_rules(&self)
+        ensures { IsShip self.now }
+    {
+        let _opened = &self.name;
     }
 
     /// The number of stacks.
@@ -190,7 +208,8 @@ impl Ship {
     /// The half-cell directly above; None exactly where the column has no such tier.
     pub fn above(&self, h: HalfNo) -> Option<HalfNo>
         requires { h < length (halves self.now) }
-        ensures { MatchOption result ((u : ℕ) → IsAbove self.now u h → ⊥) (λ u. IsAbove self.now u h) }
+        ensures is { MatchOption result ((u : ℕ) → IsAbove self.now u h → ⊥) (λ u. IsAbove self.now u h) }
+        ensures back { (u : ℕ) → IsAbove self.now u h → result ≡ Some u }
     {
         let _halves = self.halves();
         let half = self.half(h);
@@ -205,7 +224,8 @@ impl Ship {
     /// The half-cell directly below; None exactly where the column has no such tier.
     pub fn below(&self, h: HalfNo) -> Option<HalfNo>
         requires { h < length (halves self.now) }
-        ensures { MatchOption result ((b : ℕ) → IsAbove self.now h b → ⊥) (λ b. IsAbove self.now h b) }
+        ensures is { MatchOption result ((b : ℕ) → IsAbove self.now h b → ⊥) (λ b. IsAbove self.now h b) }
+        ensures back { (b : ℕ) → IsAbove self.now h b → result ≡ Some b }
     {
         let half = self.half(h);
         if half.tier == 0 {
@@ -217,7 +237,8 @@ impl Ship {
 
     /// The hatch cover over a stack; None exactly where the stack lies under none.
     pub fn cover_over(&self, s: StackNo) -> Option<CoverNo>
-        ensures { MatchOption result ((k : ℕ) → LiesUnder self.now s k → ⊥) (λ k. LiesUnder self.now s k) }
+        ensures is { MatchOption result ((k : ℕ) → LiesUnder self.now s k → ⊥) (λ k. LiesUnder self.now s k) }
+        ensures back { (k : ℕ) → LiesUnder self.now s k → result ≡ Some k }
     {
         let stack = s.0 as usize;
         if stack >= self.over_table.len() {
@@ -228,7 +249,8 @@ impl Ship {
 
     /// The hatch cover under a stack; None exactly where the stack stands on none.
     pub fn cover_under(&self, s: StackNo) -> Option<CoverNo>
-        ensures { MatchOption result ((k : ℕ) → StandsOn self.now s k → ⊥) (λ k. StandsOn self.now s k) }
+        ensures is { MatchOption result ((k : ℕ) → StandsOn self.now s k → ⊥) (λ k. StandsOn self.now s k) }
+        ensures back { (k : ℕ) → StandsOn self.now s k → result ≡ Some k }
     {
         let stack = s.0 as usize;
         if stack >= self.under_table.len() {
@@ -243,10 +265,7 @@ impl Ship {
         ensures { IsTrue result ↔ FitsAt self.now p long reefer }
     {
         let place = self.place(p);
-        let length_fits = match place.span {
-            Span::Both => long == Length::Forty,
-            Span::Fore | Span::Aft => long == Length::Twenty,
-        };
+        let length_fits = place.takes(long);
         length_fits && (!reefer || place.plug)
     }
 }
