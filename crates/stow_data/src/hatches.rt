@@ -50,11 +50,7 @@ pub fn cover_table(
     let mut table = Seq::filled(alloc, None, stacks)?;
     let mut number: u32 = 0;
     for cover in covers {
-        enter(
-            &mut table,
-            stacks_of(cover, naming).as_slice(),
-            CoverNo(number),
-        );
+        enter(&mut table, stacks_of(cover, naming), CoverNo(number));
         number = number.checked_add(1).ok_or(NoMemory)?;
     }
     Ok(table)

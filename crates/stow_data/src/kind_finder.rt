@@ -8,7 +8,6 @@ ghost use Rattle.stow_data.specs.Ship.{same_length};
 ghost use Rattle.stow_data.specs.Shipment.{IsCargo};
 
 use crate::cargoes::{Cargo, Container};
-use crate::geometry::Length;
 use crate::kind_list::{Kind, Kinds};
 use crate::list::{NoMemory, NumberList, Seq};
 use crate::names::Name;
@@ -31,33 +30,14 @@ fn shown_by(ship: &Ship, container: &Container) -> Kind
     }
 }
 
-fn is_same_length(a: Length, b: Length) -> bool
-    ensures { result ≡ same_length a b }
-{
-    match (a, b) {
-        (Length::Twenty, Length::Twenty) | (Length::Forty, Length::Forty) => true,
-        _ => false,
-    }
-}
-
-fn is_same_class(a: &Option<Name>, b: &Option<Name>) -> bool
-    ensures { result ≡ option_eq (pointwise nat_eq) a.now b.now }
-{
-    match (a, b) {
-        (None, None) => true,
-        (Some(a), Some(b)) => a.bytes() == b.bytes(),
-        _ => false,
-    }
-}
-
 /// Whether containers of the two are of one kind.
 fn is_alike(a: &Kind, b: &Kind) -> bool
     ensures { result ≡ alike a.now b.now }
 {
     a.dest.0 == b.dest.0
-        && is_same_length(a.long, b.long)
+        && a.long == b.long
         && a.reefer == b.reefer
-        && is_same_class(&a.class, &b.class)
+        && a.class == b.class
         && a.kg == b.kg
 }
 
@@ -96,7 +76,7 @@ fn begun_by(kind: &Kind, call: CallNo) -> Kind
 fn join(list: &mut Seq<Kind>, shown: Kind) -> Result<(), NoMemory>
     ensures { (step : ℕ) (cs : List Container) (c : Container) → list.old ≡ kinds_of step cs → shown ≡ kind_of step c → OnOk result (list.new ≡ kinds_of step (cs ++ c ∷ [])) }
 {
-    let number = position_of(list.as_slice(), &shown);
+    let number = position_of(list, &shown);
     if number >= list.len() {
         return list.push(shown);
     }
@@ -190,7 +170,7 @@ pub fn kinds(alloc: Global, ship: &Ship, cargo: &Cargo) -> Result<Kinds, NoMemor
     let calls = cargo.calls();
     let containers = cargo.containers();
     let list = list_of(alloc, ship, containers)?;
-    let each = each_of(alloc, ship, containers, list.as_slice())?;
-    let loads = rows_of(alloc, calls, containers, each.as_slice(), list.len())?;
+    let each = each_of(alloc, ship, containers, &list)?;
+    let loads = rows_of(alloc, calls, containers, &each, list.len())?;
     Ok(Kinds { list, each, loads })
 }

@@ -59,11 +59,11 @@ impl Ship {
         requires { IsShip (record { name = name; weight_step = weight_step; stacks = stacks; covers = covers; separations = separations }) }
         ensures { IfOk result (λ ship. ship ≡ record { name = name; weight_step = weight_step; stacks = stacks; covers = covers; separations = separations }) }
     {
-        let place_table = place_table(alloc, stacks.as_slice())?;
-        let half_table = half_table(alloc, stacks.as_slice())?;
-        let over_table = cover_table(alloc, stacks.len(), covers.as_slice(), Naming::Under)?;
-        let under_table = cover_table(alloc, stacks.len(), covers.as_slice(), Naming::On)?;
-        let cell_table = cell_table(alloc, stacks.as_slice(), place_table.as_slice())?;
+        let place_table = place_table(alloc, &stacks)?;
+        let half_table = half_table(alloc, &stacks)?;
+        let over_table = cover_table(alloc, stacks.len(), &covers, Naming::Under)?;
+        let under_table = cover_table(alloc, stacks.len(), &covers, Naming::On)?;
+        let cell_table = cell_table(alloc, &stacks, &place_table)?;
         Ok(Ship {
             name,
             weight_step,
@@ -265,7 +265,7 @@ impl Ship {
         ensures { IsTrue result ↔ FitsAt self.now p long reefer }
     {
         let place = self.place(p);
-        let length_fits = place.takes(long);
-        length_fits && (!reefer || place.plug)
+        let plug = place.plug;
+        place.takes(long) && (!reefer || plug)
     }
 }

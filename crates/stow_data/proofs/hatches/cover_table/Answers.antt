@@ -9,7 +9,7 @@ use Rattle.stow_data.proofs.hatches.cover_table.Goals as goal
 pub loop-cover-preserved : goal.loop-cover-preserved
 loop-cover-preserved c =
     let counted : c.in_ok-number.number ≡ c.loop-cover.number + 1 = grind (arith, c.in_ok-number.ensures) in
-    let named : c.as_slice.result.now ≡ listed c.args.naming c.cover-item.result = c.as_slice.ensures ∙ c.stacks_of.ensures in
+    let named : c.deref.result.now ≡ listed c.args.naming c.cover-item.result = c.deref.ensures ∙ c.stacks_of.ensures in
     let more : take (c.loop-cover.cover-index + 1) c.args.covers.now ≡ take c.loop-cover.cover-index c.args.covers.now ++ c.cover-item.result ∷ [] =
     take_more c.args.covers.now c.loop-cover.cover-index c.cover-item.result c.loop-cover-test.true ∙ ap (λ (z : Cover). take c.loop-cover.cover-index c.args.covers.now ++ z ∷ []) (sym c.cover-item.is) in
     record {
