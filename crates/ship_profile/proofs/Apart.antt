@@ -18,7 +18,7 @@ use Rattle.ship_profile.specs.Stacks.{apart_after, refused_at, shared_bay, has_c
 use Rattle.ship_profile.proofs.Bound.{either, or_left, or_right, and_true}
 use Rattle.ship_profile.proofs.Rising.{front_is}
 
-take_front : {X : Type 0} (xs : List X) (i : ℕ) (x : X) → i < length xs → x ≡ get_or xs i x → take (i + 1) xs ≡ take i xs ++ x ∷ []
+pub take_front : {X : Type 0} (xs : List X) (i : ℕ) (x : X) → i < length xs → x ≡ get_or xs i x → take (i + 1) xs ≡ take i xs ++ x ∷ []
 take_front xs i x lt is = take_more xs i x lt ∙ ap (λ y. take i xs ++ y ∷ []) (sym is)
 
 pub apart_on : (ss : List Stack) (i : ℕ) (s : Stack) (total : Result (Unit {0}) ProfileFault) → i < length ss → s ≡ get_or ss i s → shared_bay (take i ss) s ≡ None → apart_after (take i ss) (drop i ss) ≡ total → apart_after (take (i + 1) ss) (drop (i + 1) ss) ≡ total

@@ -6,6 +6,10 @@ pub mod Apart
 pub mod Pairs
 pub mod Named
 pub mod Classes
+pub mod PairLookups
+pub mod PositionLookups
+pub mod CellLookups
+pub mod StackLookups
 pub mod Counted
 pub mod Made
 pub mod FirstShared

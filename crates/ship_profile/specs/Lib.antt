@@ -4,3 +4,5 @@ pub mod Covers
 pub mod Separations
 pub mod ShipText
 pub mod SharedCells
+pub mod ClassPairs
+pub mod Positions

@@ -1,89 +1,85 @@
 //! Cells that two stacks would share.
-ghost use Rattle.std.specs.Prelude.{◌≡◌, All, Some, None, [], if◌then◌else◌};
-ghost use Rattle.std.specs.List.{list_any};
+ghost use Rattle.std.specs.Prelude.{◌≡◌, ◌==◌, ◌&&◌, ◌||◌, ℕ, All, Some, None, [], find, if◌then◌else◌, OnOk};
+ghost use Rattle.std.specs.BTreeSet.{contains};
 ghost use Rattle.stow_data.specs.Profile.{IsStack};
 ghost use Rattle.ship_profile.specs.Keys.{Gives};
-ghost use Rattle.ship_profile.specs.Stacks.{apart_after, has_cell_of, is_among, odd_bays, same_part, shared_bay};
+ghost use Rattle.ship_profile.specs.Stacks.{apart_after, has_cell_of, odd_bays, same_part};
+ghost use Rattle.ship_profile.specs.Positions.{position_in, position_order};
 
 use crate::faults::ProfileFault;
-use stow_data::{Lengths, Stack};
+use crate::position::{Position, position_in};
+use std::alloc::Global;
+use std::collections::BTreeSet;
+use stow_data::{Lengths, NoMemory, Stack};
 
-/// Whether a stack has half-cells in this odd bay.
-fn has_odd_bay(stack: &Stack, odd: u32) -> bool
-    requires { IsStack stack.now }
-    ensures { result ≡ is_among (odd_bays stack.now) odd }
+/// Enters the half-cells of a stack in one odd bay.
+fn enter_side(cells: &mut BTreeSet<Position>, odd: u32, t: &Stack) -> Result<(), NoMemory>
+    ensures { OnOk result ((s : Stack) (o : ℕ) → contains position_order cells.new (position_in o s) ≡ ((((t.now.row == s.row) && same_part t.now s) && (odd == o)) || contains position_order cells.old (position_in o s))) }
 {
-    match stack.lengths {
-        Lengths::Forty | Lengths::Twenty | Lengths::Mixed => {
-            odd == stack.bay - 1 || odd == stack.bay + 1
-        }
-        Lengths::ForeOnly => odd == stack.bay - 1,
-        Lengths::AftOnly => odd == stack.bay + 1,
-    }
+    cells.insert(position_in(odd, t))?;
+    Ok(())
 }
 
-/// Whether two stacks are both in the hold or both on deck.
-fn same_part(s: &Stack, t: &Stack) -> bool
-    ensures { result ≡ same_part s.now t.now }
-{
-    (s.lowest < 80 && t.lowest < 80) || (s.lowest >= 80 && t.lowest >= 80)
-}
-
-/// Whether the second stack has a cell in this odd bay, in the row and the part of the ship of the first.
-fn has_cell_of(s: &Stack, odd: u32, t: &Stack) -> bool
+/// Enters the half-cells of a stack.
+fn enter(cells: &mut BTreeSet<Position>, t: &Stack) -> Result<(), NoMemory>
     requires { IsStack t.now }
-    ensures { result ≡ has_cell_of s.now odd t.now }
+    ensures { OnOk result ((s : Stack) (o : ℕ) → contains position_order cells.new (position_in o s) ≡ (has_cell_of s o t.now || contains position_order cells.old (position_in o s))) }
 {
-    t.row == s.row && same_part(t, s) && has_odd_bay(t, odd)
-}
-
-/// The odd bay, where one of the earlier stacks has a cell in it, in the row and the part of the ship of this stack.
-fn bay_if_shared(earlier: &[Stack], s: &Stack, odd: u32) -> Option<u32>
-    requires { All IsStack earlier.now }
-    ensures { result ≡ (if list_any (has_cell_of s.now odd) earlier.now then Some odd else None) }
-{
-    for t in earlier {
-        if has_cell_of(s, odd, t) {
-            return Some(odd);
+    let fore = t.bay - 1;
+    let aft = t.bay + 1;
+    match t.lengths {
+        Lengths::ForeOnly => enter_side(cells, fore, t),
+        Lengths::AftOnly => enter_side(cells, aft, t),
+        Lengths::Forty | Lengths::Twenty | Lengths::Mixed => {
+            enter_side(cells, fore, t)?;
+            enter_side(cells, aft, t)
         }
     }
-    None
 }
 
-/// The lowest odd bay in which a stack has a cell of an earlier one.
-fn shared_bay(earlier: &[Stack], s: &Stack) -> Option<u32>
-    requires each { All IsStack earlier.now }
-    requires this { IsStack s.now }
-    ensures { result ≡ shared_bay earlier.now s.now }
+/// The odd bay, where a stack's half-cells in it are taken.
+fn bay_if_taken(cells: &BTreeSet<Position>, s: &Stack, odd: u32) -> Option<u32>
+    ensures { result ≡ (if contains position_order cells.now (position_in odd s.now) then Some odd else None) }
+{
+    if cells.contains(&position_in(odd, s)) {
+        Some(odd)
+    } else {
+        None
+    }
+}
+
+/// The lowest odd bay in which a stack's half-cells are taken.
+fn bay_taken(cells: &BTreeSet<Position>, s: &Stack) -> Option<u32>
+    requires { IsStack s.now }
+    ensures { result ≡ find (λ odd. contains position_order cells.now (position_in odd s.now)) (odd_bays s.now) }
 {
     let fore = s.bay - 1;
     let aft = s.bay + 1;
     match s.lengths {
-        Lengths::ForeOnly => bay_if_shared(earlier, s, fore),
-        Lengths::AftOnly => bay_if_shared(earlier, s, aft),
-        Lengths::Forty | Lengths::Twenty | Lengths::Mixed => {
-            match bay_if_shared(earlier, s, fore) {
-                Some(bay) => Some(bay),
-                None => bay_if_shared(earlier, s, aft),
-            }
-        }
+        Lengths::ForeOnly => bay_if_taken(cells, s, fore),
+        Lengths::AftOnly => bay_if_taken(cells, s, aft),
+        Lengths::Forty | Lengths::Twenty | Lengths::Mixed => match bay_if_taken(cells, s, fore) {
+            Some(bay) => Some(bay),
+            None => bay_if_taken(cells, s, aft),
+        },
     }
 }
 
-/// Refuses the first stack that shares a cell with an earlier one. Of stacks that share no cell there are at most
-/// 100,000, so the loop over the earlier ones stays bounded for a text of any size.
-pub fn refuse_shared(stacks: &[Stack]) -> Result<(), ProfileFault>
+/// Refuses the first stack that shares a cell with an earlier one.
+pub fn refuse_shared(alloc: Global, stacks: &[Stack]) -> Result<(), ProfileFault>
     requires { All IsStack stacks.now }
     ensures { Gives (λ u. u) result (apart_after [] stacks.now) }
 {
-    for (i, s) in stacks.iter().enumerate() {
-        if let Some(bay) = shared_bay(&stacks[..i], s) {
+    let mut cells = BTreeSet::new(alloc);
+    for s in stacks {
+        if let Some(bay) = bay_taken(&cells, s) {
             return Err(ProfileFault::DuplicateCell {
                 bay,
                 row: s.row,
                 tier: s.lowest,
             });
         }
+        enter(&mut cells, s)?;
     }
     Ok(())
 }

@@ -5,10 +5,12 @@ ghost use Rattle.toml_values.specs.Values.{at_key};
 ghost use Rattle.toml_values.specs.Arrays.{each_of};
 ghost use Rattle.ship_profile.specs.Keys.{Gives, entry_at, need, spelling};
 ghost use Rattle.ship_profile.specs.Stacks.{is_among};
-ghost use Rattle.ship_profile.specs.Covers.{all_named, cover_of, covers_in, covers_of, integer_of, is_in, named_by, newly_named, pair_in, pair_of, pairs_of, stacks_at, stands_at};
+ghost use Rattle.ship_profile.specs.Covers.{all_named, cover_of, covers_in, covers_of, integer_of, named_by, newly_named, pair_in, pair_of, pairs_of};
 
 use crate::faults::{ProfileFault, ProfileKey};
 use crate::keys::keyed;
+use crate::named_stacks::NamedStacks;
+use crate::stack_finder::StackFinder;
 use std::alloc::Global;
 use stow_data::{Cover, CoverList, NoMemory, Seq, Stack, StackList, StackNo};
 use toml::value::Array;
@@ -83,53 +85,12 @@ fn pairs_at(
     }
 }
 
-fn is_in(stack: &Stack, part: Part) -> bool
-    ensures { result ≡ is_in part stack.now }
-{
-    match part {
-        Part::Hold => stack.lowest < 80,
-        Part::Deck => stack.lowest >= 80,
-    }
-}
-
-/// Whether a stack stands in this bay and row.
-fn stands_at(stack: &Stack, pair: (i64, i64)) -> bool
-    ensures { result ≡ stands_at pair.0 pair.1 stack.now }
-{
-    i64::from(stack.bay) == pair.0 && i64::from(stack.row) == pair.1
-}
-
-/// The numbers of the stacks in one part of the ship that stand at a bay and row.
-fn stacks_at(
-    alloc: Global,
-    part: Part,
-    stacks: &[Stack],
-    pair: (i64, i64),
-) -> Result<StackList, NoMemory>
-    requires { length stacks.now < 2 ^ 32 }
-    ensures { IfOk result (λ found. found ≡ stacks_at part stacks.now pair) }
-{
-    let mut found = StackList::new(alloc);
-    for (number, stack) in stacks.iter().enumerate() {
-        if is_in(stack, part) && stands_at(stack, pair) {
-            found.push(StackNo(number as u32))?;
-        }
-    }
-    Ok(found)
-}
-
-fn is_among(stacks: &[StackNo], stack: StackNo) -> bool
-    ensures { result ≡ is_among stacks.now stack }
-{
-    stacks.iter().any(|s| s.0 == stack.0)
-}
-
 /// The first of these stacks that was named before.
-fn named_again(named: &[StackNo], these: &[StackNo]) -> Option<StackNo>
+fn named_again(named: &NamedStacks, these: &[StackNo]) -> Option<StackNo>
     ensures { result ≡ find (is_among named.now) these.now }
 {
     for stack in these {
-        if is_among(named, *stack) {
+        if named.has(*stack) {
             return Some(*stack);
         }
     }
@@ -146,8 +107,18 @@ fn append(list: &mut StackList, these: &[StackNo]) -> Result<(), NoMemory>
     Ok(())
 }
 
+/// Appends stacks to those that are named.
+fn name(named: &mut NamedStacks, these: &[StackNo]) -> Result<(), NoMemory>
+    ensures { OnOk result (named.new ≡ named.old ++ these.now) }
+{
+    for stack in these {
+        named.push(*stack)?;
+    }
+    Ok(())
+}
+
 /// Refuses stacks of which there is none, or of which one was named before.
-fn newly_named(named: &[StackNo], index: u32, these: &[StackNo]) -> Result<(), ProfileFault>
+fn newly_named(named: &NamedStacks, index: u32, these: &[StackNo]) -> Result<(), ProfileFault>
     ensures { Gives (λ _. these.now) result (newly_named index named.now these.now) }
 {
     if these.is_empty() {
@@ -164,21 +135,20 @@ fn newly_named(named: &[StackNo], index: u32, these: &[StackNo]) -> Result<(), P
 fn all_named(
     alloc: Global,
     part: Part,
-    stacks: &[Stack],
+    stacks: &StackFinder<'_>,
     index: u32,
-    named: &mut StackList,
+    named: &mut NamedStacks,
     pairs: &[(i64, i64)],
 ) -> Result<StackList, ProfileFault>
-    requires { length stacks.now < 2 ^ 32 }
     ensures read { Gives (λ found. found) result (all_named part stacks.now index named.old [] pairs.now) }
     ensures joined { IfOk result (λ found. named.new ≡ named.old ++ found) }
 {
     let mut found = StackList::new(alloc);
     for pair in pairs {
-        let these = stacks_at(alloc, part, stacks, *pair)?;
-        newly_named(named.as_slice(), index, these.as_slice())?;
-        append(named, these.as_slice())?;
-        append(&mut found, these.as_slice())?;
+        let these = stacks.stacks_at(part, *pair);
+        newly_named(named, index, these)?;
+        name(named, these)?;
+        append(&mut found, these)?;
     }
     Ok(found)
 }
@@ -186,12 +156,11 @@ fn all_named(
 #[tactic(auto, unfolding(crate::specs::Covers::cover_of))]
 fn cover_of(
     alloc: Global,
-    stacks: &[Stack],
+    stacks: &StackFinder<'_>,
     index: u32,
-    named: &mut StackList,
+    named: &mut NamedStacks,
     entry: &Table,
 ) -> Result<Cover, ProfileFault>
-    requires { length stacks.now < 2 ^ 32 }
     ensures read { Gives (λ cover. cover) result (cover_of stacks.now index named.old (table_view entry.now)) }
     ensures joined { IfOk result (λ cover. named.new ≡ named.old ++ (cover.under ++ cover.on)) }
 {
@@ -212,12 +181,11 @@ fn cover_of(
 
 fn cover_at(
     alloc: Global,
-    stacks: &[Stack],
+    stacks: &StackFinder<'_>,
     index: u32,
-    named: &mut StackList,
+    named: &mut NamedStacks,
     value: &Value,
 ) -> Result<Cover, ProfileFault>
-    requires { length stacks.now < 2 ^ 32 }
     ensures read { Gives (λ cover. cover) result (entry_at ProfileKey.Cover (cover_of stacks.now index named.old) (view value.now)) }
     ensures joined { IfOk result (λ cover. named.new ≡ named.old ++ (cover.under ++ cover.on)) }
 {
@@ -227,13 +195,16 @@ fn cover_at(
     }
 }
 
-fn covers_of(alloc: Global, stacks: &[Stack], entries: &Array) -> Result<CoverList, ProfileFault>
-    requires { length stacks.now < 2 ^ 32 }
+fn covers_of(
+    alloc: Global,
+    stacks: &StackFinder<'_>,
+    entries: &Array,
+) -> Result<CoverList, ProfileFault>
     ensures read { Gives (λ covers. covers) result (covers_of stacks.now (array_view entries.now)) }
     ensures few { IfOk result (λ covers. length covers < 2 ^ 32) }
 {
     let mut covers = CoverList::new(alloc);
-    let mut named = StackList::new(alloc);
+    let mut named = NamedStacks::new(alloc);
     let mut index: u32 = 1;
     for entry in entries {
         covers.push(cover_at(alloc, stacks, index, &mut named, entry)?)?;
@@ -250,7 +221,7 @@ pub fn covers_in(alloc: Global, stacks: &[Stack], top: &Table) -> Result<CoverLi
     ensures few { IfOk result (λ covers. length covers < 2 ^ 32) }
 {
     match tables_at(top, "cover") {
-        Ok(entries) => covers_of(alloc, stacks, entries),
+        Ok(entries) => covers_of(alloc, &StackFinder::new(alloc, stacks)?, entries),
         Err(Unread::Missing) => Ok(CoverList::new(alloc)),
         Err(Unread::BadValue) => Err(ProfileFault::BadValue {
             key: ProfileKey::Cover,

@@ -2,12 +2,17 @@
 #![tactic(auto)]
 
 mod cells;
+mod class_pair;
 mod covers;
 mod faults;
 mod keys;
 mod laws;
+mod named_stacks;
+mod position;
 mod profile_text;
 mod separations;
+mod separations_so_far;
+mod stack_finder;
 mod stacks;
 
 pub use faults::{ProfileFault, ProfileKey};

@@ -42,7 +42,7 @@ fn ship_of(alloc: Global, top: &Table) -> Result<Ship, ProfileFault>
     let step = or_default(number_at(top, "weight_step", 1, 10_000), 1_000);
     let weight_step = keyed(step, ProfileKey::WeightStep, 0)?;
     let stacks = stacks_in(alloc, top)?;
-    refuse_shared(stacks.as_slice())?;
+    refuse_shared(alloc, stacks.as_slice())?;
     let covers = covers_in(alloc, stacks.as_slice(), top)?;
     let separations = separations_in(alloc, top)?;
     let value = places_in(stacks.as_slice());

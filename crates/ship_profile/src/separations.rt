@@ -1,12 +1,12 @@
 //! The separations of a profile.
 ghost use Rattle.std.specs.Prelude.{◌≡◌, ◌<◌, ◌^◌, IfOk, length};
-ghost use Rattle.std.specs.List.{list_any};
 ghost use Rattle.toml.specs.View.{array_view, table_view, view};
 ghost use Rattle.ship_profile.specs.Keys.{Gives, entry_at};
-ghost use Rattle.ship_profile.specs.Separations.{classes_and_level, is_same_pair, separation_of, separations_in, separations_of};
+ghost use Rattle.ship_profile.specs.Separations.{classes_and_level, separation_of, separations_in, separations_of};
 
 use crate::faults::{ProfileFault, ProfileKey};
 use crate::keys::keyed;
+use crate::separations_so_far::SeparationsSoFar;
 use std::alloc::Global;
 use stow_data::{NoMemory, Separation, SeparationList};
 use toml::value::Array;
@@ -23,24 +23,10 @@ fn classes_and_level(entry: &Table) -> Result<Separation, Unread>
     Ok(Separation { a, b, level })
 }
 
-/// Whether two separations have the same two classes, in either order.
-fn is_same_pair(d: &Separation, e: &Separation) -> bool
-    ensures { result ≡ is_same_pair d.now e.now }
-{
-    (d.a.bytes() == e.a.bytes() && d.b.bytes() == e.b.bytes())
-        || (d.a.bytes() == e.b.bytes() && d.b.bytes() == e.a.bytes())
-}
-
-fn stood_before(earlier: &[Separation], e: &Separation) -> bool
-    ensures { result ≡ list_any (λ d. is_same_pair d e.now) earlier.now }
-{
-    earlier.iter().any(|d| is_same_pair(d, e))
-}
-
 #[tactic(auto, unfolding(crate::specs::Separations::separation_of))]
 fn separation_of(
     index: u32,
-    earlier: &[Separation],
+    earlier: &SeparationsSoFar,
     entry: &Table,
 ) -> Result<Separation, ProfileFault>
     ensures { result ≡ separation_of index earlier.now (table_view entry.now) }
@@ -48,7 +34,7 @@ fn separation_of(
     let Ok(separation) = classes_and_level(entry) else {
         return Err(ProfileFault::BadSeparation { index });
     };
-    if stood_before(earlier, &separation) {
+    if earlier.has_pair(&separation) {
         return Err(ProfileFault::BadSeparation { index });
     }
     Ok(separation)
@@ -56,7 +42,7 @@ fn separation_of(
 
 fn separation_at(
     index: u32,
-    earlier: &[Separation],
+    earlier: &SeparationsSoFar,
     value: &Value,
 ) -> Result<Separation, ProfileFault>
     ensures { Gives (λ e. e) result (entry_at ProfileKey.Separate (separation_of index earlier.now) (view value.now)) }
@@ -71,13 +57,14 @@ fn separations_of(alloc: Global, entries: &Array) -> Result<SeparationList, Prof
     ensures read { Gives (λ separations. separations) result (separations_of (array_view entries.now)) }
     ensures few { IfOk result (λ separations. length separations < 2 ^ 32) }
 {
-    let mut separations = SeparationList::new(alloc);
+    let mut separations = SeparationsSoFar::new(alloc);
     let mut index: u32 = 1;
     for entry in entries {
-        separations.push(separation_at(index, separations.as_slice(), entry)?)?;
+        let separation = separation_at(index, &separations, entry)?;
+        separations = separations.with(separation)?;
         index = index.checked_add(1).ok_or(NoMemory)?;
     }
-    Ok(separations)
+    Ok(separations.into_list())
 }
 
 /// The separations of a profile, of which there are fewer than 2^32.

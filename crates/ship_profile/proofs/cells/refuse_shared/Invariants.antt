@@ -1,6 +1,7 @@
 use Rattle.std.proofs.Common.{◌≡◌, [], take, drop}
 use Rattle.ship_profile.specs.Stacks.{apart_after}
+use Rattle.ship_profile.specs.Positions.{AreCells}
 use Rattle.ship_profile.proofs.cells.refuse_shared.Given as goal
 
-abbrev pub invariant-loop-i : goal.invariant-loop-i
-invariant-loop-i l = apart_after (take l.i l.stacks) (drop l.i l.stacks) ≡ apart_after [] l.stacks
+abbrev pub invariant-loop-s : goal.invariant-loop-s
+invariant-loop-s l = record { taken : AreCells l.cells (take l.s-index l.stacks); same : apart_after (take l.s-index l.stacks) (drop l.s-index l.stacks) ≡ apart_after [] l.stacks }
