@@ -1,7 +1,7 @@
 //! The departure file of a call: its segments, its message and its text (ISO 9735, SMDG BAPLIE 2.2).
 #![tactic(auto)]
 
-mod departures;
+mod departure_segments;
 mod law;
 mod messages;
 

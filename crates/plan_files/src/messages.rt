@@ -12,7 +12,7 @@ use baplie_model::{CellGroup, Facts, GroupList, Message};
 use baplie_write::write_baplie;
 use bookings::{Booking, Bookings};
 use edifact_segments::SegmentList;
-use crate::departures::{bgm, booking_of, dtm, group, loc, no_booking, number_at, port_of, tdt, unb, unh};
+use crate::departure_segments::{bgm, booking_of, dtm, group, loc, no_booking, number_at, port_of, tdt, unb, unh};
 use std::alloc::Global;
 use stow_data::{Bytes, Cargo, Container, Name, NoMemory, PlaceNo, Plan, Ship};
 
