@@ -1,0 +1,3 @@
+pub mod Places
+pub mod EachOnce
+pub mod Signed

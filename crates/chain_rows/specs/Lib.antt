@@ -1,0 +1,4 @@
+pub mod Chains
+pub mod ToCome
+pub mod RightSide
+pub mod Gains
