@@ -1,0 +1,7 @@
+use Rattle.std.specs.Prelude.{ℕ, ◌==◌}
+use Rattle.proof_trees.specs.OneVariable.{one_variable, leaf}
+use Rattle.proof_trees.proofs.OneLeaf.{leaf_proves}
+use Rattle.proof_trees.proofs.tests.costs_at_least_one.Goals as goal
+
+pub returns : goal.returns
+returns c = λ x sol. c.weak_duality.ensures.tree (λ (a b : ℕ). a == b) one_variable leaf 1 leaf_proves x sol
