@@ -1,5 +1,5 @@
 -- Each step keeps the rule of the board.
-use Rattle.std.proofs.Common.{◌≡◌, ◌≢◌, ℕ, zero, suc, ◌+◌, ◌-◌, ◌*◌, ◌%◌, ◌<◌, ◌≤◌, ◌^◌, ◌==◌, nat_lt, min, Bool, true, false, cond, ◌⊎◌, inl, inr, List, [], ◌∷◌, ◌++◌, length, set, refl, ap, sym, ◌∙◌, subst, ⊎_elim, arith}
+use Rattle.std.proofs.Common.{◌≡◌, ◌≢◌, ℕ, zero, suc, ◌+◌, ◌-◌, ◌*◌, ◌%◌, ◌<◌, ◌≤◌, ◌^◌, ◌==◌, min, cond, ◌⊎◌, inl, inr, List, [], ◌∷◌, ◌++◌, length, set, refl, ap, sym, ◌∙◌, subst, ⊎_elim, arith}
 use Rattle.std.proofs.lemmas.List.{length-set, length-append}
 use Rattle.std.proofs.lemmas.Bool.Decides.{eqb_tells, nat_tests}
 use mathlib.Core.Option.{some, none, some-ne-none}
@@ -9,7 +9,7 @@ use Rattle.atomic_table.proofs.Lists.{at_set, set_here, set_else, set_again}
 use Rattle.incumbent_word.specs.declared.view.Role.{Role}
 use Rattle.incumbent_word.specs.declared.view.Role.TheVariants.{Owner, Worker, Spent}
 use Rattle.incumbent_word.specs.declared.view.View.{View}
-use Rattle.incumbent_word.specs.Rule.{none_yet, seen_at, offered_at, with_ticket, one_over, drawn_at, spent, Loaded, Offered, Drawn, BudgetRead, is_owner, is_spent, total, owners, spent_views, times, once_below, Owns, Fits, BoardKept}
+use Rattle.incumbent_word.specs.Rule.{seen_at, offered_at, drawn_at, Loaded, Offered, Drawn, BudgetRead, is_owner, is_spent, total, spent_views, times, once_below, Owns, Fits, BoardKept}
 
 -- the total after a change of one view
 pub sum_set : (f : View → ℕ) (l : List View) (i : ℕ) (v w : View) → get_elem? l i ≡ some v → total f (set l i w) + f v ≡ total f l + f w
@@ -176,7 +176,7 @@ module _ (key : ℕ × ℕ) (id slots : ℕ) (me : Me ℕ View) where
           owner = owner_after s.views id me.0 w at refl refl refl (λ z. (k.owner id me.0 at z).over) k.owner;
           one = omega (arith, sum_set (λ v. is_owner v.role) s.views id me.0 w at, k.one);
           views = views_after key s.views id w k.best (min k.best cost) k.views (omega arith)
-              (record { offered = omega (arith, f.offered); seen = omega arith; serves = λ w. let t = f.serves w in record { over = t.over; made = t.made; taken = t.taken }; knows = λ live. let n = f.knows live in record { most = omega (arith, k.low); start_is = n.start_is; budget_is = n.budget_is }; idle = λ dead. absurd (live dead)});
+              (record { offered = omega (arith, f.offered); seen = omega arith; serves = λ w. let t = f.serves w in record { over = t.over; made = t.made; taken = t.taken }; knows = λ live. let n = f.knows live in record { most = omega (arith, k.low); start_is = n.start_is; budget_is = n.budget_is }; idle = λ dead. absurd (live dead) });
           from = from_offer key.0 k.best cost s.views id me.0 w at f.offered refl k.from (less_or k.best cost);
           once = λ x. omega (arith, sum_set (λ v. times x v.tickets) s.views id me.0 w at, k.once x);
           count = omega (arith, sum_set (λ v. length v.tickets) s.views id me.0 w at, k.count);
@@ -236,7 +236,7 @@ module _ (key : ℕ × ℕ) (id slots : ℕ) (me : Me ℕ View) where
           owner = owner_after s.views id me.0 w at refl refl refl (λ z. absurd (owner_or_worker me.0.role z worker)) k.owner;
           one = omega (arith, sum_set (λ v. is_owner v.role) s.views id me.0 w at, k.one);
           views = views_after key s.views id w k.best k.best k.views (omega arith)
-              (record { offered = f.offered; seen = f.seen; serves = λ w. let t = f.serves w in record { over = over_small k.drawn me.0 none_over; made = t.made; taken = t.taken }; knows = λ live. let n = f.knows live in record { most = n.most; start_is = n.start_is; budget_is = n.budget_is }; idle = λ dead. absurd (live dead)});
+              (record { offered = f.offered; seen = f.seen; serves = λ w. let t = f.serves w in record { over = over_small k.drawn me.0 none_over; made = t.made; taken = t.taken }; knows = λ live. let n = f.knows live in record { most = n.most; start_is = n.start_is; budget_is = n.budget_is }; idle = λ dead. absurd (live dead) });
           from = from_before key.0 k.best s.views id me.0 w at (λ e. e) k.from;
           once = λ x. omega (arith, sum_set (λ v. times x v.tickets) s.views id me.0 w at, k.once x, ticket_once x k.drawn key.1 me.0 b);
           count = omega (arith, sum_set (λ v. length v.tickets) s.views id me.0 w at, k.count, ticket_count k.drawn key.1 me.0 b);

@@ -1,7 +1,6 @@
 -- Seats that are made and taken in, and the end.
 use Rattle.std.proofs.Common.{◌≡◌, ◌≢◌, ℕ, zero, suc, ◌+◌, ◌<◌, ◌≤◌, min, ◌⊎◌, inl, inr, List, [], ◌∷◌, ◌++◌, length, set, refl, ap, sym, ◌∙◌, subst, ⊎_elim, arith}
 use Rattle.std.proofs.lemmas.List.{length-set, length-append}
-use Rattle.std.proofs.lemmas.Bool.Decides.{nat_tests}
 use mathlib.Core.Option.{some, some-ne-none}
 use lib.ListN.{get_elem?}
 use Rattle.atomic_table.specs.Table.{State, Splits, Joins}
@@ -9,8 +8,8 @@ use Rattle.atomic_table.proofs.Lists.{at_set, at_snoc, at_longer, set_here, set_
 use Rattle.incumbent_word.specs.declared.view.Role.{Role}
 use Rattle.incumbent_word.specs.declared.view.Role.TheVariants.{Owner, Worker, Spent}
 use Rattle.incumbent_word.specs.declared.view.View.{View}
-use Rattle.incumbent_word.specs.Rule.{none_yet, after_split, new_seat, joined, spent, is_owner, is_spent, total, owners, spent_views, times, once_below, Owns, Fits, BoardKept}
-use Rattle.incumbent_word.proofs.Moves.{sum_set, at_length, same_or_other, live_owner, live_worker, owner_or_worker, some_role, spent_at_most, spent_total, From, from_before, views_after}
+use Rattle.incumbent_word.specs.Rule.{after_split, new_seat, joined, spent, is_owner, is_spent, total, owners, spent_views, times, once_below, Owns, Fits, BoardKept}
+use Rattle.incumbent_word.proofs.Moves.{sum_set, at_length, same_or_other, live_owner, live_worker, owner_or_worker, spent_at_most, spent_total, From, from_before, views_after}
 
 total_snoc : (f : View → ℕ) (l : List View) (w : View) → total f (l ++ w ∷ []) ≡ total f l + f w
 total_snoc f [] w = omega arith

@@ -13,39 +13,39 @@ none_yet = 18446744073709551615
 
 -- the owner's view of a new board
 abbrev pub fresh : ℕ → ℕ → View
-fresh start budget = record { role = Owner; offered = none_yet; seen = start; tickets = []; over = 0; start = start; budget = budget; made = 0; taken = 0 }
+fresh start budget = record { role = Owner; offered = none_yet; seen = start; found = start; tickets = []; over = 0; start = start; budget = budget; made = 0; taken = 0 }
 
 -- after a load of the best value
 abbrev pub seen_at : View → ℕ → View
-seen_at v found = record { role = v.role; offered = v.offered; seen = found; tickets = v.tickets; over = v.over; start = v.start; budget = v.budget; made = v.made; taken = v.taken }
+seen_at v found = record { role = v.role; offered = v.offered; seen = found; found = found; tickets = v.tickets; over = v.over; start = v.start; budget = v.budget; made = v.made; taken = v.taken }
 
 -- after an offer of a cost that found a best value
 abbrev pub offered_at : View → ℕ → ℕ → View
-offered_at v cost found = record { role = v.role; offered = min v.offered cost; seen = min found cost; tickets = v.tickets; over = v.over; start = v.start; budget = v.budget; made = v.made; taken = v.taken }
+offered_at v cost found = record { role = v.role; offered = min v.offered cost; seen = min found cost; found = found; tickets = v.tickets; over = v.over; start = v.start; budget = v.budget; made = v.made; taken = v.taken }
 
 -- after a draw of a ticket below the budget, of one that isn't, and of any
 abbrev pub with_ticket : View → ℕ → View
-with_ticket v ticket = record { role = v.role; offered = v.offered; seen = v.seen; tickets = v.tickets ++ ticket ∷ []; over = v.over; start = v.start; budget = v.budget; made = v.made; taken = v.taken }
+with_ticket v ticket = record { role = v.role; offered = v.offered; seen = v.seen; found = v.found; tickets = v.tickets ++ ticket ∷ []; over = v.over; start = v.start; budget = v.budget; made = v.made; taken = v.taken }
 
 abbrev pub one_over : View → View
-one_over v = record { role = v.role; offered = v.offered; seen = v.seen; tickets = v.tickets; over = v.over + 1; start = v.start; budget = v.budget; made = v.made; taken = v.taken }
+one_over v = record { role = v.role; offered = v.offered; seen = v.seen; found = v.found; tickets = v.tickets; over = v.over + 1; start = v.start; budget = v.budget; made = v.made; taken = v.taken }
 
 abbrev pub drawn_at : View → ℕ → View
-drawn_at v ticket = record { role = v.role; offered = v.offered; seen = v.seen; tickets = cond (nat_lt ticket v.budget) (v.tickets ++ ticket ∷ []) v.tickets; over = cond (nat_lt ticket v.budget) v.over (v.over + 1); start = v.start; budget = v.budget; made = v.made; taken = v.taken }
+drawn_at v ticket = record { role = v.role; offered = v.offered; seen = v.seen; found = v.found; tickets = cond (nat_lt ticket v.budget) (v.tickets ++ ticket ∷ []) v.tickets; over = cond (nat_lt ticket v.budget) v.over (v.over + 1); start = v.start; budget = v.budget; made = v.made; taken = v.taken }
 
 -- the owner's view after it made a seat, and that seat's
 abbrev pub after_split : View → View
-after_split v = record { role = v.role; offered = v.offered; seen = v.seen; tickets = v.tickets; over = v.over; start = v.start; budget = v.budget; made = v.made + 1; taken = v.taken }
+after_split v = record { role = v.role; offered = v.offered; seen = v.seen; found = v.found; tickets = v.tickets; over = v.over; start = v.start; budget = v.budget; made = v.made + 1; taken = v.taken }
 
 abbrev pub new_seat : View → View
-new_seat v = record { role = Worker; offered = none_yet; seen = v.seen; tickets = []; over = 0; start = v.start; budget = v.budget; made = 0; taken = 0 }
+new_seat v = record { role = Worker; offered = none_yet; seen = v.seen; found = v.seen; tickets = []; over = 0; start = v.start; budget = v.budget; made = 0; taken = 0 }
 
 -- the owner's view after it took in a seat, and that seat's
 abbrev pub joined : View → View → View
-joined v w = record { role = v.role; offered = min v.offered w.offered; seen = min v.seen w.seen; tickets = v.tickets ++ w.tickets; over = v.over + w.over; start = v.start; budget = v.budget; made = v.made; taken = v.taken + 1 }
+joined v w = record { role = v.role; offered = min v.offered w.offered; seen = min v.seen w.seen; found = v.found; tickets = v.tickets ++ w.tickets; over = v.over + w.over; start = v.start; budget = v.budget; made = v.made; taken = v.taken + 1 }
 
 abbrev pub spent : View
-spent = record { role = Spent; offered = none_yet; seen = none_yet; tickets = []; over = 0; start = 0; budget = 0; made = 0; taken = 0 }
+spent = record { role = Spent; offered = none_yet; seen = none_yet; found = none_yet; tickets = []; over = 0; start = 0; budget = 0; made = 0; taken = 0 }
 
 -- what a load of the best value, an offer, a draw and a load of the budget tell
 abbrev pub Loaded : Step ℕ → Me ℕ View → ℕ → Me ℕ View → Type 0

@@ -4,22 +4,22 @@
 ghost use Rattle.std.specs.Prelude.{◌≡◌, ◌⊎◌, ℕ, ◌<◌, ◌≤◌, ◌^◌, length, IfOk, IfSome, IfNone};
 ghost use Rattle.incumbent_word.specs.Rule.{fresh, seen_at, offered_at, with_ticket, one_over, after_split, new_seat, joined, times, once_below};
 
-mod view;
-
 #[cfg(test)]
 mod tests;
+mod view;
 
 use crate::view::{Budgets, Draws, Kept, Loads, Offers, Seating};
 use atomic_table::Table;
 use std::alloc::Global;
 use std::marker::Model;
 use stow_data::NoMemory;
-
 pub use view::{Role, View};
 
 /// Where the best value, the number of tickets drawn and the budget stand.
 const BEST: usize = 0;
+
 const TICKETS: usize = 1;
+
 const BUDGET: usize = 2;
 
 /// Three words that threads share: the best value, which only falls, the number of tickets drawn, which only rises,
@@ -104,7 +104,8 @@ impl Board {
         ensures offered { result ≤ seat.old.view.offered }
         ensures start { result ≤ seat.old.view.start }
     {
-        self.table.shared.load::<Loads>(&mut seat.seat, BEST)
+        let words = &self.table.shared;
+        words.load::<Loads>(&mut seat.seat, BEST)
     }
 
     /// Makes the best value the lesser of itself and `cost`, and tells what it was before.
@@ -116,9 +117,8 @@ impl Board {
         ensures offered { result ≤ seat.old.view.offered }
         ensures start { result ≤ seat.old.view.start }
     {
-        self.table
-            .shared
-            .fetch_min::<Offers>(&mut seat.seat, BEST, cost)
+        let words = &self.table.shared;
+        words.fetch_min::<Offers>(&mut seat.seat, BEST, cost)
     }
 
     /// The next ticket; none where it isn't below the budget, after which the seat draws no more.
@@ -129,11 +129,9 @@ impl Board {
         ensures some { IfSome result (λ ticket. (ticket < seat.old.view.budget) × (seat.new.view ≡ with_ticket seat.old.view ticket)) }
         ensures none { IfNone result (seat.new.view ≡ one_over seat.old.view) }
     {
-        let budget = self.table.shared.load::<Budgets>(&mut seat.seat, BUDGET);
-        let ticket = self
-            .table
-            .shared
-            .fetch_add::<Draws>(&mut seat.seat, TICKETS, 1);
+        let words = &self.table.shared;
+        let budget = words.load::<Budgets>(&mut seat.seat, BUDGET);
+        let ticket = words.fetch_add::<Draws>(&mut seat.seat, TICKETS, 1);
         if ticket < budget { Some(ticket) } else { None }
     }
 
@@ -144,8 +142,9 @@ impl Board {
         ensures board { (owner.new.board ≡ owner.old.board) × (result.board ≡ owner.old.board) }
         ensures views { (found : ℕ) × (found ≤ owner.old.view.seen) × (owner.new.view ≡ after_split (seen_at owner.old.view found)) × (result.view ≡ new_seat (seen_at owner.old.view found)) }
     {
-        self.table.shared.load::<Loads>(&mut owner.seat, BEST);
-        let seat = self.table.shared.split_seat::<Seating>(&mut owner.seat);
+        let words = &self.table.shared;
+        words.load::<Loads>(&mut owner.seat, BEST);
+        let seat = words.split_seat::<Seating>(&mut owner.seat);
         Seat { seat }
     }
 
@@ -156,9 +155,8 @@ impl Board {
         ensures view { owner.new.view ≡ joined owner.old.view seat.view }
     {
         let Seat { seat } = seat;
-        self.table
-            .shared
-            .join_seat::<Seating>(&mut owner.seat, seat);
+        let words = &self.table.shared;
+        words.join_seat::<Seating>(&mut owner.seat, seat);
     }
 
     /// The best value and the number of tickets below the budget, once each seat was taken in.

@@ -176,6 +176,12 @@ fn four_threads_share_a_board(rt: HostRuntime) -> Result<(), Fail> {
     take_in(&board, &mut owner, &mut tickets, d)?;
     tickets.sort()?;
     assert!(rt; tickets.len() == 40_000 && counts_up(tickets.as_slice()));
-    assert!(rt; board.close(owner) == Totals { best: 30_000, drawn: 40_000 });
+    assert!(rt;
+        board.close(owner)
+            == Totals {
+                best: 30_000,
+                drawn: 40_000
+            }
+    );
     Ok(())
 }

@@ -14,8 +14,10 @@ pub struct View {
     pub role: Role,
     /// The least value that it offered; the greatest u64 where it offered none.
     pub offered: u64,
-    /// The value that it saw last, which is the least that it saw.
+    /// The least value that it saw, its own offers included.
     pub seen: u64,
+    /// The best value that it found at its last look or offer, before that step.
+    pub found: u64,
     /// The tickets below the budget that it drew, in their order.
     pub tickets: LinkedList<u64>,
     /// How many tickets it drew that aren't below the budget.

@@ -1,5 +1,4 @@
 use Rattle.std.proofs.Common.{◌≡◌, ap, sym, ◌∙◌}
-use Rattle.incumbent_word.specs.Rule.{once_below}
 use Rattle.incumbent_word.specs.Tokens.{SeatToken}
 use Rattle.incumbent_word.proofs.Seats.{closes_once, closes_from, closes_count, closes_over}
 use Rattle.incumbent_word.proofs.Board.close.Goals as goal

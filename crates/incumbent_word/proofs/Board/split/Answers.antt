@@ -10,8 +10,7 @@ load-requires c = (same_table _ _ _ _ c.owner.view_is c.self.view_is c.requires.
 
 pub split_seat-seat-requires : goal.split_seat-seat-requires
 split_seat-seat-requires c =
-    let e = c.load.ensures in
-    (
+    let e = c.load.ensures in (
       e.0 ∙ same_table _ _ _ _ c.owner.view_is c.self.view_is c.requires.board,
       omega (arith, c.self.invariant),
       splits _ _ _ (ap (λ m. m.0.role) e.2.0 ∙ c.owner.invariant.1) (omega (arith, ap (λ m. m.0.made) e.2.0, ap (λ (t : SeatToken). t.view.made) c.owner.view_is, c.requires.room)),
