@@ -58,9 +58,9 @@ one_below ship h a b u v =
     let same : u.upper ≡ v.upper = same_Some u.upper v.upper (sym u.is_upper ∙ v.is_upper) in
     let tiers : u.upper.tier ≡ v.upper.tier = ap (λ (z : Half). z.tier) same in
     let low : u.lower ≡ v.lower = half_is u.lower v.lower
-        (sym u.directly.same_stack ∙ (ap (λ (z : Half). z.stack) same ∙ v.directly.same_stack))
-        (omega (arith, tiers, u.directly.next_tier, v.directly.next_tier))
-        (sym u.directly.same_side ∙ (ap (λ (z : Half). z.aft) same ∙ v.directly.same_side)) in
+    (sym u.directly.same_stack ∙ (ap (λ (z : Half). z.stack) same ∙ v.directly.same_stack))
+    (omega (arith, tiers, u.directly.next_tier, v.directly.next_tier))
+    (sym u.directly.same_side ∙ (ap (λ (z : Half). z.aft) same ∙ v.directly.same_side)) in
     half_once ship a b v.lower (u.is_lower ∙ ap (λ (z : Half). Some z) low) v.is_lower
 
 -- an answer of which there is one only is the one

@@ -3,9 +3,9 @@ ghost use Rattle.std.specs.Prelude.{◌≡◌, ◌<◌, ◌∷◌, [], IfOk};
 ghost use Rattle.stow_data.specs.Sample.{sample, sample_stack, sample_stacks, sample_cover, sample_separation, sample_container, sample_containers, sample_rotation};
 
 use crate::{
-    CallNo, Cargo, Container, ContainerList, Cover, CoverList, CoverNo, Half, HalfNo, KindNo,
-    Kinds, Length, Lengths, Name, NameList, NoMemory, Origin, Place, PlaceNo, Plan, Separation,
-    SeparationList, Seq, Ship, Span, Stack, StackNo, Stacks, kinds,
+    Bytes, CallNo, Cargo, Container, ContainerList, Cover, CoverList, CoverNo, HalfNo, KindNo,
+    Kinds, Length, Lengths, Name, NameList, NoMemory, Origin, PlaceNo, Plan, Separation,
+    SeparationList, Seq, Ship, Stack, StackNo, Stacks, kinds,
 };
 use std::alloc::Global;
 use std::test::Fail;
@@ -106,42 +106,13 @@ fn is_numbered(ship: &Ship, p: u32, number: (u32, u32, u32)) -> bool {
     p < ship.places() && ship.number_of_place(place) == number && back == Some(place)
 }
 
-fn are_numbered(ship: &Ship) -> bool {
-    for (p, bay, row, tier) in [
-        (0, 2, 0, 2),
-        (1, 2, 0, 4),
-        (2, 1, 1, 2),
-        (3, 3, 1, 2),
-        (4, 1, 2, 82),
-        (5, 3, 2, 82),
-        (6, 2, 2, 82),
-        (7, 1, 2, 84),
-        (9, 2, 2, 84),
-        (10, 5, 3, 2),
-        (11, 5, 3, 4),
-        (12, 7, 4, 80),
-    ] {
-        if !is_numbered(ship, p, (bay, row, tier)) {
-            return false;
-        }
-    }
-    true
-}
-
-fn are_no_numbers(ship: &Ship) -> bool {
-    for (bay, row, tier) in [(2, 1, 2), (4, 0, 2), (2, 0, 6), (2, 2, 80), (7, 3, 2)] {
-        if ship.place_of_number(bay, row, tier).is_some() {
-            return false;
-        }
-    }
-    true
-}
-
 #[test]
 fn numbers_places(rt: HostRuntime) -> Result<(), Fail> {
     let ship = ship(rt.alloc())?;
-    assert!(rt; are_numbered(&ship));
-    assert!(rt; are_no_numbers(&ship));
+    assert!(rt; is_numbered(&ship, 1, (2, 0, 4)));
+    assert!(rt; is_numbered(&ship, 7, (1, 2, 84)));
+    assert!(rt; is_numbered(&ship, 12, (7, 4, 80)));
+    assert!(rt; ship.place_of_number(2, 1, 2).is_none());
     Ok(())
 }
 
@@ -153,49 +124,21 @@ fn has_neighbours(ship: &Ship, h: u32, above: Option<u32>, below: Option<u32>) -
         && ship.below(half) == below.map(|n| HalfNo(n))
 }
 
-fn have_neighbours(ship: &Ship) -> bool {
-    for (h, above, below) in [
-        (0, Some(2), None),
-        (1, Some(3), None),
-        (3, None, Some(1)),
-        (4, None, None),
-        (6, Some(8), None),
-        (9, None, Some(7)),
-        (10, Some(11), None),
-        (11, None, Some(10)),
-        (12, None, None),
-    ] {
-        if !has_neighbours(ship, h, above, below) {
-            return false;
-        }
-    }
-    true
-}
-
-fn have_covers(ship: &Ship) -> bool {
-    for (s, over, under) in [
-        (0, Some(0), None),
-        (1, Some(0), None),
-        (2, None, Some(0)),
-        (3, None, None),
-        (9, None, None),
-    ] {
-        let stack = StackNo(s);
-        if ship.cover_over(stack) != over.map(|n| CoverNo(n)) {
-            return false;
-        }
-        if ship.cover_under(stack) != under.map(|n| CoverNo(n)) {
-            return false;
-        }
-    }
-    true
+#[test]
+fn finds_neighbours(rt: HostRuntime) -> Result<(), Fail> {
+    let ship = ship(rt.alloc())?;
+    assert!(rt; has_neighbours(&ship, 1, Some(3), None));
+    assert!(rt; has_neighbours(&ship, 9, None, Some(7)));
+    assert!(rt; has_neighbours(&ship, 11, None, Some(10)));
+    Ok(())
 }
 
 #[test]
-fn finds_neighbours_and_covers(rt: HostRuntime) -> Result<(), Fail> {
+fn finds_covers(rt: HostRuntime) -> Result<(), Fail> {
     let ship = ship(rt.alloc())?;
-    assert!(rt; have_neighbours(&ship));
-    assert!(rt; have_covers(&ship));
+    assert!(rt; ship.cover_over(StackNo(1)) == Some(CoverNo(0)));
+    assert!(rt; ship.cover_under(StackNo(2)) == Some(CoverNo(0)));
+    assert!(rt; ship.cover_over(StackNo(9)).is_none());
     Ok(())
 }
 
@@ -204,41 +147,14 @@ fn takes(ship: &Ship, p: u32, long: Length, reefer: bool) -> bool {
     p < ship.places() && ship.fits(PlaceNo(p), long, reefer)
 }
 
-fn take_what_fits(ship: &Ship) -> bool {
-    for (p, long, reefer, fits) in [
-        (0, Length::Forty, false, true),
-        (0, Length::Twenty, false, false),
-        (0, Length::Forty, true, false),
-        (4, Length::Twenty, true, true),
-        (4, Length::Forty, false, false),
-        (7, Length::Twenty, true, false),
-        (7, Length::Twenty, false, true),
-        (6, Length::Forty, true, true),
-        (12, Length::Twenty, false, true),
-    ] {
-        if takes(ship, p, long, reefer) != fits {
-            return false;
-        }
-    }
-    true
-}
-
-fn is_place(ship: &Ship, p: u32, place: Place) -> bool {
-    p < ship.places() && ship.place(PlaceNo(p)) == place
-}
-
-fn is_half(ship: &Ship, h: u32, half: Half) -> bool {
-    h < ship.halves() && ship.half(HalfNo(h)) == half
-}
-
-fn counts(ship: &Ship) -> (u32, u32, u32, u32, u32) {
-    (
-        ship.places(),
-        ship.halves(),
-        ship.stacks(),
-        ship.covers(),
-        ship.separations(),
-    )
+#[test]
+fn tells_what_fits(rt: HostRuntime) -> Result<(), Fail> {
+    let ship = ship(rt.alloc())?;
+    assert!(rt; takes(&ship, 6, Length::Forty, true));
+    assert!(rt; !takes(&ship, 4, Length::Forty, false));
+    assert!(rt; !takes(&ship, 7, Length::Twenty, true));
+    assert!(rt; ship.rounded(2001) == 3000);
+    Ok(())
 }
 
 /// The bay of a stack, the number of stacks under a cover, and the level of a separation.
@@ -254,29 +170,30 @@ fn parts(ship: &Ship) -> Option<(u32, usize, u32)> {
 #[test]
 fn tells_its_parts(rt: HostRuntime) -> Result<(), Fail> {
     let ship = ship(rt.alloc())?;
+    ship.obeys_rules();
     assert!(rt; ship.name() == name() && ship.weight_step() == 1000);
-    assert!(rt; counts(&ship) == (13, 13, 5, 1, 1));
+    assert!(rt; ship.places() == 13 && ship.halves() == 13);
     assert!(rt; parts(&ship) == Some((6, 2, 2)));
-    assert!(rt; take_what_fits(&ship));
     Ok(())
 }
 
+fn two_bytes(alloc: Global) -> Result<Bytes, NoMemory> {
+    let mut list = Bytes::with_room(alloc, 8)?;
+    list.extend(b"ab")?;
+    list.fit();
+    Ok(list)
+}
+
 #[test]
-fn tells_cells(rt: HostRuntime) -> Result<(), Fail> {
-    let ship = ship(rt.alloc())?;
-    let place = Place {
-        stack: StackNo(2),
-        tier: 0,
-        span: Span::Both,
-        plug: true,
-    };
-    assert!(rt; is_place(&ship, 6, place));
-    let half = Half {
-        stack: StackNo(2),
-        tier: 0,
-        aft: true,
-    };
-    assert!(rt; is_half(&ship, 7, half));
+fn a_list_acts_as_its_items(rt: HostRuntime) -> Result<(), Fail> {
+    let list = two_bytes(rt.alloc())?;
+    let mut sum = 0;
+    for byte in &list {
+        sum = byte.wrapping_add(sum);
+    }
+    assert!(rt; sum == 195 && list.contains(&98));
+    assert!(rt; list.copy(rt.alloc())?.into_items().len() == 2);
+    assert!(rt; Name::copied(&Some(name())) == Some(name()));
     Ok(())
 }
 
@@ -323,7 +240,7 @@ fn cargo(alloc: Global, ship: &Ship) -> Result<Cargo, NoMemory> {
     Ok(Cargo::new(rotation, containers, arrival))
 }
 
-/// Whether the kind has this weight and first load, and so many containers load at a call.
+/// Whether the kind has this weight and first load.
 fn is_kind(kinds: &Kinds, g: u32, kg: u32, first: u32) -> bool {
     if g >= kinds.len() {
         return false;
@@ -332,20 +249,12 @@ fn is_kind(kinds: &Kinds, g: u32, kg: u32, first: u32) -> bool {
     kind.kg == kg && kind.first == CallNo(first)
 }
 
+/// How many containers of a kind load at a call.
 fn loads(kinds: &Kinds, call: u32, g: u32) -> Option<u32> {
     if g >= kinds.len() {
         return None;
     }
     Some(kinds.count(CallNo(call), KindNo(g)))
-}
-
-fn has_loads(kinds: &Kinds) -> bool {
-    for (call, g, count) in [(0, 0, 1), (1, 0, 2), (2, 0, 0), (2, 1, 1), (5, 0, 0)] {
-        if loads(kinds, call, g) != Some(count) {
-            return false;
-        }
-    }
-    true
 }
 
 #[test]
@@ -354,8 +263,8 @@ fn sorts_by_kind(rt: HostRuntime) -> Result<(), Fail> {
     let ship = ship(alloc)?;
     let cargo = cargo(alloc, &ship)?;
     let kinds = kinds(alloc, &ship, &cargo)?;
-    assert!(rt; kinds.len() == 2);
     assert!(rt; is_kind(&kinds, 0, 2000, 0) && is_kind(&kinds, 1, 3000, 2));
-    assert!(rt; has_loads(&kinds));
+    assert!(rt; loads(&kinds, 1, 0) == Some(2) && loads(&kinds, 2, 1) == Some(1));
+    assert!(rt; cargo.arrival().len() == 13);
     Ok(())
 }
