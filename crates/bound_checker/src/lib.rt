@@ -6,8 +6,6 @@ mod check;
 mod laws;
 mod refusals;
 mod sums;
-#[cfg(test)]
-mod tests;
 
 pub use check::{check_bound, is_one_leaf};
 pub use laws::proved_or_fault;

@@ -2,14 +2,12 @@
 #![tactic(auto)]
 
 mod faults;
-mod joining;
 mod laws;
+mod line_reader;
 mod lines;
 mod parsing;
 mod reading;
 mod scanning;
-#[cfg(test)]
-mod tests;
 mod tree;
 mod words;
 mod writing;

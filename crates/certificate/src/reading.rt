@@ -13,7 +13,7 @@ ghost use Rattle.certificate.specs.Reading.{IsLine, Fails, body_lines};
 ghost use Rattle.certificate.specs.Reading.Place.{InSteps, Between};
 
 use crate::faults::CertFault;
-use crate::joining::read_line;
+use crate::line_reader::read_line;
 use crate::lines::Line;
 use crate::tree::{Head, Outcome, Record, Tree};
 use std::alloc::Global;

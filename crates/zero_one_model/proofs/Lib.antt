@@ -1,15 +1,8 @@
-pub mod Filters
-pub mod Grouped
-pub mod Offered
-pub mod Added
 pub mod Rising
 pub mod Searched
-pub mod Numbered
 pub mod Rowed
-pub mod Paired
 pub mod Sized
 pub mod Touched
 pub mod Chosen
 pub mod Selected
 pub mod Reached
-pub mod SampleRules

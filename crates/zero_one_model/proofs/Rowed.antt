@@ -13,10 +13,10 @@ use Rattle.zero_one_rows.specs.declared.program.Row.TheVariants.{Flow, Cell, Sup
 use Rattle.zero_one_rows.specs.Variables.{Voyage, calls, all_kinds}
 use Rattle.zero_one_rows.specs.Rows.{is_call, is_half}
 use Rattle.zero_one_model.specs.Early.{early, early_rows, over_calls}
-use Rattle.zero_one_model.specs.Counted.{runs, has_below, has_above, pairs_at, per_call, flow_of, cell_rows, support_rows, block_rows, rows_in, IsRowLists}
-use Rattle.zero_one_model.specs.declared.row_lists.Pair.{Pair}
-use Rattle.zero_one_model.specs.declared.row_lists.RowLists.{RowLists}
-use Rattle.zero_one_model.proofs.Filters.{filter_flat, filter_map_by, filter_same, filter_none, flat_same}
+use Rattle.zero_one_lists.specs.Counted.{runs, has_below, has_above, pairs_at, per_call, flow_of, cell_rows, support_rows, block_rows, rows_in, IsRowLists}
+use Rattle.zero_one_lists.specs.declared.row_lists.Pair.{Pair}
+use Rattle.zero_one_lists.specs.declared.row_lists.RowLists.{RowLists}
+use Rattle.zero_one_lists.proofs.Filters.{filter_flat, filter_map_by, filter_same, filter_none, flat_same}
 
 filter_all : {X : Type 0} (xs : List X) → filter (λ x. true) xs ≡ xs
 filter_all [] = refl

@@ -15,7 +15,7 @@ use Rattle.zero_one_rows.specs.Variables.{Voyage, place, variables, var, no_var}
 use Rattle.zero_one_rows.specs.Rows.{half, covers, below, above, bit, turned, coef}
 use Rattle.zero_one_rows.proofs.Listing.{filter_at, filter_from, get_member, member_get}
 use Rattle.zero_one_model.specs.Early.{Touches}
-use Rattle.zero_one_model.specs.Grouping.{with_key, IsGrouped}
+use Rattle.zero_one_lists.specs.Grouping.{with_key, IsGrouped}
 use Rattle.zero_one_model.specs.Indexed.{IsCandidates}
 use Rattle.zero_one_model.proofs.Rising.{Rising, rising_append, rising_filter, rising_range, rising_get}
 use Rattle.zero_one_model.proofs.Sized.{first_true, second_true}

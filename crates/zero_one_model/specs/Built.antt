@@ -6,7 +6,7 @@ use Rattle.zero_one_model.specs.declared.model.Model.TheInside.{Inside}
 use Rattle.zero_one_model.specs.Building.{IsWithin}
 use Rattle.zero_one_model.specs.Early.{early_rows}
 use Rattle.zero_one_model.specs.Indexed.{IsIndex}
-use Rattle.zero_one_model.specs.Counted.{IsRowLists, IsFew}
+use Rattle.zero_one_lists.specs.Counted.{IsRowLists, IsFew}
 
 abbrev pub voyage_of : Inside → Voyage
 voyage_of a = record { ship = a.ship.now; cargo = a.cargo.now }

@@ -12,7 +12,7 @@ use Rattle.zero_one_rows.specs.Variables.{Voyage, all_kinds, variables, var}
 use Rattle.stow_data.specs.Plans.{no_place, no_half}
 use Rattle.zero_one_rows.specs.Rows.{coef, below, above}
 use Rattle.zero_one_model.specs.Early.{Touches}
-use Rattle.zero_one_model.specs.Grouping.{IsGrouped}
+use Rattle.zero_one_lists.specs.Grouping.{IsGrouped}
 use Rattle.zero_one_model.specs.declared.index.Index.{Index}
 
 -- the number of a tier of a stack, of which no stack has more than 40

@@ -3,14 +3,12 @@ ghost use Rattle.std.specs.Prelude.{◌≡◌, ◌+◌, ◌<◌, ◌≤◌, leng
 ghost use Rattle.stow_data.specs.Kinds.{AreKinds};
 ghost use Rattle.stow_data.specs.Ship.{places};
 ghost use Rattle.zero_one_model.specs.Building.{BuildsVariables};
-ghost use Rattle.zero_one_model.specs.Counted.{IsRowLists, IsFew};
+ghost use Rattle.zero_one_lists.specs.Counted.{IsRowLists, IsFew};
 
-use crate::listing::list_variables;
-use crate::offers::gather_offers;
 use crate::refusals::ModelNo;
-use crate::row_lists::{RowLists, list_rows};
 use std::alloc::Global;
 use stow_data::{Cargo, Kinds, Limit, NoMemory, Seq, Ship};
+use zero_one_lists::{RowLists, gather_offers, list_rows, list_variables};
 use zero_one_rows::Var;
 
 /// The greatest number of variables.

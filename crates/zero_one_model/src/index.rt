@@ -5,9 +5,9 @@ ghost use Rattle.stow_data.specs.Plans.{no_place};
 ghost use Rattle.zero_one_model.specs.Indexed.{shelf, place_shelf, half_shelf, IsIndexOf, NamesHalf, first_of, second_of};
 ghost use Rattle.zero_one_model.specs.Touching.{group_before};
 
-use crate::groups::{Groups, group};
 use std::alloc::Global;
 use stow_data::{HalfNo, NoMemory, Seq, Ship, StackNo};
+use zero_one_lists::{Groups, group};
 use zero_one_rows::{Row, Var, half_at, place_at, under};
 
 /// Tiers that a stack has at most.

@@ -3,16 +3,10 @@
 
 mod boxes;
 mod building;
-mod groups;
-mod having;
+mod has_row;
 mod index;
-mod listing;
 mod model;
-mod offers;
 mod refusals;
-mod row_lists;
-#[cfg(test)]
-mod tests;
 
 pub use boxes::Box01;
 pub use model::Model;

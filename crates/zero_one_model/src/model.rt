@@ -1,16 +1,22 @@
 //! The built program.
-ghost use Rattle.std.specs.Prelude.{◌≡◌, ℕ, ◌+◌, ◌-◌, ◌*◌, ◌<◌, ◌≤◌, ◌≢◌, ◌^◌, ◌↔◌, true, length, slice_get, Some, IfOk, MatchOption, OnOk, All, ◌++◌, ◌∷◌, [], filter, Contains, pos, unsigned_abs};
+ghost use Rattle.std.specs.Prelude.{◌≡◌, ℕ, ◌+◌, ◌-◌, ◌*◌, ◌<◌, ◌≤◌, ◌≢◌, ◌^◌, ◌↔◌, true, length, slice_get, Some, IfOk, MatchOption, OnOk, All, ◌++◌, ◌∷◌, [], filter, cond, Contains, pos, unsigned_abs};
 ghost use Rattle.std.specs.List.{AllPairs};
 
 use crate::building::{MOST_ROWS, built_rows, built_variables};
-use crate::having::has_early;
+use crate::has_row::has_early;
 use crate::index::{Index, index_of, shelf_of};
-use crate::listing::push_var;
 use crate::refusals::ModelNo;
-use crate::row_lists::RowLists;
 use std::alloc::Global;
 use stow_data::{CallNo, Cargo, HalfNo, Kinds, Limit, NoMemory, Seq, Ship, VarNo, kinds};
+use zero_one_lists::RowLists;
 use zero_one_rows::{Row, RowList, Var, VarList, place_at};
+
+/// Appends a variable's number where it is wanted.
+fn push_var(list: &mut VarList, x: VarNo, wanted: bool) -> Result<(), NoMemory>
+    ensures { OnOk result (list.new ≡ list.old ++ cond wanted (x ∷ []) []) }
+{
+    if wanted { list.push(x) } else { Ok(()) }
+}
 
 /// The 0-1 program of a voyage: the rows of the families flow, cell, support and block, for any ship and cargo. Contracts see the voyage.
 #[derive(Drop)]

@@ -9,7 +9,7 @@ use Rattle.stow_data.specs.declared.geometry.Place.{Place}
 use Rattle.stow_data.specs.declared.cargoes.Container.{Container}
 use Rattle.stow_data.specs.declared.cargoes.Origin.TheVariants.{Booked}
 use Rattle.stow_data.specs.declared.kind_list.Kind.{Kind}
-use Rattle.stow_data.specs.Ship.{Ship, places}
+use Rattle.stow_data.specs.Ship.{Ship, places, fits}
 use Rattle.stow_data.specs.Shipment.{Cargo}
 use Rattle.stow_data.specs.Plans.{no_place, no_container}
 use Rattle.stow_data.specs.Kinds.{kinds_of, kind_number}
@@ -25,19 +25,6 @@ no_kind = record { dest = 0; long = Forty; reefer = false; class = None; kg = 0;
 
 abbrev pub no_var : Var
 no_var = record { put = 0; kind = 0; lifted = 0; place = 0 }
-
--- a container of this length fits the span
-abbrev pub has_length : Span → Length → Bool
-has_length Both Forty = true
-has_length Both Twenty = false
-has_length Fore Forty = false
-has_length Fore Twenty = true
-has_length Aft Forty = false
-has_length Aft Twenty = true
-
--- a container of this kind fits the place
-abbrev pub fits : Place → Kind → Bool
-fits p k = has_length p.span k.long && (not k.reefer || p.plug)
 
 module _ (m : Voyage) where
   -- the number of calls
@@ -63,7 +50,7 @@ module _ (m : Voyage) where
 
   -- put at arrival where one stands, or else from the kind's first load on, where it fits; lifted later, at its destination at the latest
   abbrev pub is_var : Var → Bool
-  is_var x = nat_lt x.put x.lifted && (nat_le x.lifted (kind x.kind).dest && cond (x.put == 0) (arrived x.kind x.place) (nat_le (kind x.kind).first x.put && fits (place x.place) (kind x.kind)))
+  is_var x = nat_lt x.put x.lifted && (nat_le x.lifted (kind x.kind).dest && cond (x.put == 0) (arrived x.kind x.place) (nat_le (kind x.kind).first x.put && fits (place x.place) (kind x.kind).long (kind x.kind).reefer))
 
   -- by put, kind, lifted, place
   unfoldable pub variables : List Var

@@ -3,7 +3,7 @@ use Rattle.std.specs.Prelude.{slice_get}
 use Rattle.zero_one_rows.specs.declared.program.Row.{Row}
 use Rattle.zero_one_model.specs.Built.{voyage_of}
 use Rattle.zero_one_model.specs.Early.{early_rows}
-use Rattle.zero_one_model.specs.Counted.{rows_in}
+use Rattle.zero_one_lists.specs.Counted.{rows_in}
 use Rattle.zero_one_model.proofs.Rowed.{rows_listed, listed_has}
 use Rattle.zero_one_model.proofs.model.Model.row_at.Goals as goal
 

@@ -1,6 +1,0 @@
-use Rattle.std.proofs.Common.{arith}
-use Rattle.zero_one_model.proofs.SampleRules.{cargo_rules}
-use Rattle.bound_checker.proofs.tests.two_containers.Goals as goal
-
-pub new-requires : goal.new-requires
-new-requires c = rw (c.in_ok-rotation.ensures, c.in_ok-containers.ensures) (cargo_rules 1 2 1 2 _ (omega arith) (omega arith) (omega arith) (omega arith))

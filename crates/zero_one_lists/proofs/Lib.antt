@@ -1,0 +1,6 @@
+pub mod Filters
+pub mod Grouped
+pub mod Offered
+pub mod Added
+pub mod Numbered
+pub mod Paired

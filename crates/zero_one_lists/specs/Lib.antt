@@ -1,0 +1,4 @@
+pub mod Grouping
+pub mod Offering
+pub mod Enumerated
+pub mod Counted
