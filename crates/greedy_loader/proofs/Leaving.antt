@@ -8,10 +8,10 @@ use Rattle.stow_data.specs.Ship.{Ship, places}
 use Rattle.stow_data.specs.Shipment.{Cargo}
 use Rattle.stowage_rules.specs.Plan.{Holds}
 use Rattle.greedy_loader.specs.Plain.{IsForty}
-use Rattle.stow_data.specs.Plans.{Plan, held}
-use Rattle.greedy_loader.specs.Loader.{is_below, is_lifted, is_rehandled, has_rehandle, leaves_at, staying, discharged}
+use Rattle.stow_data.specs.Plans.{Plan, held, place_numbers}
+use Rattle.greedy_loader.specs.Loader.{is_below, must_be_lifted, must_be_rehandled, has_rehandle, leaves_at, staying, discharged}
 use Rattle.greedy_loader.proofs.Columns.{lower_place}
-use Rattle.greedy_loader.proofs.Ranges.{some_from}
+use Rattle.greedy_loader.proofs.Ranges.{some_from, any_filter}
 use Rattle.stow_data.proofs.PlanLookups.{held_is}
 use Rattle.greedy_loader.proofs.Sound.{IsSound}
 
@@ -21,8 +21,8 @@ unfolding has_rehandle
 nothing_below ship cargo plan call p q c d none l m hp hq below stays = false_from_ne_true _ (λ (leaves : leaves_at cargo call (Some d) ≡ true).
     let at : held plan p ≡ Some c = held_is plan p (Some c) hp in
     let under : held plan q ≡ Some d = held_is plan q (Some d) hq in
-    let lifted : is_lifted ship cargo plan call p ≡ true = some_from _ 0 (length (places ship)) q (omega arith) (omega arith) (and_from _ _ (or_right (q == p) _ below) (ap (leaves_at cargo call) under ∙ leaves)) in
-    let here : is_rehandled ship cargo plan call p ≡ true = and_from _ _ (and_from _ _ (ap (λ (z : Option ℕ). is_some z) at) (not_from_false _ (ap (leaves_at cargo call) at ∙ stays))) lifted in
+    let lifted : must_be_lifted ship cargo plan call p ≡ true = or_right _ _ (any_filter _ _ (place_numbers ship) ∙ some_from _ 0 (length (places ship)) q (omega arith) (omega arith) (and_from _ _ below (ap (leaves_at cargo call) under ∙ leaves))) in
+    let here : must_be_rehandled ship cargo plan call p ≡ true = and_from _ _ (and_from _ _ (ap (λ (z : Option ℕ). is_some z) at) (not_from_false _ (ap (leaves_at cargo call) at ∙ stays))) lifted in
     both_ways _ none (some_from _ 0 (length (places ship)) p (omega arith) (omega arith) here))
 
 -- what is there after a discharge was there and stays

@@ -7,8 +7,10 @@ use Rattle.std.proofs.lemmas.List.{drop_more, drop_all, append-nil, take_all, le
 use Rattle.stow_data.specs.Ship.{Ship, places}
 use Rattle.stow_data.specs.Shipment.{Cargo}
 use Rattle.stow_data.specs.Plans.{Plan, container_at, place_numbers}
-use Rattle.greedy_loader.specs.Loader.{is_open, is_clean, choice, loaded, last_first, quay, staying, discharged, has_rehandle, departed, departures}
+use Rattle.stow_data.proofs.Members.{range-more}
+use Rattle.greedy_loader.specs.Loader.{is_open, is_clean, choice, loaded, quay, staying, discharged, has_rehandle, departed, departures}
 use Rattle.greedy_loader.proofs.Ranges.{found_at}
+use Rattle.greedy_loader.proofs.Quays.{last_first}
 
 -- one more number passes the filter or not
 filter-append : {X : Type 0} (t : X → Bool) (xs ys : List X) → filter t (xs ++ ys) ≡ filter t xs ++ filter t ys
@@ -18,15 +20,10 @@ filter-append {X} t (x ∷ xs) ys = ⊎_elim
     (λ (e : t x ≡ false). cond-false (t x) _ _ e ∙ filter-append t xs ys ∙ ap (λ (zs : List X). zs ++ filter t ys) (sym (cond-false (t x) _ _ e)))
     (cases_Bool (t x))
 
-range-more : (a n : ℕ) → range_with_len a (suc n) ≡ range_with_len a n ++ (a + n) ∷ []
-range-more a zero = ap (λ (k : ℕ). k ∷ []) (let q : a ≡ a + 0 = omega arith in q)
-range-more a (suc n) = ap (λ (ks : List ℕ). a ∷ ks) (range-more (a + 1) n ∙ ap (λ (k : ℕ). range_with_len (a + 1) n ++ k ∷ []) (let q : a + 1 + n ≡ a + suc n = omega arith in q))
-
 filter-more : (t : ℕ → Bool) (n : ℕ) → filter t (range_with_len 0 (n + 1)) ≡ filter t (range_with_len 0 n) ++ cond (t n) (n ∷ []) []
 filter-more t n =
-    let s : n + 1 ≡ suc n = omega arith in
     let z : 0 + n ≡ n = omega arith in
-    ap (λ (k : ℕ). filter t (range_with_len 0 k)) s ∙ ap (filter t) (range-more 0 n ∙ ap (λ (k : ℕ). range_with_len 0 n ++ k ∷ []) z) ∙ filter-append t (range_with_len 0 n) (n ∷ [])
+    ap (filter t) (range-more 0 n ∙ ap (λ (k : ℕ). range_with_len 0 n ++ k ∷ []) z) ∙ filter-append t (range_with_len 0 n) (n ∷ [])
 
 pub kept_one : (t : ℕ → Bool) (n : ℕ) (front list new : List ℕ) → list ≡ front ++ filter t (range_with_len 0 n) → t n ≡ true → new ≡ list ++ n ∷ [] → new ≡ front ++ filter t (range_with_len 0 (n + 1))
 kept_one t n front list new e h m =

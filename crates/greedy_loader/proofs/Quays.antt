@@ -1,12 +1,29 @@
 -- What is on the quay at a call: what loads there, each container once.
 use Rattle.std.proofs.Common.{◌≡◌, ℕ, zero, suc, ◌+◌, ◌<◌, ◌≤◌, Bool, true, false, ◌&&◌, List, [], ◌∷◌, ◌++◌, length, refl, sym, ◌∙◌, ap, subst, arith, inl, inr, ⊎_elim}
-use Rattle.std.specs.Prelude.{◌==◌, filter, flat_map}
+use Rattle.std.specs.Prelude.{◌==◌, filter, flat_map, reverse}
 use Rattle.std.specs.List.{range_with_len}
 use Rattle.std.proofs.lemmas.Bool.{cases_Bool, cond-true, cond-false, and_parts, and_from, eqb-true, eq-eqb, cases_eq}
+use Rattle.std.proofs.lemmas.List.{reverse-append}
 use Rattle.stow_data.specs.Shipment.{Cargo}
-use Rattle.stow_data.proofs.Members.{Member, member_split, flat_at, flat_from, range_at, range_from}
+use Rattle.stow_data.proofs.Members.{Member, member_split, flat_at, flat_from, range_at, range_from, range-more}
 use Rattle.stow_data.specs.Plans.{container_at, container_numbers}
-use Rattle.greedy_loader.specs.Loader.{bound_for, last_first, quay}
+use Rattle.greedy_loader.specs.Loader.{bound_for, quay}
+
+-- the calls up to this one, the last first
+abbrev pub last_first : ℕ → List ℕ
+last_first zero = []
+last_first (suc n) = suc n ∷ last_first n
+
+reversed : (n : ℕ) → reverse (range_with_len 1 n) ≡ last_first n
+reversed zero = refl
+reversed (suc n) =
+    let last : 1 + n ≡ suc n = omega arith in
+    let more : suc n ≡ n + 1 = omega arith in
+    ap (λ (k : ℕ). reverse (range_with_len 1 k)) more ∙ ap reverse (range-more 1 n) ∙ reverse-append (range_with_len 1 n) ((1 + n) ∷ []) ∙ ap (λ (k : ℕ). k ∷ reverse (range_with_len 1 n)) last ∙ ap (λ (ks : List ℕ). suc n ∷ ks) (reversed n)
+
+pub quay_is : (cargo : Cargo) (call : ℕ) → quay cargo call ≡ flat_map (bound_for cargo call) (last_first (length cargo.rotation))
+unfolding quay
+quay_is cargo call = ap (flat_map (bound_for cargo call)) (reversed (length cargo.rotation))
 
 -- no item stands twice
 abbrev pub Distinct : List ℕ → Type 0
@@ -84,19 +101,16 @@ distinct_bound cargo call (suc n) = distinct_append (bound_for cargo call (suc n
     absurd (omega (arith, a.bound, b.bound, low)))
 
 pub quay_distinct : (cargo : Cargo) (call : ℕ) → Distinct (quay cargo call)
-unfolding quay
-quay_distinct cargo call = distinct_bound cargo call (length cargo.rotation)
+quay_distinct cargo call = subst Distinct (sym (quay_is cargo call)) (distinct_bound cargo call (length cargo.rotation))
 
 pub quay_at : (cargo : Cargo) (call c : ℕ) → Member c (quay cargo call) → (c < length cargo.containers) × ((container_at cargo c).load ≡ call)
-unfolding quay
 quay_at cargo call c m =
-    let f = flat_at (bound_for cargo call) (last_first (length cargo.rotation)) c m in
+    let f = flat_at (bound_for cargo call) (last_first (length cargo.rotation)) c (subst (λ (zs : List ℕ). Member c zs) (quay_is cargo call) m) in
     let b = bound_at cargo call f.0 c f.2 in
     (b.known, b.loads)
 
 pub quay_from : (cargo : Cargo) (call c : ℕ) → c < length cargo.containers → (container_at cargo c).load ≡ call → 1 ≤ (container_at cargo c).dest → (container_at cargo c).dest ≤ length cargo.rotation → Member c (quay cargo call)
-unfolding quay
-quay_from cargo call c known loads from to =
-    flat_from (bound_for cargo call) (last_first (length cargo.rotation)) (container_at cargo c).dest c (last_from _ _ from to)
+quay_from cargo call c known loads from to = subst (λ (zs : List ℕ). Member c zs) (sym (quay_is cargo call))
+    (flat_from (bound_for cargo call) (last_first (length cargo.rotation)) (container_at cargo c).dest c (last_from _ _ from to)
     (filter_from (λ (k : ℕ). ((container_at cargo k).load == call) && ((container_at cargo k).dest == (container_at cargo c).dest)) (container_numbers cargo) c
-    (range_from 0 (length cargo.containers) c (omega arith) (omega arith)) (and_from _ _ (eq-eqb _ _ loads) (eq-eqb _ _ refl)))
+    (range_from 0 (length cargo.containers) c (omega arith) (omega arith)) (and_from _ _ (eq-eqb _ _ loads) (eq-eqb _ _ refl))))

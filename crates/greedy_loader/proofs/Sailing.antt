@@ -1,11 +1,12 @@
 -- The loader's plans are legal departures, and none of its calls rehandles anything.
-use Rattle.std.proofs.Common.{◌≡◌, ℕ, zero, suc, ◌+◌, ◌-◌, ◌<◌, true, false, List, [], ◌∷◌, length, Some, None, refl, sym, ◌∙◌, ap, subst, arith, ⊎_elim}
-use Rattle.std.specs.Prelude.{slice_get}
+use Rattle.std.proofs.Common.{◌≡◌, ℕ, zero, suc, ◌+◌, ◌-◌, ◌<◌, true, false, List, [], ◌∷◌, length, Option, Some, None, refl, sym, ◌∙◌, ap, subst, arith, ⊎_elim}
+use Rattle.std.specs.Prelude.{slice_get, IfSome}
 use Rattle.std.proofs.lemmas.Bool.{cases_Bool, cases_eq, both_ways, cond-true, cond-false, and_from, eq-eqb, lt-ltb, eqb-false, ne_eqb}
 use Rattle.std.proofs.lemmas.Option.{none-some, same_Some, slice_get_within}
 use Rattle.stow_data.specs.declared.geometry.Cover.{Cover}
 use Rattle.stow_data.specs.declared.geometry.Place.{Place}
 use Rattle.stow_data.specs.Ship.{Ship, places}
+use Rattle.stow_data.specs.Profile.{IsShip}
 use Rattle.stow_data.specs.Shipment.{Cargo, IsShipped}
 use Rattle.stow_data.proofs.Members.{Member}
 use Rattle.stowage_rules.specs.Plan.{Holds}
@@ -24,6 +25,7 @@ use Rattle.greedy_loader.proofs.Loading.{and_then_parts}
 use Rattle.greedy_loader.proofs.Quays.{quay_at, quay_from, quay_distinct}
 use Rattle.greedy_loader.proofs.Sound.{IsSound, IsLoaded, Waits, loaded_is}
 use Rattle.greedy_loader.proofs.Leaving.{nothing_below, stayed_from, stays_there, discharged_sound}
+use Rattle.greedy_loader.proofs.Weights.{forty}
 use Rattle.greedy_loader.proofs.Stowed.{IsCarried, each_is, sound_departs, arrival_sound, arrival_carried, plain_arrival}
 
 -- a departure is that of a call without rehandles
@@ -113,37 +115,46 @@ pub record IsSailed (ship : Ship) (cargo : Cargo) (earlier left : ℕ) (before :
   pub none : RehandleNone ship cargo (suc earlier) before plans
   pub each : length plans ≡ left
 
-sails : (ship : Ship) (cargo : Cargo) (left earlier : ℕ) (before : Plan) (plans : List Plan) → IsPlainShip ship → IsPlainCargo ship cargo → IsSound ship cargo before → IsCarried cargo earlier before → departures ship cargo before (suc earlier) left ≡ Some plans → IsSailed ship cargo earlier left before plans
+sails : (ship : Ship) (cargo : Cargo) (left earlier : ℕ) (before : Plan) (plans : List Plan) → IsShip ship → IsPlainShip ship → IsPlainCargo ship cargo → IsSound ship cargo before → IsCarried cargo earlier before → departures ship cargo before (suc earlier) left ≡ Some plans → IsSailed ship cargo earlier left before plans
 unfolding departures
-sails ship cargo zero earlier before plans plain_ship plain sound carried h =
+sails ship cargo zero earlier before plans rules plain_ship plain sound carried h =
     let e : [] ≡ plans = same_Some [] plans h in
     subst (λ (z : List Plan). IsSailed ship cargo earlier zero before z) e (record { departs = tt; none = tt; each = refl })
-sails ship cargo (suc left) earlier before plans plain_ship plain sound carried h =
+sails ship cargo (suc left) earlier before plans rules plain_ship plain sound carried h =
     let first = and_then_parts (departed ship cargo before (suc earlier)) _ plans h in
     let rest = and_then_parts (departures ship cargo first.0 (suc earlier + 1) left) _ plans first.2 in
     let reached = departed_is ship cargo before (suc earlier) first.0 first.1 in
-    let l = loaded_is ship cargo (quay cargo (suc earlier)) (discharged cargo before (suc earlier)) first.0 plain_ship.each_long (discharged_sound ship cargo before (suc earlier) plain_ship.each_long sound reached.none) (quay_waits cargo earlier before carried) reached.filled in
+    let l = loaded_is ship cargo (quay cargo (suc earlier)) (discharged cargo before (suc earlier)) first.0 (forty ship plain_ship) (discharged_sound ship cargo before (suc earlier) (forty ship plain_ship) sound reached.none) (quay_waits cargo earlier before carried) reached.filled in
     let next = carried_on ship cargo earlier before first.0 plain sound carried l in
     let s : suc earlier + 1 ≡ suc (suc earlier) = omega arith in
-    let later = sails ship cargo left (suc earlier) first.0 rest.0 plain_ship plain l.sound next (ap (λ (k : ℕ). departures ship cargo first.0 k left) (sym s) ∙ rest.1) in
+    let later = sails ship cargo left (suc earlier) first.0 rest.0 rules plain_ship plain l.sound next (ap (λ (k : ℕ). departures ship cargo first.0 k left) (sym s) ∙ rest.1) in
     let e : first.0 ∷ rest.0 ≡ plans = same_Some (first.0 ∷ rest.0) plans rest.2 in
     subst (λ (z : List Plan). IsSailed ship cargo earlier (suc left) before z) e (record {
-      departs = (sound_departs ship cargo (suc earlier) first.0 plain_ship plain l.sound next, later.departs);
+      departs = (sound_departs ship cargo (suc earlier) first.0 rules plain_ship plain l.sound next, later.departs);
       none = (rehandles_none ship cargo (suc earlier) before first.0 plain_ship sound reached.none l, later.none);
       each = ap suc later.each;
     })
 
 -- The loader's plans on a plain ship are legal departures of calls 1 to N-1, and no call rehandles anything.
-pub load_is_legal : (ship : Ship) (cargo : Cargo) (plans : List Plan) → IsPlainShip ship → IsPlainCargo ship cargo → load ship cargo ≡ Some plans
+pub load_is_legal : (ship : Ship) (cargo : Cargo) (plans : List Plan) → IsShip ship → IsPlainShip ship → IsPlainCargo ship cargo → load ship cargo ≡ Some plans
     → AreDepartures ship cargo 1 plans × RehandleNone ship cargo 1 cargo.arrival plans × (length plans + 1 ≡ length cargo.rotation)
-load_is_legal ship cargo plans plain_ship plain h =
-    let r = sails ship cargo (length cargo.rotation - 1) 0 cargo.arrival plans plain_ship plain (arrival_sound ship cargo plain) (arrival_carried ship cargo plain) h in
+load_is_legal ship cargo plans rules plain_ship plain h =
+    let r = sails ship cargo (length cargo.rotation - 1) 0 cargo.arrival plans rules plain_ship plain (arrival_sound ship cargo plain) (arrival_carried ship cargo plain) h in
     let each = r.each in
     let calls = plain.rules.calls_from in
     (r.departs, r.none, omega (arith, each, calls))
 
 -- Their rehandle count is 0.
-pub load_has_count : (ship : Ship) (cargo : Cargo) (plans : List Plan) → IsPlainShip ship → IsPlainCargo ship cargo → load ship cargo ≡ Some plans → HasCount ship cargo plans 0
-load_has_count ship cargo plans plain_ship plain h =
-    let r = load_is_legal ship cargo plans plain_ship plain h in
-    none_count ship cargo plans plain_ship.rules plain.rules r.2 (plain_arrival ship cargo plain_ship plain) r.0 r.1
+pub load_has_count : (ship : Ship) (cargo : Cargo) (plans : List Plan) → IsShip ship → IsPlainShip ship → IsPlainCargo ship cargo → load ship cargo ≡ Some plans → HasCount ship cargo plans 0
+load_has_count ship cargo plans rules plain_ship plain h =
+    let r = load_is_legal ship cargo plans rules plain_ship plain h in
+    none_count ship cargo plans rules plain.rules r.2 (plain_arrival ship cargo plain_ship plain) r.0 r.1
+
+-- of the loader's answer
+pub plans_are_legal : (ship : Ship) (cargo : Cargo) (o : Option (List Plan)) → IsShip ship → IsPlainShip ship → IsPlainCargo ship cargo → o ≡ load ship cargo → IfSome o (AreDepartures ship cargo 1)
+plans_are_legal ship cargo None rules plain_ship plain h = tt
+plans_are_legal ship cargo (Some plans) rules plain_ship plain h = (load_is_legal ship cargo plans rules plain_ship plain (sym h)).0
+
+pub plans_have_count : (ship : Ship) (cargo : Cargo) (o : Option (List Plan)) → IsShip ship → IsPlainShip ship → IsPlainCargo ship cargo → o ≡ load ship cargo → IfSome o (λ plans. HasCount ship cargo plans 0)
+plans_have_count ship cargo None rules plain_ship plain h = tt
+plans_have_count ship cargo (Some plans) rules plain_ship plain h = load_has_count ship cargo plans rules plain_ship plain (sym h)

@@ -13,8 +13,8 @@ use Rattle.greedy_loader.specs.Plain.{IsForty}
 use Rattle.stow_data.specs.Plans.{Plan, container_at, held, place_numbers}
 use Rattle.greedy_loader.specs.Loader.{is_directly_below, is_open, is_clean, choice, loaded}
 use Rattle.greedy_loader.proofs.Columns.{tier_of, lower_place}
-use Rattle.greedy_loader.proofs.Ranges.{every_at, found_at}
-use Rattle.stow_data.proofs.PlanLookups.{held_is}
+use Rattle.greedy_loader.proofs.Ranges.{every_at, found_at, all_filter}
+use Rattle.stow_data.proofs.PlanLookups.{held_is, is_held}
 use Rattle.greedy_loader.proofs.Choosing.{directly_below}
 use Rattle.greedy_loader.proofs.Loading.{or_parts, and_then_parts, chosen_in}
 use Rattle.greedy_loader.proofs.Quays.{Distinct}
@@ -27,13 +27,8 @@ pub record IsSound (ship : Ship) (cargo : Cargo) (plan : Plan) : Type 0 where
   pub propped : (p c : ℕ) → Holds plan p c → 0 < tier_of ship p → (d : ℕ) × Holds plan (p - 1) d
 
 -- a place is filled where a look-up says so
-pub held_holds : (plan : Plan) (p c : ℕ) → held plan p ≡ Some c → Holds plan p c
-held_holds [] p c h = absurd (none-some c h)
-held_holds (o ∷ os) zero c h = ap (λ (z : Option ℕ). Some z) h
-held_holds (o ∷ os) (suc p) c h = held_holds os p c h
-
 pub some_holds : (plan : Plan) (p : ℕ) → is_some (held plan p) ≡ true → (c : ℕ) × Holds plan p c
-some_holds plan p h = let r = some_of (held plan p) h in (r.0, held_holds plan p r.0 r.1)
+some_holds plan p h = let r = some_of (held plan p) h in (r.0, is_held plan p r.0 r.1)
   where
     some_of : (o : Option ℕ) → is_some o ≡ true → (c : ℕ) × (o ≡ Some c)
     some_of None h = absurd cc
@@ -56,7 +51,7 @@ open_is ship plan p f l h =
       empty = empty_of (held plan p) b.0;
       over_filled = λ t.
           let low = lower_place ship p 1 f l (omega arith) in
-          let e = every_at (λ (q : ℕ). not (is_directly_below ship q p) || is_some (held plan q)) 0 (length (places ship)) (p - 1) b.1 (omega arith) (omega (arith, low.within)) in
+          let e = every_at (λ (q : ℕ). not (is_directly_below ship q p) || is_some (held plan q)) 0 (length (places ship)) (p - 1) (sym (all_filter _ _ (place_numbers ship)) ∙ b.1) (omega arith) (omega (arith, low.within)) in
           some_holds plan (p - 1) (⊎_elim
           (λ (x : not (is_directly_below ship (p - 1) p) ≡ true). absurd (both_ways _ (not_from_true _ (directly_below ship p f l t)) x))
           (λ (x : is_some (held plan (p - 1)) ≡ true). x)

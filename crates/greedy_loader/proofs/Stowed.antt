@@ -15,6 +15,7 @@ use Rattle.stow_data.specs.declared.geometry.Span.{Span}
 use Rattle.stow_data.specs.declared.geometry.Span.TheVariants.{Both}
 use Rattle.stow_data.specs.declared.cargoes.Container.{Container}
 use Rattle.stow_data.specs.Ship.{Ship, places, spans, TakesSide, HasLength}
+use Rattle.stow_data.specs.Profile.{IsShip}
 use Rattle.stow_data.specs.Shipment.{Cargo, IsAboard, IsShipped}
 use Rattle.stow_data.proofs.Listed.{place_from}
 use Rattle.stow_data.proofs.Members.{Member}
@@ -25,7 +26,7 @@ use Rattle.stow_data.specs.Plans.{Plan, place_at, container_at, no_container}
 use Rattle.stow_data.proofs.PlanLookups.{is_place, place_is, is_container, container_is}
 use Rattle.greedy_loader.proofs.Columns.{tier_of, stack_of, same_place, lower_place}
 use Rattle.greedy_loader.proofs.Sound.{IsSound}
-use Rattle.greedy_loader.proofs.Weights.{within_limits}
+use Rattle.greedy_loader.proofs.Weights.{forty, within_limits}
 
 -- what holds of all items holds of each
 pub each_is : {X : Type 0} (P : X → Type 0) (xs : List X) (k : ℕ) (x : X) → All P xs → slice_get xs k ≡ Some x → P x
@@ -109,10 +110,10 @@ sound_stowed ship cargo call plan f plain s carried = record {
       absurd (both_ways container.reefer dry reefer);
 }
 
-pub sound_departs : (ship : Ship) (cargo : Cargo) (call : ℕ) (plan : Plan) → IsPlainShip ship → IsPlainCargo ship cargo → IsSound ship cargo plan → IsCarried cargo call plan → IsDeparture ship cargo call plan
-sound_departs ship cargo call plan plain_ship plain s carried = record {
-  stowed = sound_stowed ship cargo call plan plain_ship.each_long plain s carried;
-  within = within_limits ship cargo plan plain_ship (λ p c h.
+pub sound_departs : (ship : Ship) (cargo : Cargo) (call : ℕ) (plan : Plan) → IsShip ship → IsPlainShip ship → IsPlainCargo ship cargo → IsSound ship cargo plan → IsCarried cargo call plan → IsDeparture ship cargo call plan
+sound_departs ship cargo call plan rules plain_ship plain s carried = record {
+  stowed = sound_stowed ship cargo call plan (forty ship plain_ship) plain s carried;
+  within = within_limits ship cargo plan rules plain_ship (λ p c h.
       let known = is_container cargo c (s.known p c h) in
       (container_at cargo c, known, (each_is (IsShipped (length cargo.rotation)) cargo.containers c (container_at cargo c) plain.rules.each_shipped known).kg_to));
   separated = λ e rule p q c d first second x y is a b f g. absurd (none-some rule (sym (ap (λ (z : List Separation). slice_get z e) plain_ship.no_separation) ∙ is));
@@ -145,4 +146,4 @@ arrival_carried ship cargo plain = record {
 }
 
 pub plain_arrival : (ship : Ship) (cargo : Cargo) → IsPlainShip ship → IsPlainCargo ship cargo → HasArrival ship cargo
-plain_arrival ship cargo plain_ship plain = sound_stowed ship cargo 0 cargo.arrival plain_ship.each_long plain (arrival_sound ship cargo plain) (arrival_carried ship cargo plain)
+plain_arrival ship cargo plain_ship plain = sound_stowed ship cargo 0 cargo.arrival (forty ship plain_ship) plain (arrival_sound ship cargo plain) (arrival_carried ship cargo plain)

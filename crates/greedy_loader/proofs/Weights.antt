@@ -15,10 +15,11 @@ use Rattle.stow_data.specs.declared.geometry.Span.{Span}
 use Rattle.stow_data.specs.declared.cargoes.Container.{Container}
 use Rattle.stow_data.specs.Kinds.{rounded}
 use Rattle.stow_data.specs.Ship.{Ship, places, spans, stack_places, tier_places}
+use Rattle.stow_data.specs.Profile.{IsShip}
 use Rattle.stow_data.specs.Shipment.{Cargo}
 use Rattle.stowage_rules.specs.Plan.{Holds}
 use Rattle.stowage_rules.specs.Departure.{weight_in, IsWithinLimits}
-use Rattle.greedy_loader.specs.Plain.{IsPlainShip, IsRoomy}
+use Rattle.greedy_loader.specs.Plain.{IsPlainShip, IsPlainStack, IsForty}
 use Rattle.stow_data.specs.Plans.{Plan}
 
 -- what each place of a stack may weigh
@@ -84,13 +85,16 @@ stacks_share most (x ∷ ss) a s zero stack f h e =
 stacks_share most (x ∷ ss) a s (suc k) stack f h e =
     omega (arith, sum_by-append (share most s) (stack_places (a, x)) (flat_map stack_places (enumerate_from (a + 1) ss)), other_share most a s 0 x.tiers x (f 0 x (omega arith)) (λ (q : a ≡ s). omega arith), stacks_share most ss (a + 1) s k stack (λ i d m. f (suc i) d (omega arith)) h (omega arith))
 
-pub within_limits : (ship : Ship) (cargo : Cargo) (plan : Plan) → IsPlainShip ship → ((p c : ℕ) → Holds plan p c → IsLight cargo c) → IsWithinLimits ship cargo plan
+pub forty : (ship : Ship) → IsPlainShip ship → IsForty ship
+forty ship plain k d l = (plain.each_stack k d l).long
+
+pub within_limits : (ship : Ship) (cargo : Cargo) (plan : Plan) → IsShip ship → IsPlainShip ship → ((p c : ℕ) → Holds plan p c → IsLight cargo c) → IsWithinLimits ship cargo plan
 unfolding places
-within_limits ship cargo plan plain light s stack is =
+within_limits ship cargo plan rules plain light s stack is =
     let most = rounded ship.weight_step 99999 in
     let l = slice_get_within ship.stacks s stack is in
-    let roomy : stack.tiers * most ≤ stack.limit_kg = subst (IsRoomy ship) (get_or_from_slice_get ship.stacks s stack stack is) (plain.each_roomy s stack l) in
+    let roomy : stack.tiers * most ≤ stack.limit_kg = (subst (IsPlainStack ship) (get_or_from_slice_get ship.stacks s stack stack is) (plain.each_stack s stack l)).roomy in
     let weights : sum_by (weight_in ship.weight_step cargo s) (zip (places ship) plan) ≤ sum_by (share most s) (places ship) =
-    weights_to (weight_in ship.weight_step cargo s) (share most s) (places ship) plan (λ p place o e. weight_to ship.weight_step cargo s place o plain.rules.step_from (λ c m. light p c (e ∙ ap (λ (z : Option ℕ). Some z) m))) in
-    let shares : sum_by (share most s) (places ship) ≤ stack.tiers * most = stacks_share most ship.stacks 0 s s stack plain.each_long is (omega arith) in
+    weights_to (weight_in ship.weight_step cargo s) (share most s) (places ship) plan (λ p place o e. weight_to ship.weight_step cargo s place o rules.step_from (λ c m. light p c (e ∙ ap (λ (z : Option ℕ). Some z) m))) in
+    let shares : sum_by (share most s) (places ship) ≤ stack.tiers * most = stacks_share most ship.stacks 0 s s stack (forty ship plain) is (omega arith) in
     omega (arith, weights, shares, roomy)

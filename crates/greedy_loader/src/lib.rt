@@ -8,4 +8,4 @@ pub use loader::load;
 pub use plain::{are_plain, is_plain_ship};
 
 #[cfg(test)]
-mod plain_tests;
+mod tests;

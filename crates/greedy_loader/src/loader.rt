@@ -1,10 +1,12 @@
 //! The loader on plain 40-foot stacks: at each call what leaves goes ashore, and what loads goes to the first place in which it lifts nothing later.
-ghost use Rattle.std.specs.Prelude.{◌≡◌, ◌<◌, ◌+◌, ◌++◌, ◌&&◌, ◌==◌, IfOk, OnOk, length};
+ghost use Rattle.std.specs.Prelude.{◌≡◌, ◌<◌, ◌+◌, ◌++◌, ◌&&◌, ◌==◌, IfOk, IfSome, OnOk, length};
 ghost use Rattle.std.specs.List.{find};
 ghost use Rattle.stow_data.specs.Ship.{places};
-ghost use Rattle.greedy_loader.specs.Plain.{IsForty};
-ghost use Rattle.greedy_loader.specs.Loader.{is_open, is_clean, is_lifted, is_rehandled, has_rehandle, leaves_at, leaves_before, staying, discharged, choice, loaded, departed, load, bound_for, quay};
-ghost use Rattle.stow_data.specs.Plans.{container_at, place_numbers};
+ghost use Rattle.stowage_rules.specs.Departure.{AreDepartures};
+ghost use Rattle.voyage_meaning.specs.Voyage.{HasCount};
+ghost use Rattle.greedy_loader.specs.Plain.{IsForty, IsPlainCargo, IsPlainShip};
+ghost use Rattle.greedy_loader.specs.Loader.{is_open, is_clean, must_be_lifted, must_be_rehandled, has_rehandle, leaves_at, leaves_before, staying, discharged, choice, loaded, departed, load, bound_for, quay};
+ghost use Rattle.stow_data.specs.Plans.{container_at, held, place_at, place_numbers};
 
 use std::alloc::Global;
 use stow_data::{CallNo, Cargo, ContainerNo, NoMemory, PlaceNo, Plan, PlanList, Seq, Ship};
@@ -20,21 +22,23 @@ fn dest_of(cargo: &Cargo, c: ContainerNo) -> CallNo
     }
 }
 
-/// Whether what stands there leaves at this call.
-fn leaves_at(cargo: &Cargo, call: CallNo, standing: Option<ContainerNo>) -> bool
-    ensures { result ≡ leaves_at cargo.now call standing }
+/// Whether what stands at a place leaves at this call.
+fn leaves_at(cargo: &Cargo, plan: &Plan, call: CallNo, p: PlaceNo) -> bool
+    requires { p < length plan.now }
+    ensures { result ≡ leaves_at cargo.now call (held plan.now p) }
 {
-    match standing {
+    match plan.at(p) {
         None => false,
         Some(c) => dest_of(cargo, c) == call,
     }
 }
 
-/// Whether what stands there leaves before this call.
-fn leaves_before(cargo: &Cargo, call: CallNo, standing: Option<ContainerNo>) -> bool
-    ensures { result ≡ leaves_before cargo.now call standing }
+/// Whether what stands at a place leaves before this call.
+fn leaves_before(cargo: &Cargo, plan: &Plan, call: CallNo, p: PlaceNo) -> bool
+    requires { p < length plan.now }
+    ensures { result ≡ leaves_before cargo.now call (held plan.now p) }
 {
-    match standing {
+    match plan.at(p) {
         None => false,
         Some(c) => dest_of(cargo, c).0 < call.0,
     }
@@ -54,20 +58,23 @@ fn is_open(ship: &Ship, plan: &Plan, p: PlaceNo) -> bool
     tier == 0 || plan.at(PlaceNo(p.0 - 1)).is_some()
 }
 
-/// Whether nothing lower in the stack of a place leaves before this call.
+/// The lowest place in the stack of a place. All between the two stand in this stack.
+fn lowest_of(ship: &Ship, p: PlaceNo) -> u32
+    requires forty { IsForty ship.now }
+    requires p_in { p < length (places ship.now) }
+    ensures { result + (place_at ship.now p).tier ≡ p }
+{
+    p.0 - ship.place(p).tier
+}
+
+/// Whether nothing below a place leaves before this call.
 fn is_clean(ship: &Ship, cargo: &Cargo, plan: &Plan, dest: CallNo, p: PlaceNo) -> bool
     requires forty { IsForty ship.now }
     requires whole { length plan.now ≡ length (places ship.now) }
     requires p_in { p < length (places ship.now) }
     ensures { result ≡ is_clean ship.now cargo.now plan.now dest p }
 {
-    let tier = ship.place(p).tier;
-    for lower in 0..tier {
-        if leaves_before(cargo, dest, plan.at(PlaceNo(p.0 - lower - 1))) {
-            return false;
-        }
-    }
-    true
+    !(lowest_of(ship, p)..p.0).any(|lower| leaves_before(cargo, plan, dest, PlaceNo(lower)))
 }
 
 /// Whether a place is open, and clean for this destination.
@@ -86,13 +93,8 @@ fn first_clean(ship: &Ship, cargo: &Cargo, plan: &Plan, dest: CallNo) -> Option<
     requires whole { length plan.now ≡ length (places ship.now) }
     ensures { result ≡ find (λ p. is_open ship.now plan.now p && is_clean ship.now cargo.now plan.now dest p) (place_numbers ship.now) }
 {
-    for number in 0..ship.places() {
-        let p = PlaceNo(number);
-        if is_open_and_clean(ship, cargo, plan, dest, p) {
-            return Some(p);
-        }
-    }
-    None
+    let found = (0..ship.places()).find(|number| is_open_and_clean(ship, cargo, plan, dest, PlaceNo(*number)));
+    Some(PlaceNo(found?))
 }
 
 /// The first open place.
@@ -101,13 +103,8 @@ fn first_open(ship: &Ship, plan: &Plan) -> Option<PlaceNo>
     requires whole { length plan.now ≡ length (places ship.now) }
     ensures { result ≡ find (λ p. is_open ship.now plan.now p) (place_numbers ship.now) }
 {
-    for number in 0..ship.places() {
-        let p = PlaceNo(number);
-        if is_open(ship, plan, p) {
-            return Some(p);
-        }
-    }
-    None
+    let found = (0..ship.places()).find(|number| is_open(ship, plan, PlaceNo(*number)));
+    Some(PlaceNo(found?))
 }
 
 /// Where a container for this destination goes.
@@ -116,10 +113,7 @@ fn choice(ship: &Ship, cargo: &Cargo, plan: &Plan, dest: CallNo) -> Option<Place
     requires whole { length plan.now ≡ length (places ship.now) }
     ensures { result ≡ choice ship.now cargo.now plan.now dest }
 {
-    match first_clean(ship, cargo, plan, dest) {
-        Some(p) => Some(p),
-        None => first_open(ship, plan),
-    }
+    first_clean(ship, cargo, plan, dest).or_else(|| first_open(ship, plan))
 }
 
 /// The plan after the containers of the quay went aboard one after the other; none where one finds no place.
@@ -175,48 +169,36 @@ fn quay_of(alloc: Global, cargo: &Cargo, call: CallNo) -> Result<Seq<ContainerNo
     Ok(list)
 }
 
-/// Whether something at a place or lower in its stack leaves at this call.
-fn is_lifted(ship: &Ship, cargo: &Cargo, plan: &Plan, call: CallNo, p: PlaceNo) -> bool
+/// Whether something in a place or below it leaves at this call.
+fn must_be_lifted(ship: &Ship, cargo: &Cargo, plan: &Plan, call: CallNo, p: PlaceNo) -> bool
     requires forty { IsForty ship.now }
     requires whole { length plan.now ≡ length (places ship.now) }
     requires p_in { p < length (places ship.now) }
-    ensures { result ≡ is_lifted ship.now cargo.now plan.now call p }
+    ensures { result ≡ must_be_lifted ship.now cargo.now plan.now call p }
 {
-    let tier = ship.place(p).tier;
-    for lower in 0..=tier {
-        if leaves_at(cargo, call, plan.at(PlaceNo(p.0 - lower))) {
-            return true;
-        }
-    }
-    false
+    leaves_at(cargo, plan, call, p)
+        || (lowest_of(ship, p)..p.0).any(|lower| leaves_at(cargo, plan, call, PlaceNo(lower)))
 }
 
-/// Whether what stands at a place is lifted at this call and doesn't leave there.
-fn is_rehandled(ship: &Ship, cargo: &Cargo, plan: &Plan, call: CallNo, p: PlaceNo) -> bool
+/// Whether a place must be lifted at this call, and what stands in it doesn't leave.
+fn must_be_rehandled(ship: &Ship, cargo: &Cargo, plan: &Plan, call: CallNo, p: PlaceNo) -> bool
     requires forty { IsForty ship.now }
     requires whole { length plan.now ≡ length (places ship.now) }
     requires p_in { p < length (places ship.now) }
-    ensures { result ≡ is_rehandled ship.now cargo.now plan.now call p }
+    ensures { result ≡ must_be_rehandled ship.now cargo.now plan.now call p }
 {
-    let standing = plan.at(p);
-    if standing.is_none() || leaves_at(cargo, call, standing) {
-        return false;
-    }
-    is_lifted(ship, cargo, plan, call, p)
+    plan.at(p).is_some()
+        && !leaves_at(cargo, plan, call, p)
+        && must_be_lifted(ship, cargo, plan, call, p)
 }
 
-/// Whether a container is lifted at this call and doesn't leave there.
+/// Whether a container must be rehandled at this call.
 fn has_rehandle(ship: &Ship, cargo: &Cargo, plan: &Plan, call: CallNo) -> bool
     requires forty { IsForty ship.now }
     requires whole { length plan.now ≡ length (places ship.now) }
     ensures { result ≡ has_rehandle ship.now cargo.now plan.now call }
 {
-    for number in 0..ship.places() {
-        if is_rehandled(ship, cargo, plan, call, PlaceNo(number)) {
-            return true;
-        }
-    }
-    false
+    (0..ship.places()).any(|number| must_be_rehandled(ship, cargo, plan, call, PlaceNo(number)))
 }
 
 /// What stays of what stands there.
@@ -248,7 +230,7 @@ fn discharge(ship: &Ship, cargo: &Cargo, before: Plan, call: CallNo) -> Plan
     plan
 }
 
-/// The departure of a call from the one before; none where a container is lifted away from its destination, or finds no place.
+/// The departure of a call from the one before; none where a container must be rehandled, or finds no place.
 fn departed(
     alloc: Global,
     ship: &Ship,
@@ -268,8 +250,8 @@ fn departed(
     Ok(load_quay(ship, cargo, staying, quay.as_slice()))
 }
 
-/// The departures of all calls but the last; none where a container is lifted away from its destination, or finds no place.
-pub fn load(alloc: Global, ship: &Ship, cargo: &Cargo) -> Result<Option<PlanList>, NoMemory>
+/// The departures of all calls but the last; none where something must be rehandled, or finds no place.
+fn plans_of(alloc: Global, ship: &Ship, cargo: &Cargo) -> Result<Option<PlanList>, NoMemory>
     requires forty { IsForty ship.now }
     requires whole { length cargo.now.arrival ≡ length (places ship.now) }
     ensures { IfOk result (λ plans. plans ≡ load ship.now cargo.now) }
@@ -286,4 +268,18 @@ pub fn load(alloc: Global, ship: &Ship, cargo: &Cargo) -> Result<Option<PlanList
         }
     }
     Ok(Some(plans))
+}
+
+/// The departures of calls 1 to N-1 by the loader's rule; none where a container must be rehandled, or
+/// finds no place. They are legal departures, and the least rehandle count of a legal voyage with them is 0.
+/// For now the loader serves plain ships and plain cargoes alone.
+pub fn load(alloc: Global, ship: &Ship, cargo: &Cargo) -> Result<Option<PlanList>, NoMemory>
+    requires ship { IsPlainShip ship.now }
+    requires cargo { IsPlainCargo ship.now cargo.now }
+    ensures rule { IfOk result (λ plans. plans ≡ load ship.now cargo.now) }
+    ensures legal { IfOk result (λ plans. IfSome plans (AreDepartures ship.now cargo.now 1)) }
+    ensures count { IfOk result (λ plans. IfSome plans (λ departures. HasCount ship.now cargo.now departures 0)) }
+{
+    let _places = ship.places();
+    plans_of(alloc, ship, cargo)
 }

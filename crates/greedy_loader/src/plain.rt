@@ -1,8 +1,8 @@
 //! Plain ships and plain bookings.
-ghost use Rattle.std.specs.Prelude.{◌↔◌, ◌≡◌, ◌≤◌, All, IsTrue};
+ghost use Rattle.std.specs.Prelude.{◌↔◌, ◌≡◌, ◌*◌, ◌≤◌, false, All, IsTrue};
 ghost use Rattle.stow_data.specs.Kinds.{rounded};
 ghost use Rattle.stow_data.specs.Profile.{IsShip};
-ghost use Rattle.greedy_loader.specs.Plain.{HasNoPlug, IsPlainShip, IsRoomy, ArePlain, IsPlainBooking, IsPlainStack};
+ghost use Rattle.greedy_loader.specs.Plain.{IsPlainShip, ArePlain, IsPlainBooking, IsPlainStack};
 
 use bookings::{Booking, Bookings};
 use stow_data::{Length, Lengths, Ship, Stack, StackNo};
@@ -18,7 +18,7 @@ fn heaviest(step: u32) -> u32
 
 /// Whether none of a stack's places has a reefer plug.
 fn has_no_plug(stack: &Stack) -> bool
-    ensures { IsTrue result ↔ HasNoPlug stack.now }
+    ensures { IsTrue result ↔ All (λ plug. plug ≡ false) stack.now.plugs }
 {
     stack.plugs.as_slice().iter().all(|plug| !*plug)
 }
@@ -26,7 +26,7 @@ fn has_no_plug(stack: &Stack) -> bool
 /// Whether the heaviest containers in all tiers of a stack stay within its limit.
 fn is_roomy(ship: &Ship, stack: &Stack) -> bool
     requires { IsShip ship.now }
-    ensures { IsTrue result ↔ IsRoomy ship.now stack.now }
+    ensures { IsTrue result ↔ stack.now.tiers * rounded ship.now.weight_step 99999 ≤ stack.now.limit_kg }
 {
     let most = heaviest(ship.weight_step());
     stack.tiers as u64 * most as u64 <= stack.limit_kg as u64
@@ -53,9 +53,9 @@ fn has_plain_stacks(ship: &Ship) -> bool
 
 /// Whether a ship is plain: 40-foot stacks alone, whose limits no weight reaches, without reefer plugs, hatch covers and separations.
 pub fn is_plain_ship(ship: &Ship) -> bool
-    requires { IsShip ship.now }
     ensures { IsTrue result ↔ IsPlainShip ship.now }
 {
+    let _places = ship.places();
     ship.covers() == 0 && ship.separations() == 0 && has_plain_stacks(ship)
 }
 

@@ -9,10 +9,9 @@ use Rattle.stow_data.specs.Shipment.{Cargo}
 use Rattle.stow_data.specs.Plans.{Plan, container_at, held}
 use Rattle.stow_data.proofs.PlanLookups.{container_is}
 use Rattle.bookings.specs.declared.shipment.Bookings.{Bookings}
-use Rattle.plan_files.specs.DepartureFile.{Group, group_of, group_at}
+use Rattle.plan_files.specs.DepartureFile.{Group, group_of, group_at, cell_group_of}
 use Rattle.plan_files.proofs.Composing.{groups_below, groups_more}
 use Rattle.baplie_model.specs.declared.parts.CellGroup.{CellGroup}
-use Rattle.plan_files.specs.Departure.{cell_group_of}
 
 module _ (ship : Ship) (cargo : Cargo) (bookings : Bookings) (plan : Plan) (n : ℕ) where
   -- a container stands at the next place

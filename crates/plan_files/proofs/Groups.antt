@@ -10,9 +10,9 @@ use Rattle.baplie_model.specs.Groups.{cell_group, cell_in, class_from, class_in,
 use Rattle.baplie_model.specs.Segments.{closes, element, is_container, is_cooled, is_one, names_port, opens}
 use Rattle.baplie_model.specs.Texts.{cell_of, long_of}
 use Rattle.baplie_model.specs.declared.parts.CellGroup.{CellGroup}
-use Rattle.plan_files.specs.DepartureFile.{Group, loc, cell_text, cell_segment, mea, tmp, temperature_segments, rff, eqd, dgs, goods_segments, group_segments}
+use Rattle.plan_files.specs.DepartureFile.{Group, group_segments, cell_group_of}
+use Rattle.plan_files.specs.DepartureSegments.{loc, cell_text, cell_segment, mea, tmp, temperature_segments, rff, eqd, dgs, goods_segments}
 use Rattle.baplie_write.proofs.Scans.{neither, any-append}
-use Rattle.plan_files.specs.Departure.{cell_group_of}
 use Rattle.plan_files.proofs.Known.{cell-known, weight-known}
 use Rattle.plan_files.proofs.Quiet.{IsBookedGroup, AllBooked, not_long, parts}
 use Rattle.plan_files.proofs.Texts.{IsText}

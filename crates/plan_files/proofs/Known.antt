@@ -6,7 +6,7 @@ use Rattle.std.proofs.lemmas.Fmt.{digits_decimal}
 use Rattle.std.specs.Fmt.{decimal}
 use Rattle.std.specs.List.{list_all, position_or_len}
 use Rattle.baplie_model.specs.Texts.{is_digit, digit_of, cell_of, is_mark, number_of, read_at, at_most, weight_of}
-use Rattle.plan_files.specs.DepartureFile.{digit, cell_text}
+use Rattle.plan_files.specs.DepartureSegments.{digit, cell_text}
 use Rattle.baplie_write.proofs.Counts.{both, numerals, number_of-decimal}
 
 digit_is : (n : ℕ) → is_digit (digit n) ≡ true

@@ -2,7 +2,7 @@
 use Rattle.std.proofs.Common.{◌≡◌, ℕ, suc, ◌+◌, ◌-◌, ◌≤◌, ◌<◌, true, List, [], ◌∷◌, ◌++◌, length, length-append, Option, Some, None, refl, sym, ap, subst, arith}
 use Rattle.std.proofs.lemmas.List.Elements.{All-get_or}
 use Rattle.std.proofs.lemmas.Option.{get_or_from_slice_get, slice_get_within}
-use Rattle.std.specs.Prelude.{slice_get, slice_index_or, IfSome, IsTrue}
+use Rattle.std.specs.Prelude.{slice_get, slice_index_or, All, IfSome, IsTrue}
 use Rattle.std.specs.List.{flat_map, range_with_len, enumerate_from}
 use Rattle.stow_data.specs.declared.geometry.Length.{Length}
 use Rattle.stow_data.specs.declared.geometry.Span.{Span}
@@ -22,10 +22,9 @@ use Rattle.toml_values.specs.Values.{is_code}
 use Rattle.bookings.specs.Reading.{length_of}
 use Rattle.bookings.specs.Rules.{IsBooking, IsBookings}
 use Rattle.bookings.specs.BookedCargo.{booked_cargo, container_of}
-use Rattle.plan_files.specs.DepartureFile.{Group, no_booking, port_of, number_at, booking_of, group_of, group_at, groups}
+use Rattle.plan_files.specs.DepartureFile.{Group, IsBooked, no_booking, port_of, number_at, booking_of, group_of, group_at, groups, message_of}
 use Rattle.baplie_model.specs.Texts.{long_of}
 use Rattle.baplie_write.specs.Whole.{IsWhole}
-use Rattle.plan_files.specs.Departure.{message_of}
 use Rattle.plan_files.proofs.Departures.{IsBookedHead, is_whole}
 use Rattle.plan_files.proofs.Quiet.{IsBookedGroup, AllBooked}
 use Rattle.plan_files.proofs.Texts.{IsText, code_text, name_text, class_text, date_text}
@@ -71,6 +70,14 @@ booked ship bookings c b h =
       is_booking = found;
       rules = subst Q (get_or_from_slice_get bookings.containers m.0.0 m.0.1 no_booking found) (All-get_or (IsBooking (length bookings.rotation)) bookings.containers m.0.0 no_booking (slice_get_within bookings.containers m.0.0 m.0.1 found) b.each_booking);
     }
+
+-- every container of the cargo is booked
+pub all_booked : (ship : Ship) (bookings : Bookings) → IsBookings bookings → All (λ c. IsBooked bookings c.origin) (booked_cargo ship bookings).containers
+all_booked ship bookings b k d h =
+    let by = booked ship bookings k b h in
+    let P : Container → Type 0 = λ x. IsBooked bookings x.origin in
+    let at = get_or_from_slice_get (booked_cargo ship bookings).containers k (container_at (booked_cargo ship bookings) k) d (is_container (booked_cargo ship bookings) k h) in
+    subst P (sym at) (subst P (sym by.container) (slice_get_within bookings.containers by.index by.booking by.is_booking))
 
 -- the length by a type
 long-is : (t : List ℕ) (o : Option Length) → 0 < length t → length_of t ≡ o → long_of t ≡ o

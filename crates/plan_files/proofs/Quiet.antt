@@ -13,7 +13,8 @@ use Rattle.baplie_model.specs.Finding.{scan, group_causes, group_cause, groups_f
 use Rattle.baplie_model.specs.Groups.{is_long, lacks, prior, shows}
 use Rattle.baplie_model.specs.Segments.{is_container, is_danger, names_port}
 use Rattle.baplie_model.specs.Texts.{long_of}
-use Rattle.plan_files.specs.DepartureFile.{Group, loc, cell_segment, mea, tmp, temperature_segments, rff, eqd, dgs, goods_segments, group_segments}
+use Rattle.plan_files.specs.DepartureFile.{Group, group_segments}
+use Rattle.plan_files.specs.DepartureSegments.{loc, cell_segment, mea, tmp, temperature_segments, rff, eqd, dgs, goods_segments}
 use Rattle.baplie_write.proofs.Scans.{scan-cons}
 use Rattle.plan_files.proofs.Known.{cell-known, weight-known}
 use Rattle.plan_files.proofs.Texts.{IsText}

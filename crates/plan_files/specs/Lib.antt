@@ -1,3 +1,3 @@
 pub mod Shown
+pub mod DepartureSegments
 pub mod DepartureFile
-pub mod Departure

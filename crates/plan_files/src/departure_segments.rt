@@ -1,13 +1,12 @@
-//! The segments of the departure file of a call (ISO 9735, SMDG BAPLIE 2.2).
-ghost use Rattle.std.specs.Prelude.{◌≡◌, ◌<◌, ◌++◌, ◌∷◌, [], IfOk, OnOk, length, map, option_map, unwrap_or};
-ghost use Rattle.stow_data.specs.Ship.{places};
-ghost use Rattle.plan_files.specs.DepartureFile.{unb, unh, bgm, dtm, tdt, loc, cell_segment, weight_code, mea, tmp, temperature_segments, rff, fullness, eqd, dgs, goods_segments, digit, group_segments, booked_group, number_at, booking_of, no_booking, port_of};
+//! The segments of departure files (ISO 9735, SMDG BAPLIE 2.2).
+ghost use Rattle.std.specs.Prelude.{◌≡◌, ◌++◌, ◌∷◌, [], IfOk, OnOk, length, map};
+ghost use Rattle.plan_files.specs.DepartureSegments.{unb, unh, bgm, dtm, tdt, loc, cell_segment, weight_code, mea, tmp, temperature_segments, rff, fullness, eqd, dgs, goods_segments, digit};
 
-use bookings::{Booking, Bookings};
+use bookings::Bookings;
 use edifact_segments::{ElementList, Segment, SegmentList};
 use itoa::Buffer;
 use std::alloc::Global;
-use stow_data::{CallNo, Cargo, Container, Length, Name, NoMemory, Origin, PlaceNo, Ship};
+use stow_data::{Name, NoMemory};
 
 /// Appends an element of these components.
 fn compose(elements: &mut ElementList, components: &[&[u8]]) -> Result<(), NoMemory>
@@ -21,7 +20,7 @@ fn compose(elements: &mut ElementList, components: &[&[u8]]) -> Result<(), NoMem
 }
 
 /// UNB+UNOA:2+sender+recipient+YYMMDD:HHMM+call
-#[tactic(auto, unfolding(crate::specs::DepartureFile::unb))]
+#[tactic(auto, unfolding(crate::specs::DepartureSegments::unb))]
 pub fn unb(alloc: Global, bookings: &Bookings, call: u32) -> Result<Segment, NoMemory>
     requires { length bookings.now.date ≡ 10 }
     ensures { IfOk result (λ s. s ≡ unb bookings.now call) }
@@ -39,7 +38,7 @@ pub fn unb(alloc: Global, bookings: &Bookings, call: u32) -> Result<Segment, NoM
 }
 
 /// UNH+1+BAPLIE:D:95B:UN:SMDG22
-#[tactic(auto, unfolding(crate::specs::DepartureFile::unh))]
+#[tactic(auto, unfolding(crate::specs::DepartureSegments::unh))]
 pub fn unh(alloc: Global) -> Result<Segment, NoMemory>
     ensures { IfOk result (λ s. s ≡ unh) }
 {
@@ -53,7 +52,7 @@ pub fn unh(alloc: Global) -> Result<Segment, NoMemory>
 }
 
 /// BGM++call+9
-#[tactic(auto, unfolding(crate::specs::DepartureFile::bgm))]
+#[tactic(auto, unfolding(crate::specs::DepartureSegments::bgm))]
 pub fn bgm(alloc: Global, call: u32) -> Result<Segment, NoMemory>
     ensures { IfOk result (λ s. s ≡ bgm call) }
 {
@@ -67,7 +66,7 @@ pub fn bgm(alloc: Global, call: u32) -> Result<Segment, NoMemory>
 }
 
 /// DTM+qualifier:date:201
-#[tactic(auto, unfolding(crate::specs::DepartureFile::dtm))]
+#[tactic(auto, unfolding(crate::specs::DepartureSegments::dtm))]
 pub fn dtm(alloc: Global, qualifier: &[u8], date: &[u8]) -> Result<Segment, NoMemory>
     ensures { IfOk result (λ s. s ≡ dtm qualifier.now date.now) }
 {
@@ -77,7 +76,7 @@ pub fn dtm(alloc: Global, qualifier: &[u8], date: &[u8]) -> Result<Segment, NoMe
 }
 
 /// TDT+20+voyage++++++:::vessel
-#[tactic(auto, unfolding(crate::specs::DepartureFile::tdt))]
+#[tactic(auto, unfolding(crate::specs::DepartureSegments::tdt))]
 pub fn tdt(alloc: Global, voyage: &[u8], vessel: &[u8]) -> Result<Segment, NoMemory>
     ensures { IfOk result (λ s. s ≡ tdt voyage.now vessel.now) }
 {
@@ -94,7 +93,7 @@ pub fn tdt(alloc: Global, voyage: &[u8], vessel: &[u8]) -> Result<Segment, NoMem
 }
 
 /// LOC+qualifier+port:139:6
-#[tactic(auto, unfolding(crate::specs::DepartureFile::loc))]
+#[tactic(auto, unfolding(crate::specs::DepartureSegments::loc))]
 pub fn loc(alloc: Global, qualifier: &[u8], port: &[u8]) -> Result<Segment, NoMemory>
     ensures { IfOk result (λ s. s ≡ loc qualifier.now port.now) }
 {
@@ -112,8 +111,8 @@ fn digit(n: u32) -> u8
 }
 
 /// LOC+147+BBBRRTT::5
-#[tactic(auto, unfolding(crate::specs::DepartureFile::cell_segment))]
-fn cell_segment(alloc: Global, bay: u32, row: u32, tier: u32) -> Result<Segment, NoMemory>
+#[tactic(auto, unfolding(crate::specs::DepartureSegments::cell_segment))]
+pub fn cell_segment(alloc: Global, bay: u32, row: u32, tier: u32) -> Result<Segment, NoMemory>
     ensures { IfOk result (λ s. s ≡ cell_segment (bay, row, tier)) }
 {
     let cell = [
@@ -139,8 +138,8 @@ fn weight_code(vgm: bool) -> &'static [u8]
 }
 
 /// MEA+VGM++KGM:kg where the weight is verified, else MEA+WT++KGM:kg
-#[tactic(auto, unfolding(crate::specs::DepartureFile::mea))]
-fn mea(alloc: Global, vgm: bool, kg: u32) -> Result<Segment, NoMemory>
+#[tactic(auto, unfolding(crate::specs::DepartureSegments::mea))]
+pub fn mea(alloc: Global, vgm: bool, kg: u32) -> Result<Segment, NoMemory>
     ensures { IfOk result (λ s. s ≡ mea vgm kg) }
 {
     let mut segment = Segment::new(alloc, *b"MEA");
@@ -154,7 +153,7 @@ fn mea(alloc: Global, vgm: bool, kg: u32) -> Result<Segment, NoMemory>
 }
 
 /// TMP+2+temperature:CEL, in degrees Celsius
-#[tactic(auto, unfolding(crate::specs::DepartureFile::tmp))]
+#[tactic(auto, unfolding(crate::specs::DepartureSegments::tmp))]
 fn tmp(alloc: Global, temperature: i32) -> Result<Segment, NoMemory>
     ensures { IfOk result (λ s. s ≡ tmp temperature) }
 {
@@ -168,7 +167,7 @@ fn tmp(alloc: Global, temperature: i32) -> Result<Segment, NoMemory>
 }
 
 /// Appends the temperature of a reefer. The list stays as it was for other containers.
-fn push_temperature(
+pub fn push_temperature(
     list: &mut SegmentList,
     alloc: Global,
     temperature: Option<i32>,
@@ -182,8 +181,8 @@ fn push_temperature(
 }
 
 /// RFF+BM:1
-#[tactic(auto, unfolding(crate::specs::DepartureFile::rff))]
-fn rff(alloc: Global) -> Result<Segment, NoMemory>
+#[tactic(auto, unfolding(crate::specs::DepartureSegments::rff))]
+pub fn rff(alloc: Global) -> Result<Segment, NoMemory>
     ensures { IfOk result (λ s. s ≡ rff) }
 {
     let mut segment = Segment::new(alloc, *b"RFF");
@@ -199,8 +198,8 @@ fn fullness(empty: bool) -> &'static [u8]
 }
 
 /// EQD+CN+id+type+++4 where the container is empty, else EQD+CN+id+type+++5
-#[tactic(auto, unfolding(crate::specs::DepartureFile::eqd))]
-fn eqd(alloc: Global, id: &[u8], iso: &[u8], empty: bool) -> Result<Segment, NoMemory>
+#[tactic(auto, unfolding(crate::specs::DepartureSegments::eqd))]
+pub fn eqd(alloc: Global, id: &[u8], iso: &[u8], empty: bool) -> Result<Segment, NoMemory>
     ensures { IfOk result (λ s. s ≡ eqd id.now iso.now empty) }
 {
     let mut segment = Segment::new(alloc, *b"EQD");
@@ -214,7 +213,7 @@ fn eqd(alloc: Global, id: &[u8], iso: &[u8], empty: bool) -> Result<Segment, NoM
 }
 
 /// DGS+IMD+class+unno, the number in four digits, or DGS+IMD+class where it is 0
-#[tactic(auto, unfolding(crate::specs::DepartureFile::dgs))]
+#[tactic(auto, unfolding(crate::specs::DepartureSegments::dgs))]
 fn dgs(alloc: Global, class: &[u8], unno: u32) -> Result<Segment, NoMemory>
     ensures { IfOk result (λ s. s ≡ dgs class.now unno) }
 {
@@ -235,7 +234,7 @@ fn dgs(alloc: Global, class: &[u8], unno: u32) -> Result<Segment, NoMemory>
 }
 
 /// Appends the class and number of dangerous goods. The list stays as it was where there is no class.
-fn push_goods(
+pub fn push_goods(
     list: &mut SegmentList,
     alloc: Global,
     class: &Option<Name>,
@@ -247,85 +246,4 @@ fn push_goods(
         list.push(dgs(alloc, class.bytes(), unno)?)?;
     }
     Ok(())
-}
-
-/// The port of a call, counted from 1.
-pub fn port_of(cargo: &Cargo, call: u32) -> Name
-    ensures { result ≡ port_of cargo.now call }
-{
-    let call = call.max(1);
-    if call <= cargo.calls() {
-        cargo.port(CallNo(call))
-    } else {
-        Name::of(b"")
-    }
-}
-
-/// What stands for the booking of a container that no booking names.
-pub fn no_booking() -> Booking
-    ensures { result ≡ no_booking }
-{
-    Booking {
-        id: Name::of(b""),
-        load: CallNo(0),
-        dest: CallNo(0),
-        iso: Name::of(b""),
-        long: Length::Forty,
-        kg: 0,
-        vgm: false,
-        empty: false,
-        temperature: None,
-        class: None,
-        unno: 0,
-    }
-}
-
-/// The booking that a container comes from: none where it arrived, or where there are fewer bookings.
-pub fn booking_of(bookings: &Bookings, origin: Origin) -> Option<&Booking>
-    ensures { unwrap_or (option_map (λ b. b.now) result) no_booking ≡ booking_of bookings.now origin }
-{
-    match origin {
-        Origin::Booked(index) if (index as usize) < bookings.containers.len() => {
-            Some(bookings.containers.at(index as usize))
-        }
-        _ => None,
-    }
-}
-
-/// Bay, row and tier number of a place.
-pub fn number_at(ship: &Ship, p: PlaceNo) -> (u32, u32, u32)
-    requires { p < length (places ship.now) }
-    ensures { result ≡ number_at ship.now p }
-{
-    ship.number_of_place(p)
-}
-
-/// The segments of a container of this booking in its cell.
-pub fn group(
-    alloc: Global,
-    ship: &Ship,
-    cargo: &Cargo,
-    booking: &Booking,
-    p: PlaceNo,
-    container: &Container,
-) -> Result<SegmentList, NoMemory>
-    requires { p < length (places ship.now) }
-    ensures { IfOk result (λ list. list ≡ group_segments (booked_group ship.now cargo.now booking.now p container.now)) }
-{
-    let (bay, row, tier) = number_at(ship, p);
-    let mut list = SegmentList::new(alloc);
-    list.push(cell_segment(alloc, bay, row, tier)?)?;
-    list.push(mea(alloc, booking.vgm, container.kg)?)?;
-    push_temperature(&mut list, alloc, booking.temperature)?;
-    list.push(loc(alloc, b"9", port_of(cargo, container.load.0).bytes())?)?;
-    list.push(loc(alloc, b"11", port_of(cargo, container.dest.0).bytes())?)?;
-    list.push(rff(alloc)?)?;
-    list.push(eqd(
-        alloc,
-        container.id.bytes(),
-        booking.iso.bytes(),
-        booking.empty,
-    )?)?;
-    push_goods(&mut list, alloc, &booking.class, booking.unno)?;
-    Ok(list)
 }

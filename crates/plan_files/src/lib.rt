@@ -1,9 +1,10 @@
-//! The departure file of a call: its segments, its message and its text (ISO 9735, SMDG BAPLIE 2.2).
+//! The departure file of a call, as a message and as its text (ISO 9735, SMDG BAPLIE 2.2).
 #![tactic(auto)]
 
+mod cell_groups;
+mod departure_file;
 mod departure_segments;
-mod law;
-mod messages;
+mod laws;
 
-pub use law::departure_reads;
-pub use messages::departure_text;
+pub use departure_file::{departure_message, departure_text};
+pub use laws::departure_reads;

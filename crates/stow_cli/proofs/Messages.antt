@@ -8,9 +8,8 @@ use Rattle.stow_data.specs.Plans.{Plan, IsKnown}
 use Rattle.bookings.specs.declared.shipment.Bookings.{Bookings}
 use Rattle.bookings.specs.Rules.{IsBookings}
 use Rattle.bookings.specs.BookedCargo.{booked_cargo}
-use Rattle.plan_files.specs.DepartureFile.{Group, cells, groups}
+use Rattle.plan_files.specs.DepartureFile.{Group, cells, groups, cell_group_of, message_of}
 use Rattle.baplie_model.specs.declared.parts.Message.{Message}
-use Rattle.plan_files.specs.Departure.{cell_group_of, message_of}
 use Rattle.plan_files.proofs.Departures.{reads_as}
 use Rattle.plan_files.proofs.Planned.{plan_whole}
 use Rattle.stow_cli.specs.Work.{files_of}

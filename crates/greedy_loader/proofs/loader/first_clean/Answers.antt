@@ -1,15 +1,18 @@
-use Rattle.std.proofs.Common.{sym, ◌∙◌, arith, length, ◌&&◌}
+use Rattle.std.proofs.Common.{◌&&◌, ℕ, Some, None, true, false, ◌≡◌, ◌∙◌, length, rules}
+use Rattle.std.proofs.lemmas.Iterator.{first_from_Range}
 use Rattle.stow_data.specs.Ship.{places}
 use Rattle.greedy_loader.specs.Loader.{is_open, is_clean}
-use Rattle.greedy_loader.proofs.Ranges.{find_here, find_none}
+use Rattle.greedy_loader.proofs.Ranges.{find_is}
 use Rattle.greedy_loader.proofs.loader.first_clean.Goals as goal
 
-pub returns-then-is_open_and_clean : goal.returns-then-is_open_and_clean
-returns-then-is_open_and_clean c =
-    let number = c.places-number-end.ensures.number in
-    sym (find_here (λ p. is_open c.args.ship.now c.args.plan.now p && is_clean c.args.ship.now c.args.cargo.now c.args.plan.now c.args.dest p) 0 (length (places c.args.ship.now)) c.loop-number.number (λ k i l. c.loop-number.invariant k l) (omega arith) (omega (arith, c.loop-number-test.true)) (sym c.is_open_and_clean.ensures ∙ c.if-is_open_and_clean.true))
+pub returns-in_err-found : goal.returns-in_err-found
+returns-in_err-found c =
+    let t = λ (p : ℕ). is_open c.args.ship.now c.args.plan.now p && is_clean c.args.ship.now c.args.cargo.now c.args.plan.now c.args.dest p in
+    c.from_residual.ensures ∙ find_is t (length (places c.args.ship.now)) c.places.result None c.places.ensures.number
+    (first_from_Range _ _ _ None (λ (k : ℕ). t k ≡ true) (λ (k : ℕ). t k ≡ false) c.in_err-found.ensures.ran (λ x q k. search rules) (λ x q k. search rules))
 
 pub returns : goal.returns
 returns c =
-    let number = c.places-number-end.ensures.number in
-    sym (find_none (λ p. is_open c.args.ship.now c.args.plan.now p && is_clean c.args.ship.now c.args.cargo.now c.args.plan.now c.args.dest p) 0 (length (places c.args.ship.now)) (λ k i l. c.loop-number.invariant k (omega (arith, c.loop-number-test.false))))
+    let t = λ (p : ℕ). is_open c.args.ship.now c.args.plan.now p && is_clean c.args.ship.now c.args.cargo.now c.args.plan.now c.args.dest p in
+    find_is t (length (places c.args.ship.now)) c.places.result (Some c.in_ok-found.field-0) c.places.ensures.number
+    (first_from_Range _ _ _ (Some c.in_ok-found.field-0) (λ (k : ℕ). t k ≡ true) (λ (k : ℕ). t k ≡ false) c.in_ok-found.ensures.ran (λ x q k. search rules) (λ x q k. search rules))

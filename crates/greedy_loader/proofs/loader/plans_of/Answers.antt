@@ -1,7 +1,7 @@
 use Rattle.std.proofs.Common.{◌≡◌, ◌-◌, ap, sym, ◌∙◌, arith, length, None, Some}
 use Rattle.greedy_loader.specs.Loader.{departed, departures}
 use Rattle.greedy_loader.proofs.Loading.{sails_on, sails_not, sailed, sets_out, departed_long}
-use Rattle.greedy_loader.proofs.loader.load.Goals as goal
+use Rattle.greedy_loader.proofs.loader.plans_of.Goals as goal
 
 pub loop-call-init : goal.loop-call-init
 loop-call-init c =

@@ -2,7 +2,7 @@ use Rattle.std.proofs.Common.{◌≡◌, ◌++◌, ◌-◌, length}
 use Rattle.std.specs.Prelude.{option_map}
 use Rattle.stow_data.specs.Ship.{places}
 use Rattle.greedy_loader.specs.Loader.{departures}
-use Rattle.greedy_loader.proofs.loader.load.Given as goal
+use Rattle.greedy_loader.proofs.loader.plans_of.Given as goal
 
 abbrev pub invariant-loop-call : goal.invariant-loop-call
 invariant-loop-call l = record {

@@ -1,6 +1,7 @@
 use Rattle.std.proofs.Common.{◌≡◌, ◌++◌, length}
 use Rattle.std.specs.Prelude.{flat_map}
-use Rattle.greedy_loader.specs.Loader.{bound_for, last_first}
+use Rattle.greedy_loader.specs.Loader.{bound_for}
+use Rattle.greedy_loader.proofs.Quays.{last_first}
 use Rattle.greedy_loader.proofs.loader.quay_of.Given as goal
 
 abbrev pub invariant-loop-dest : goal.invariant-loop-dest

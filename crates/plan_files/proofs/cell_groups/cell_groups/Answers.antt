@@ -1,11 +1,18 @@
-use Rattle.std.proofs.Common.{◌≡◌, ℕ, Some, map, length, ap, ◌∙◌, arith}
+use Rattle.std.proofs.Common.{◌≡◌, ℕ, subst, Some, map, length, ap, ◌∙◌, arith}
+use Rattle.std.proofs.lemmas.Option.{get_or_from_slice_get, slice_get_within}
+use Rattle.stow_data.specs.declared.cargoes.Container.{Container}
 use Rattle.stow_data.specs.Ship.{places}
-use Rattle.plan_files.specs.DepartureFile.{groups}
+use Rattle.plan_files.specs.DepartureFile.{IsBooked, groups, cell_group_of}
 use Rattle.plan_files.proofs.Composing.{groups_below}
-use Rattle.plan_files.specs.Departure.{cell_group_of}
 use Rattle.plan_files.proofs.Gathered.{filled, empty}
-use Rattle.plan_files.proofs.messages.cell_groups.Goals as goal
-use Rattle.plan_files.proofs.messages.cell_groups.Goals.{in-Some+in_ok-cell_group+in_ok-push, in_default}
+use Rattle.plan_files.proofs.cell_groups.cell_groups.Goals as goal
+use Rattle.plan_files.proofs.cell_groups.cell_groups.Goals.{in-Some+in_ok-cell_group+in_ok-push, in_default}
+
+pub cell_group-requires-clause-booked : goal.cell_group-requires-clause-booked
+cell_group-requires-clause-booked c =
+    let P : Container → Type 0 = λ x. IsBooked c.args.bookings.now x.origin in
+    subst P (get_or_from_slice_get c.args.cargo.now.containers c.in-Some.c c.container-container.result.now c.container-container.result.now c.container-container.ensures)
+    (c.requires.booked c.in-Some.c c.container-container.result.now (slice_get_within c.args.cargo.now.containers c.in-Some.c c.container-container.result.now c.container-container.ensures))
 
 pub loop-number-preserved : goal.loop-number-preserved
 loop-number-preserved c = elim c.match-at.branch [

@@ -1,9 +1,10 @@
 use Rattle.std.proofs.Common.{rules, ◌≡◌, ◌++◌, ◌∷◌, [], List, codes, ap, ◌∙◌}
 use Rattle.std.proofs.lemmas.List.{append_assoc}
 use Rattle.edifact_segments.specs.declared.segments.Segment.{Segment}
-use Rattle.plan_files.specs.DepartureFile.{cell_segment, mea, temperature_segments, loc, rff, eqd, goods_segments, group_segments, number_at, port_of}
+use Rattle.plan_files.specs.DepartureSegments.{cell_segment, mea, temperature_segments, loc, rff, eqd, goods_segments}
+use Rattle.plan_files.specs.DepartureFile.{group_segments, number_at, port_of}
 use Rattle.plan_files.proofs.Composing.{pushed}
-use Rattle.plan_files.proofs.departure_segments.group.Goals as goal
+use Rattle.plan_files.proofs.cell_groups.group_segments.Goals as goal
 
 pub returns : goal.returns
 unfolding group_segments

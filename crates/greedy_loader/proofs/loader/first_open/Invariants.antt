@@ -1,6 +1,0 @@
-use Rattle.std.proofs.Common.{◌≡◌, ℕ, ◌<◌, false}
-use Rattle.greedy_loader.specs.Loader.{is_open}
-use Rattle.greedy_loader.proofs.loader.first_open.Given as goal
-
-abbrev pub invariant-loop-number : goal.invariant-loop-number
-invariant-loop-number l = (k : ℕ) → k < l.number → is_open l.ship l.plan k ≡ false

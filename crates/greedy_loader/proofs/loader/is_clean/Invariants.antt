@@ -1,7 +1,0 @@
-use Rattle.std.proofs.Common.{◌≡◌, ℕ, ◌<◌, ◌-◌, false}
-use Rattle.greedy_loader.specs.Loader.{leaves_before}
-use Rattle.stow_data.specs.Plans.{held}
-use Rattle.greedy_loader.proofs.loader.is_clean.Given as goal
-
-abbrev pub invariant-loop-lower : goal.invariant-loop-lower
-invariant-loop-lower l = (k : ℕ) → k < l.lower → leaves_before l.cargo l.dest (held l.plan (l.fn.p - k - 1)) ≡ false

@@ -1,0 +1,85 @@
+//! The departure file of a call: its message, and its text.
+ghost use Rattle.std.specs.Prelude.{◌≡◌, ◌<◌, All, length, IfOk};
+ghost use Rattle.stow_data.specs.Ship.{places};
+ghost use Rattle.stow_data.specs.Plans.{IsKnown};
+ghost use Rattle.bookings.specs.BookedCargo.{booked_cargo};
+ghost use Rattle.bookings.specs.Rules.{IsBookings};
+ghost use Rattle.baplie_model.specs.Messages.{IsMessageOf};
+ghost use Rattle.plan_files.specs.DepartureFile.{IsBooked, file_text, groups, head, message_of};
+
+use crate::cell_groups::{cell_groups, port_of};
+use crate::departure_segments::{bgm, dtm, loc, tdt, unb, unh};
+use baplie_model::Message;
+use baplie_write::write_baplie;
+use bookings::Bookings;
+use edifact_segments::SegmentList;
+use std::alloc::Global;
+use stow_data::{Bytes, Cargo, NoMemory, Plan, Ship};
+
+/// The text of the departure file of a call, for bookings and their cargo: it reads back as the message of the call.
+pub fn departure_text(
+    alloc: Global,
+    ship: &Ship,
+    cargo: &Cargo,
+    bookings: &Bookings,
+    plan: &Plan,
+    call: u32,
+) -> Result<Bytes, NoMemory>
+    requires rules { IsBookings bookings.now }
+    requires cargo { cargo.now ≡ booked_cargo ship.now bookings.now }
+    requires departs { call < length bookings.now.rotation }
+    requires whole { length plan.now ≡ length (places ship.now) }
+    requires known { IsKnown cargo.now plan.now }
+    ensures text { IfOk result (λ text. text ≡ file_text cargo.now bookings.now call (groups ship.now cargo.now bookings.now plan.now)) }
+    ensures reads { IfOk result (λ text. IsMessageOf text (message_of cargo.now bookings.now call (groups ship.now cargo.now bookings.now plan.now))) }
+{
+    let _places = ship.places();
+    let message = departure_message(alloc, ship, cargo, bookings, plan, call)?;
+    write_baplie(alloc, &message)
+}
+
+/// The message of the departure of a call. For now every container is to be a booked one.
+pub fn departure_message(
+    alloc: Global,
+    ship: &Ship,
+    cargo: &Cargo,
+    bookings: &Bookings,
+    plan: &Plan,
+    call: u32,
+) -> Result<Message, NoMemory>
+    requires dated { length bookings.now.date ≡ 10 }
+    requires booked { All (λ c. IsBooked bookings.now c.origin) cargo.now.containers }
+    requires departs { call < length cargo.now.rotation }
+    requires whole { length plan.now ≡ length (places ship.now) }
+    requires known { IsKnown cargo.now plan.now }
+    ensures { IfOk result (λ m. m ≡ message_of cargo.now bookings.now call (groups ship.now cargo.now bookings.now plan.now)) }
+{
+    Ok(Message {
+        service: unb(alloc, bookings, call)?,
+        title: unh(alloc)?,
+        head: head(alloc, cargo, bookings, call)?,
+        groups: cell_groups(alloc, ship, cargo, bookings, plan)?,
+    })
+}
+
+/// The segments between UNH and the first cell group.
+#[tactic(auto, unfolding(crate::specs::DepartureFile::head))]
+fn head(
+    alloc: Global,
+    cargo: &Cargo,
+    bookings: &Bookings,
+    call: u32,
+) -> Result<SegmentList, NoMemory>
+    requires { call < length cargo.now.rotation }
+    ensures { IfOk result (λ list. list ≡ head cargo.now bookings.now call) }
+{
+    let _calls = cargo.calls();
+    let mut list = SegmentList::new(alloc);
+    list.push(bgm(alloc, call)?)?;
+    list.push(dtm(alloc, b"137", bookings.date.bytes())?)?;
+    list.push(tdt(alloc, bookings.voyage.bytes(), bookings.vessel.bytes())?)?;
+    list.push(loc(alloc, b"5", port_of(cargo, call).bytes())?)?;
+    list.push(loc(alloc, b"61", port_of(cargo, call + 1).bytes())?)?;
+    list.push(dtm(alloc, b"133", bookings.date.bytes())?)?;
+    Ok(list)
+}
