@@ -1,5 +1,5 @@
 -- Which positions a look-up holds to be the same.
-use Rattle.std.proofs.Common.{◌≡◌, ℕ, suc, Bool, true, false, cond, ◌||◌, ◌&&◌, refl, sym, ap, ◌∙◌, arith}
+use Rattle.std.proofs.Common.{◌≡◌, ℕ, suc, Bool, true, false, ◌||◌, ◌&&◌, refl, sym, ap, ◌∙◌, arith}
 use Rattle.std.specs.Prelude.{ℤ, pos, negsuc, not, nat_lt, nat_le, ◌==◌}
 use Rattle.std.specs.Ordering.{is_eq, int_cmp, bool_cmp, ordering_then}
 use Rattle.std.specs.Cmp.{tied_then, signed_Decides}

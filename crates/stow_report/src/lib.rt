@@ -14,4 +14,6 @@ pub use lines::{Field, FieldList, Group, Line, keyed, numbered, refusal};
 pub use listings::listing;
 
 #[cfg(test)]
+mod shown_tests;
+#[cfg(test)]
 mod tests;

@@ -1,4 +1,3 @@
-use Rattle.std.proofs.Common.{◌++◌, ◌∷◌, [], Some}
 use Rattle.std.specs.BTreeMap.{get}
 use Rattle.ship_profile.specs.Positions.{position_order}
 use Rattle.ship_profile.proofs.StackLookups.{appended}

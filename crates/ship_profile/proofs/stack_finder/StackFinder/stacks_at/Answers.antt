@@ -1,4 +1,4 @@
-use Rattle.std.proofs.Common.{[], ap, sym, ◌∙◌}
+use Rattle.std.proofs.Common.{[], ap, ◌∙◌}
 use Rattle.std.specs.Prelude.{unwrap_or}
 use Rattle.ship_profile.specs.Covers.{stacks_at}
 use Rattle.ship_profile.proofs.stack_finder.StackFinder.stacks_at.Goals as goal
