@@ -5,6 +5,7 @@
 mod memory;
 mod outside;
 mod real;
+mod streams;
 
 pub use memory::{MemFolder, MemSink, SureFolder};
 pub use outside::{Failed, Folder, FolderNo, Gate, MOST_READ, NoGate, Sink};

@@ -1,5 +1,5 @@
 //! Folders and a sink in memory.
-ghost use Rattle.std.specs.Prelude.{◌≡◌, ◌⊎◌, ◌≤◌, ◌<◌, ◌+◌, ◌-◌, ◌^◌, ◌↔◌, ◌++◌, [], IsTrue, length, min, Contains, Some, None, IfOk, IfErr, IfSome, IsOk, IsErrOf, OnOk, OnErr, is_ok, if◌then◌else◌};
+ghost use Rattle.std.specs.Prelude.{true, false, ◌≡◌, ◌⊎◌, ◌≤◌, ◌<◌, ◌+◌, ◌-◌, ◌^◌, ◌↔◌, ◌++◌, [], IsTrue, length, min, Contains, Some, None, IfOk, IfErr, IfSome, IsOk, IsErrOf, OnOk, OnErr, is_ok, if◌then◌else◌};
 ghost use Rattle.std.specs.Option.{option_copied};
 ghost use Rattle.stow_io.specs.Causes.{Rose, HasCause};
 ghost use Rattle.stow_io.specs.Files.{put, with_file, bytes_at, Writes, Appends};
@@ -118,6 +118,8 @@ impl Folder for MemFolder {
 
     ghost faults = { λ f. (calls_of f).faults };
 
+    ghost has_every_name = { false };
+
     /// Fails where its number is to fail, and where no file stands under the name.
     fn read(&mut self, name: &str) -> Result<Bytes, FolderNo>
         ensures gives { IfOk result (λ bytes. files_in self.old name.now ≡ Some bytes) }
@@ -200,6 +202,8 @@ impl Folder for SureFolder {
     ghost files = { λ f. Some (sure_files f) };
 
     ghost faults = { λ _. 0 };
+
+    ghost has_every_name = { true };
 
     /// A missing file reads as no bytes. A file that is too long is answered as want of memory.
     fn read(&mut self, name: &str) -> Result<Bytes, FolderNo>

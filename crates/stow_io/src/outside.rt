@@ -1,5 +1,5 @@
 //! The folder, the sink and the gate: what they mean, and when they may fail.
-ghost use Rattle.std.specs.Prelude.{◌≡◌, ◌≤◌, ℕ, List, Option, length, is_ok, IfOk, IfSome, IsErrOf};
+ghost use Rattle.std.specs.Prelude.{◌≡◌, ◌≤◌, ℕ, Bool, List, Option, length, is_ok, IfOk, IfSome, IsErrOf, IsFalse, IsSome, OnOk};
 ghost use Rattle.stow_io.specs.Causes.{Rose, HasCause};
 ghost use Rattle.stow_io.specs.Files.{Files, bytes_at, Writes, Appends};
 ghost use Rattle.stow_io.specs.declared.outside.FolderNo.TheVariants.{NoMemory as WantOfMemory};
@@ -36,9 +36,13 @@ pub trait Folder {
     /// How often a read or a write has failed.
     ghost faults: { Self → ℕ };
 
-    /// The bytes under the name, at most `MOST_READ` of them, or no bytes where none stand there.
+    /// Whether a name under which no file stands reads as an empty file. Otherwise such a read fails.
+    ghost has_every_name: { Bool };
+
+    /// The bytes under the name, at most `MOST_READ` of them. Where no file stands there, no bytes come from a folder that has every name, and a fault from any other.
     fn read(&mut self, name: &str) -> Result<Bytes, FolderNo>
         ensures gives { IfOk result (λ bytes. IfSome (files self.old) (λ m. bytes ≡ bytes_at m name.now)) }
+        ensures stands { IsFalse has_every_name → OnOk result (IfSome (files self.old) (λ m. IsSome (m name.now))) }
         ensures small { IfOk result (λ bytes. length bytes ≤ 536870912) }
         ensures stays { files self.new ≡ files self.old }
         ensures later { faults self.old ≤ faults self.new }

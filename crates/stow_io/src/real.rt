@@ -1,10 +1,11 @@
 //! The real folder and the real output: the trusted edge, which tells nothing of content.
-ghost use Rattle.std.specs.Prelude.{◌≡◌, ◌≤◌, length, None, IfOk};
+ghost use Rattle.std.specs.Prelude.{false, ◌≡◌, ◌≤◌, length, None, IfOk};
 
 use crate::outside::{Failed, Folder, FolderNo, MOST_READ, Sink};
+use crate::streams::{read_whole, write_whole};
 use std::alloc::Global;
 use std::fs;
-use std::io::{Print, Read, Write};
+use std::io::{self, Print};
 use std::marker::Model;
 use std::rt::Files;
 use stow_data::Bytes;
@@ -42,48 +43,25 @@ impl<'a, R: Files> RealFolder<'a, R> {
     }
 }
 
-// What a reader still gives, read by pieces. Each turn takes at least one byte.
-fn gather<F: Read>(alloc: Global, file: &mut F, piece: &mut [u8]) -> Result<Bytes, FolderNo>
-    ensures { IfOk result (λ bytes. length bytes ≤ 536870912) }
-{
-    let mut bytes = Bytes::new(alloc);
-    for _ in 0..=MOST_READ {
-        let Ok(count) = file.read(piece) else {
-            return Err(FolderNo::Failed);
-        };
-        if count == 0 {
-            return Ok(bytes);
-        }
-        if count > MOST_READ - bytes.len() {
-            return Err(FolderNo::Failed);
-        }
-        bytes.extend(&piece[..count])?;
-    }
-    Err(FolderNo::Failed)
-}
-
-// All bytes of a file.
-fn read_all<R: Files>(rt: &R, alloc: Global, name: &str) -> Result<Bytes, FolderNo>
-    ensures { IfOk result (λ bytes. length bytes ≤ 536870912) }
+/// All bytes of a file, which has at most `most` of them.
+pub(crate) fn read_file<R: Files>(
+    rt: &R,
+    alloc: Global,
+    name: &str,
+    most: usize,
+) -> Result<Bytes, FolderNo>
+    ensures { IfOk result (λ bytes. length bytes ≤ most) }
 {
     let Ok(mut piece) = vec![in alloc; 0u8; PIECE] else {
         return Err(FolderNo::NoMemory);
     };
     let mut file = fs::open(rt, name).map_err(|_| FolderNo::Failed)?;
-    gather(alloc, &mut file, piece.as_mut_slice())
+    read_whole(alloc, &mut file, piece.as_mut_slice(), most)
 }
 
-// Each turn writes at least one byte.
-fn write_all<R: Files>(rt: &R, name: &str, bytes: &[u8]) -> Result<(), Failed> {
+fn write_file<R: Files>(rt: &R, name: &str, bytes: &[u8]) -> Result<(), Failed> {
     let mut file = fs::create(rt, name).map_err(|_| Failed)?;
-    let mut rest = bytes;
-    while !rest.is_empty() {
-        match file.write(rest) {
-            Ok(count) if count > 0 => rest = &rest[count..],
-            _ => return Err(Failed),
-        }
-    }
-    Ok(())
+    write_whole(&mut file, bytes)
 }
 
 #[tactic(auto, unfolding(crate::specs::Files::put))]
@@ -92,8 +70,10 @@ impl<'a, R: Files> Folder for RealFolder<'a, R> {
 
     ghost faults = { λ f. f };
 
+    ghost has_every_name = { false };
+
     fn read(&mut self, name: &str) -> Result<Bytes, FolderNo> {
-        let result = read_all(self.rt, self.alloc, name);
+        let result = read_file(self.rt, self.alloc, name, MOST_READ);
         if let Err(FolderNo::Failed) = result {
             self.faults = self.faults.saturating_add(1);
         }
@@ -101,13 +81,11 @@ impl<'a, R: Files> Folder for RealFolder<'a, R> {
     }
 
     fn write(&mut self, name: &str, bytes: &[u8]) -> Result<(), FolderNo> {
-        match write_all(self.rt, name, bytes) {
-            Ok(()) => Ok(()),
-            Err(Failed) => {
-                self.faults = self.faults.saturating_add(1);
-                Err(FolderNo::Failed)
-            }
+        if write_file(self.rt, name, bytes).is_err() {
+            self.faults = self.faults.saturating_add(1);
+            return Err(FolderNo::Failed);
         }
+        Ok(())
     }
 }
 
@@ -143,16 +121,10 @@ impl<'a, R: Print> Sink for RealOut<'a, R> {
     ghost faults = { λ s. s };
 
     fn put(&mut self, bytes: &[u8]) -> Result<(), Failed> {
-        let mut rest = bytes;
-        while !rest.is_empty() {
-            match self.rt.write_some(rest) {
-                Ok(count) if count > 0 => rest = &rest[count..],
-                _ => {
-                    self.faults = self.faults.saturating_add(1);
-                    return Err(Failed);
-                }
-            }
+        let result = write_whole(&mut io::writer(self.rt), bytes);
+        if result.is_err() {
+            self.faults = self.faults.saturating_add(1);
         }
-        Ok(())
+        result
     }
 }

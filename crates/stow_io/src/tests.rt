@@ -1,8 +1,14 @@
-//! Each call once over the doubles, and the real files.
+//! Each call once over the doubles, the real files, and streams that give and take little at a time.
+ghost use Rattle.std.specs.Prelude.{◌<◌};
+
 use super::*;
+use crate::real::read_file;
+use crate::streams::{read_whole, write_whole};
 use std::alloc::Global;
+use std::fs;
+use std::io::{self, ErrorKind, Read, Write};
 use std::test::Fail;
-use stow_data::{NoMemory, NumberList};
+use stow_data::{Bytes, NoMemory, NumberList};
 
 fn numbers(alloc: Global, list: &[u32]) -> Result<NumberList, NoMemory> {
     let mut numbers = NumberList::new(alloc);
@@ -81,35 +87,130 @@ fn a_sink_with_little_room(rt: HostRuntime) -> Result<(), Fail> {
     Ok(())
 }
 
-// More than one piece of the reader, and not a multiple of it.
-const LONG: usize = 200_001;
+/// A stream that gives and takes a few bytes at a time, and fails at one of its turns, counted from 1.
+#[derive(Drop)]
+struct Narrow<'a> {
+    given: &'a [u8],
+    taken: Bytes,
+    each: usize,
+    turn: u32,
+    fails: u32,
+}
+
+impl<'a> Narrow<'a> {
+    fn new(alloc: Global, given: &'a [u8], each: usize, fails: u32) -> Narrow<'a> {
+        Narrow {
+            given,
+            taken: Bytes::new(alloc),
+            each,
+            turn: 0,
+            fails,
+        }
+    }
+
+    fn next_turn(&mut self) -> io::Result<()> {
+        self.turn = self.turn.saturating_add(1);
+        if self.turn == self.fails {
+            return Err(io::Error::from(ErrorKind::Other));
+        }
+        Ok(())
+    }
+}
+
+impl<'a> Read for Narrow<'a> {
+    fn read(&mut self, buf: &mut [u8]) -> io::Result<usize> {
+        self.next_turn()?;
+        let count = self.each.min(buf.len()).min(self.given.len());
+        buf[..count].copy_from_slice(&self.given[..count]);
+        self.given = &self.given[count..];
+        Ok(count)
+    }
+}
+
+impl<'a> Write for Narrow<'a> {
+    fn write(&mut self, buf: &[u8]) -> io::Result<usize> {
+        self.next_turn()?;
+        let count = self.each.min(buf.len());
+        if self.taken.extend(&buf[..count]).is_err() {
+            return Ok(0);
+        }
+        Ok(count)
+    }
+
+    fn flush(&mut self) -> io::Result<()> {
+        Ok(())
+    }
+}
+
+/// What is read of ten bytes, two at a time, with this limit, where this turn fails.
+fn ten_read(alloc: Global, most: usize, fails: u32) -> Result<Bytes, FolderNo> {
+    let mut stream = Narrow::new(alloc, b"0123456789", 2, fails);
+    read_whole(alloc, &mut stream, &mut [0; 4], most)
+}
 
 #[test]
-fn real_files(rt: HostRuntime) -> Result<(), Fail> {
+fn short_reads(rt: HostRuntime) -> Result<(), Fail> {
     let alloc = rt.alloc();
-    let mut text = vec![in alloc; 7u8; LONG]?;
-    text[LONG - 1] = 9;
+    assert!(rt;
+        ten_read(alloc, 10, 0).is_ok_and(|bytes| bytes.as_slice() == b"0123456789".as_slice())
+    );
+    assert!(rt; ten_read(alloc, 9, 0).is_err());
+    assert!(rt; ten_read(alloc, 10, 3).is_err());
+    Ok(())
+}
+
+#[test]
+fn short_writes(rt: HostRuntime) -> Result<(), Fail> {
+    let alloc = rt.alloc();
+    let mut stream = Narrow::new(alloc, b"", 3, 0);
+    assert!(rt; write_whole(&mut stream, b"01234567") == Ok(()));
+    assert!(rt; stream.taken.as_slice() == b"01234567".as_slice());
+    let mut stream = Narrow::new(alloc, b"", 3, 2);
+    assert!(rt; write_whole(&mut stream, b"01234567") == Err(Failed));
+    assert!(rt; stream.taken.as_slice() == b"012".as_slice());
+    let mut stream = Narrow::new(alloc, b"", 0, 0);
+    assert!(rt; write_whole(&mut stream, b"0") == Err(Failed));
+    Ok(())
+}
+
+const FILE: &str = "stow_io_test.bin";
+
+/// A file of more than one piece, and of no multiple of it, is read as it was written.
+#[test]
+fn a_long_file(rt: HostRuntime) -> Result<(), Fail> {
+    let alloc = rt.alloc();
+    let mut text = vec![in alloc; 7u8; 200_001]?;
+    text[200_000] = 9;
     let mut folder = RealFolder::new(&rt, alloc);
-    assert_eq!(rt; folder.write("stow_io_test.bin", text.as_slice()), Ok(()));
-    let found = folder.read("stow_io_test.bin");
-    assert_eq!(rt;
-        found.is_ok_and(|bytes| bytes.as_slice() == text.as_slice()),
-        true
-    );
-    assert_eq!(rt; folder.write("stow_io_test.bin", b""), Ok(()));
-    assert_eq!(rt;
-        folder
-            .read("stow_io_test.bin")
-            .is_ok_and(|bytes| bytes.is_empty()),
-        true
-    );
-    assert_eq!(rt; folder.read("stow_io_missing.bin").is_err(), true);
-    assert_eq!(rt;
-        folder.write("stow_io_missing/file.bin", b"x"),
-        Err(FolderNo::Failed)
-    );
-    std::fs::remove_file(&rt, "stow_io_test.bin")?;
+    assert!(rt; folder.write(FILE, text.as_slice()) == Ok(()));
+    let found = folder.read(FILE);
+    assert!(rt; found.is_ok_and(|bytes| bytes.as_slice() == text.as_slice()));
+    fs::remove_file(&rt, FILE)?;
+    Ok(())
+}
+
+#[test]
+fn real_ends(rt: HostRuntime) -> Result<(), Fail> {
+    let alloc = rt.alloc();
+    let mut folder = RealFolder::new(&rt, alloc);
+    assert!(rt; folder.read("stow_io_missing.bin").is_err());
+    assert!(rt; folder.write("stow_io_missing/file.bin", b"x") == Err(FolderNo::Failed));
     let mut out = RealOut::new(&rt);
-    assert_eq!(rt; out.put(b""), Ok(()));
+    assert!(rt; out.put(b"") == Ok(()));
+    Ok(())
+}
+
+/// A file past the limit is refused and not cut, and one at the limit is read.
+#[test]
+fn the_limit_of_a_file(rt: HostRuntime) -> Result<(), Fail> {
+    let alloc = rt.alloc();
+    let name = "stow_io_limit.bin";
+    let mut folder = RealFolder::new(&rt, alloc);
+    assert!(rt; folder.write(name, b"0123456789") == Ok(()));
+    let past = read_file(&rt, alloc, name, 9);
+    let at = read_file(&rt, alloc, name, 10);
+    fs::remove_file(&rt, name)?;
+    assert!(rt; past.is_err());
+    assert!(rt; at.is_ok_and(|bytes| bytes.len() == 10));
     Ok(())
 }

@@ -1,0 +1,6 @@
+use Rattle.std.proofs.Common.{◌≡◌, ◌≤◌, length}
+use Rattle.std.specs.Io.KnownBytes.{Consumes}
+use Rattle.stow_io.proofs.streams.read_whole.Given as goal
+
+abbrev pub invariant-loop : goal.invariant-loop
+invariant-loop g l = (length l.bytes ≤ l.most) × (length l.piece ≡ length l.initial.piece) × Consumes (g.F.Read.remaining l.initial.file) (g.F.Read.remaining l.file) l.bytes
