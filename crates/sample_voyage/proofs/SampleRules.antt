@@ -43,8 +43,8 @@ parts_differ (inr h) = let no : 80 ≤ 2 = h.0.0 in omega (arith, no)
 apart : Later (λ s t. SharesCell s t → ⊥) samples.stacks
 apart = (((λ h. parts_differ h.same_part), tt), (tt, tt))
 
-cover_rules : IsCover samples.ship samples.cover
-cover_rules = record {
+cover_rules : (level : ℕ) → IsCover (samples.ship level) samples.cover
+cover_rules level = record {
   under = λ s m. under s (contains_member (0 ∷ []) s m);
   on = λ s m. on s (contains_member (1 ∷ []) s m);
 }
@@ -57,19 +57,19 @@ cover_rules = record {
     on s (inl e) = (samples.deck, ap (slice_get samples.stacks) e, (omega arith, omega arith))
     on s (inr h) = absurd h
 
-pub ship_rules : IsShip samples.ship
+pub ship_rules : (level : ℕ) → 1 ≤ level → level ≤ 3 → IsShip (samples.ship level)
 unfolding places
-ship_rules = record {
+ship_rules level from to = record {
   named = refl;
   step_from = omega arith;
   step_to = omega arith;
   has_stacks = omega arith;
   each_stack = all_from IsStack samples.stacks each_stack;
   apart = pairs_from (λ s t. SharesCell s t → ⊥) samples.stacks apart;
-  each_cover = all_from (IsCover samples.ship) (samples.cover ∷ []) (cover_rules, tt);
+  each_cover = all_from (IsCover (samples.ship level)) (samples.cover ∷ []) (cover_rules level, tt);
   named_once = pairs_from (λ s t. s ≢ t) (0 ∷ 1 ∷ []) (((λ (e : 0 ≡ 1). omega arith), tt), (tt, tt));
-  each_separation = all_from IsSeparation (samples.separation ∷ []) (record { first = refl; second = refl; level_from = omega arith; level_to = omega arith }, tt);
-  pairs_once = pairs_from (λ d e. SamePair d e → ⊥) (samples.separation ∷ []) (tt, tt);
+  each_separation = all_from IsSeparation (samples.separation level ∷ []) (record { first = refl; second = refl; level_from = omega arith; level_to = omega arith }, tt);
+  pairs_once = pairs_from (λ d e. SamePair d e → ⊥) (samples.separation level ∷ []) (tt, tt);
   few_places = omega arith;
   few_stacks = omega arith;
   few_covers = omega arith;
@@ -80,28 +80,10 @@ letters_differ : (a b : ℕ) → (a ≡ b → ⊥) → a ∷ [] ≡ b ∷ [] →
 letters_differ a b ne e = ne (ap (λ (l : List ℕ). slice_index_or l 0 0) e)
 
 ids_differ : Later (λ c d. c.id ≢ d.id) samples.containers
-ids_differ = (
-  (letters_differ 65 66 (λ (e : 65 ≡ 66). omega arith), (letters_differ 65 67 (λ (e : 65 ≡ 67). omega arith), (letters_differ 65 68 (λ (e : 65 ≡ 68). omega arith), tt))),
-  (
-    (letters_differ 66 67 (λ (e : 66 ≡ 67). omega arith), (letters_differ 66 68 (λ (e : 66 ≡ 68). omega arith), tt)),
-    (
-      (letters_differ 67 68 (λ (e : 67 ≡ 68). omega arith), tt),
-      (tt, tt),
-    ),
-  ),
-)
+ids_differ = ((letters_differ 65 66 (λ (e : 65 ≡ 66). omega arith), (letters_differ 65 67 (λ (e : 65 ≡ 67). omega arith), (letters_differ 65 68 (λ (e : 65 ≡ 68). omega arith), (letters_differ 65 69 (λ (e : 65 ≡ 69). omega arith), (letters_differ 65 70 (λ (e : 65 ≡ 70). omega arith), tt))))), ((letters_differ 66 67 (λ (e : 66 ≡ 67). omega arith), (letters_differ 66 68 (λ (e : 66 ≡ 68). omega arith), (letters_differ 66 69 (λ (e : 66 ≡ 69). omega arith), (letters_differ 66 70 (λ (e : 66 ≡ 70). omega arith), tt)))), ((letters_differ 67 68 (λ (e : 67 ≡ 68). omega arith), (letters_differ 67 69 (λ (e : 67 ≡ 69). omega arith), (letters_differ 67 70 (λ (e : 67 ≡ 70). omega arith), tt))), ((letters_differ 68 69 (λ (e : 68 ≡ 69). omega arith), (letters_differ 68 70 (λ (e : 68 ≡ 70). omega arith), tt)), ((letters_differ 69 70 (λ (e : 69 ≡ 70). omega arith), tt), (tt, tt))))))
 
 each_shipped : Each (IsShipped 3) samples.containers
-each_shipped = (
-  record { later = omega arith; in_rotation = omega arith; kg_to = omega arith },
-  (
-    record { later = omega arith; in_rotation = omega arith; kg_to = omega arith },
-    (
-      record { later = omega arith; in_rotation = omega arith; kg_to = omega arith },
-      (record { later = omega arith; in_rotation = omega arith; kg_to = omega arith }, tt),
-    ),
-  ),
-)
+each_shipped = (record { later = omega arith; in_rotation = omega arith; kg_to = omega arith }, (record { later = omega arith; in_rotation = omega arith; kg_to = omega arith }, (record { later = omega arith; in_rotation = omega arith; kg_to = omega arith }, (record { later = omega arith; in_rotation = omega arith; kg_to = omega arith }, (record { later = omega arith; in_rotation = omega arith; kg_to = omega arith }, (record { later = omega arith; in_rotation = omega arith; kg_to = omega arith }, tt))))))
 
 pub cargo_rules : (arrival : List (Option ℕ)) → IsCargo (samples.cargo arrival)
 cargo_rules arrival = record {

@@ -23,13 +23,13 @@ stacks = hold ∷ deck ∷ []
 abbrev pub cover : Cover
 cover = record { under = 0 ∷ []; on = 1 ∷ [] }
 
--- classes 3 and 8 don't share a stack
-abbrev pub separation : Separation
-separation = record { a = 51 ∷ []; b = 56 ∷ []; level = 2 }
+-- classes 3 and 8 are kept apart
+abbrev pub separation : ℕ → Separation
+separation level = record { a = 51 ∷ []; b = 56 ∷ []; level = level }
 
 -- its name is A
-abbrev pub ship : Ship
-ship = record { name = 65 ∷ []; weight_step = 1000; stacks = stacks; covers = cover ∷ []; separations = separation ∷ [] }
+abbrev pub ship : ℕ → Ship
+ship level = record { name = 65 ∷ []; weight_step = 1000; stacks = stacks; covers = cover ∷ []; separations = separation level ∷ [] }
 
 -- the ports A, B and C
 abbrev pub rotation : List (List ℕ)
@@ -48,8 +48,15 @@ first_class = record { id = 67 ∷ []; load = 2; dest = 3; long = long.Twenty; k
 abbrev pub second_class : Container
 second_class = record { id = 68 ∷ []; load = 0; dest = 1; long = long.Twenty; kg = 1000; reefer = false; class = Some (56 ∷ []); origin = origin.Booked 3 }
 
+-- a plain 20-foot container, and a 40-foot one of the second class
+abbrev pub plain_twenty : Container
+plain_twenty = record { id = 69 ∷ []; load = 0; dest = 1; long = long.Twenty; kg = 2000; reefer = false; class = None; origin = origin.Booked 4 }
+
+abbrev pub second_class_forty : Container
+second_class_forty = record { id = 70 ∷ []; load = 0; dest = 1; long = long.Forty; kg = 19000; reefer = false; class = Some (56 ∷ []); origin = origin.Booked 5 }
+
 abbrev pub containers : List Container
-containers = reefer ∷ plain ∷ first_class ∷ second_class ∷ []
+containers = reefer ∷ plain ∷ first_class ∷ second_class ∷ plain_twenty ∷ second_class_forty ∷ []
 
 abbrev pub cargo : List (Option ℕ) → Cargo
 cargo arrival = record { rotation = rotation; containers = containers; arrival = arrival }

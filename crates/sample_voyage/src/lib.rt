@@ -3,4 +3,4 @@
 
 mod sample;
 
-pub use sample::{Entries, plan_of, small_cargo, small_ship};
+pub use sample::{Entries, plan_of, ship_of_level, small_cargo, small_ship};

@@ -1,5 +1,5 @@
 //! A small ship with a hatch cover, both lengths, a plug, a weight limit and a separation.
-ghost use Rattle.std.specs.Prelude.{◌≡◌, IfOk, length, [], ◌∷◌};
+ghost use Rattle.std.specs.Prelude.{◌≡◌, ◌≤◌, IfOk, length, [], ◌∷◌};
 ghost use Rattle.stow_data.specs.Ship.{places};
 ghost use Rattle.sample_voyage.specs.Samples as samples;
 
@@ -70,21 +70,21 @@ fn covers(alloc: Global) -> Result<CoverList, NoMemory>
     Ok(covers)
 }
 
-fn separation() -> Separation
-    ensures { result ≡ samples.separation }
+fn separation(level: u32) -> Separation
+    ensures { result ≡ samples.separation level }
 {
     Separation {
         a: Name::of(b"3"),
         b: Name::of(b"8"),
-        level: 2,
+        level,
     }
 }
 
-fn separations(alloc: Global) -> Result<SeparationList, NoMemory>
-    ensures { IfOk result (λ list. list ≡ samples.separation ∷ []) }
+fn separations(alloc: Global, level: u32) -> Result<SeparationList, NoMemory>
+    ensures { IfOk result (λ list. list ≡ samples.separation level ∷ []) }
 {
     let mut separations = Seq::new(alloc);
-    separations.push(separation())?;
+    separations.push(separation(level))?;
     Ok(separations)
 }
 
@@ -94,12 +94,20 @@ fn name() -> Name
     Name::of(b"A")
 }
 
-/// The ship.
-pub fn small_ship(alloc: Global) -> Result<Ship, NoMemory> {
+/// The ship, with a separation of classes 3 and 8 by this level.
+pub fn ship_of_level(alloc: Global, level: u32) -> Result<Ship, NoMemory>
+    requires from { 1 ≤ level }
+    requires to { level ≤ 3 }
+{
     let stacks = stacks(alloc)?;
     let covers = covers(alloc)?;
-    let separations = separations(alloc)?;
+    let separations = separations(alloc, level)?;
     Ship::new(alloc, name(), 1000, stacks, covers, separations)
+}
+
+/// The ship, with a separation of classes 3 and 8 by level 2.
+pub fn small_ship(alloc: Global) -> Result<Ship, NoMemory> {
+    ship_of_level(alloc, 2)
 }
 
 fn rotation(alloc: Global) -> Result<NameList, NoMemory>
@@ -172,6 +180,36 @@ fn second_class() -> Container
     }
 }
 
+fn plain_twenty() -> Container
+    ensures { result ≡ samples.plain_twenty }
+{
+    Container {
+        id: Name::of(b"E"),
+        load: CallNo(0),
+        dest: CallNo(1),
+        long: Length::Twenty,
+        kg: 2_000,
+        reefer: false,
+        class: None,
+        origin: Origin::Booked(4),
+    }
+}
+
+fn second_class_forty() -> Container
+    ensures { result ≡ samples.second_class_forty }
+{
+    Container {
+        id: Name::of(b"F"),
+        load: CallNo(0),
+        dest: CallNo(1),
+        long: Length::Forty,
+        kg: 19_000,
+        reefer: false,
+        class: Some(Name::of(b"8")),
+        origin: Origin::Booked(5),
+    }
+}
+
 fn containers(alloc: Global) -> Result<ContainerList, NoMemory>
     ensures { IfOk result (λ list. list ≡ samples.containers) }
 {
@@ -180,6 +218,8 @@ fn containers(alloc: Global) -> Result<ContainerList, NoMemory>
     containers.push(plain())?;
     containers.push(first_class())?;
     containers.push(second_class())?;
+    containers.push(plain_twenty())?;
+    containers.push(second_class_forty())?;
     Ok(containers)
 }
 

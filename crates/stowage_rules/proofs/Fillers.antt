@@ -4,10 +4,9 @@ use Rattle.std.proofs.Common.{arith}
 use Rattle.std.proofs.lemmas.Option.{slice_get_within}
 use Rattle.stow_data.specs.declared.geometry.Half.{Half}
 use Rattle.stow_data.specs.Ship.{Ship, places}
-use Rattle.stow_data.specs.Shipment.{Cargo}
 use Rattle.stow_data.specs.Plans.{Plan}
 use Rattle.stowage_rules.specs.Plan.{Fills}
-use Rattle.stowage_rules.specs.Places.{FillsFrom, IsTaken, IsTakenFrom, HasTwentyOnly, HasTwentyOnlyFrom}
+use Rattle.stowage_rules.specs.Places.{FillsFrom, IsTaken, IsTakenFrom}
 
 pub fills : {ship : Ship} {plan : Plan} {n : ℕ} {h : Half} {c : ℕ} → FillsFrom ship plan n h c → Fills ship plan h c
 fills {n = n} x = record { number = n; place = x.place; is_place = x.is_place; has_half = x.has_half; holds = x.holds }
@@ -23,9 +22,3 @@ some_taken ship plan h n x = (x.0, fills x.1)
 
 pub none_taken : (ship : Ship) (plan : Plan) (h : Half) (m : ℕ) → length (places ship) ≤ m → ((n : ℕ) → n < m → IsTakenFrom ship plan h n → ⊥) → IsTaken ship plan h → ⊥
 none_taken ship plan h m e none x = none x.1.number (omega (arith, inside x.1)) (x.0, from x.1)
-
-pub twenty_from : (ship : Ship) (cargo : Cargo) (plan : Plan) (h : Half) (n : ℕ) → HasTwentyOnly ship cargo plan h → HasTwentyOnlyFrom ship cargo plan h n
-twenty_from ship cargo plan h n all = λ d x. all d (fills x)
-
-pub all_twenty : (ship : Ship) (cargo : Cargo) (plan : Plan) (h : Half) (m : ℕ) → length (places ship) ≤ m → ((n : ℕ) → n < m → HasTwentyOnlyFrom ship cargo plan h n) → HasTwentyOnly ship cargo plan h
-all_twenty ship cargo plan h m e all = λ d x. all x.number (omega (arith, inside x)) d (from x)

@@ -1,5 +1,9 @@
 pub mod Items
+pub mod Rising
 pub mod Fillers
-pub mod RulesHold
+pub mod Standing
+pub mod Nearness
+pub mod StackWeights
+pub mod InRank
 pub mod PlansHold
 pub mod Rows

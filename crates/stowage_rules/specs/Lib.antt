@@ -1,3 +1,5 @@
 pub mod Plan
 pub mod Departure
 pub mod Places
+pub mod Tiers
+pub mod Faults

@@ -3,11 +3,11 @@ ghost use Rattle.std.specs.Prelude.{◌≡◌, ◌↔◌, ◌<◌, ℕ, IsTrue, 
 ghost use Rattle.stow_data.specs.Ship.{places, HasLength};
 ghost use Rattle.stow_data.specs.Shipment.{IsAboard};
 ghost use Rattle.stowage_rules.specs.Plan.{Holds, IsWellFormed};
-ghost use Rattle.stowage_rules.specs.Departure.{HoldsAboard, IsStowed, IsDeparture};
+ghost use Rattle.stowage_rules.specs.Departure.{HoldsAboard, IsDeparture};
 ghost use Rattle.stowage_rules.specs.Places.{AboardAt, FitsAt, IsSomewhere, StandsAlone, StandsAloneAt};
 
-use crate::rules::{is_plugged, is_supported, is_twenty_on_twenty, is_within_limits};
-use crate::separation::{broken_separation, shares_half};
+use crate::faults::departure_fault;
+use crate::separation::shares_half;
 use stow_data::{CallNo, Cargo, Container, ContainerNo, Length, PlaceNo, Plan, Ship, Span};
 
 /// Whether the span takes a container of this length.
@@ -152,30 +152,19 @@ pub fn holds_aboard(ship: &Ship, cargo: &Cargo, plan: &Plan, call: CallNo) -> bo
     true
 }
 
-/// Whether a plan is well formed, holds exactly what is aboard after the call, and meets the first three rules.
-pub fn is_stowed(ship: &Ship, cargo: &Cargo, plan: &Plan, call: CallNo) -> bool
-    requires { length plan.now ≡ length (places ship.now) }
-    ensures { IsTrue result ↔ IsStowed ship.now cargo.now call plan.now }
-{
-    if !is_well_formed(ship, cargo, plan) || !holds_aboard(ship, cargo, plan, call) {
-        return false;
-    }
-    if !is_supported(ship, plan) || !is_twenty_on_twenty(ship, cargo, plan) {
-        return false;
-    }
-    is_plugged(ship, cargo, plan)
-}
-
 /// Whether a plan is a legal departure of the call.
 pub fn is_departure(ship: &Ship, cargo: &Cargo, plan: &Plan, call: CallNo) -> bool
     requires { length plan.now ≡ length (places ship.now) }
     ensures { IsTrue result ↔ IsDeparture ship.now cargo.now call plan.now }
 {
-    if !is_stowed(ship, cargo, plan, call) || !is_within_limits(ship, cargo, plan) {
+    if !is_well_formed(ship, cargo, plan) {
         return false;
     }
-    match broken_separation(ship, cargo, plan) {
-        Some(_) => false,
+    if !holds_aboard(ship, cargo, plan, call) {
+        return false;
+    }
+    match departure_fault(ship, cargo, plan) {
         None => true,
+        Some(_) => false,
     }
 }

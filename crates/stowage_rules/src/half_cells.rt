@@ -1,9 +1,11 @@
-//! What fills a half-cell: plain, slow look-ups, place by place.
-ghost use Rattle.std.specs.Prelude.{◌≡◌, ◌↔◌, ◌<◌, ℕ, IsTrue, MatchOption, length};
+//! What fills a half-cell.
+ghost use Rattle.std.specs.Prelude.{◌≡◌, ◌↔◌, ◌<◌, ◌≤◌, ℕ, IsTrue, MatchOption, length};
 ghost use Rattle.stow_data.specs.Ship.{places, HasHalf, TakesSide};
+ghost use Rattle.stowage_rules.specs.Plan.{Fills};
 ghost use Rattle.stowage_rules.specs.Departure.{IsTwenty};
-ghost use Rattle.stowage_rules.specs.Places.{FillsFrom, IsTaken, IsTakenFrom, HasTwentyOnly, HasTwentyOnlyFrom};
+ghost use Rattle.stowage_rules.specs.Places.{FillsFrom, IsTaken, IsTakenFrom};
 
+use crate::tiers::{first_of_tier, is_in_tier};
 use stow_data::{Cargo, ContainerNo, Half, Length, Place, PlaceNo, Plan, Ship, Span};
 
 /// Whether a span takes the fore (false) or the aft (true) side.
@@ -44,6 +46,23 @@ pub fn filler(ship: &Ship, plan: &Plan, p: PlaceNo, h: &Half) -> Option<Containe
     }
 }
 
+/// What fills a half-cell, looked for from a place near it.
+pub fn filler_near(ship: &Ship, plan: &Plan, near: u32, h: &Half) -> Option<ContainerNo>
+    requires each_place { length plan.now ≡ length (places ship.now) }
+    requires inside { near ≤ length (places ship.now) }
+    ensures { MatchOption result ((c : ℕ) → Fills ship.now plan.now h.now c → ⊥) (λ c. Fills ship.now plan.now h.now c) }
+{
+    for p in first_of_tier(ship, near, h.stack, h.tier)..ship.places() {
+        if !is_in_tier(&ship.place(PlaceNo(p)), h) {
+            return None;
+        }
+        if let Some(c) = filler(ship, plan, PlaceNo(p), h) {
+            return Some(c);
+        }
+    }
+    None
+}
+
 /// Whether something fills the half-cell from this place.
 fn takes(ship: &Ship, plan: &Plan, h: &Half, p: PlaceNo) -> bool
     requires each_place { length plan.now ≡ length (places ship.now) }
@@ -53,18 +72,6 @@ fn takes(ship: &Ship, plan: &Plan, h: &Half, p: PlaceNo) -> bool
     match filler(ship, plan, p, h) {
         Some(_) => true,
         None => false,
-    }
-}
-
-/// Whether none but a 20-foot container fills the half-cell from this place.
-fn takes_twenty_only(ship: &Ship, cargo: &Cargo, plan: &Plan, h: &Half, p: PlaceNo) -> bool
-    requires each_place { length plan.now ≡ length (places ship.now) }
-    requires inside { p < length (places ship.now) }
-    ensures { IsTrue result ↔ HasTwentyOnlyFrom ship.now cargo.now plan.now h.now p }
-{
-    match filler(ship, plan, p, h) {
-        Some(c) => is_twenty(cargo, c),
-        None => true,
     }
 }
 
@@ -79,17 +86,4 @@ pub fn is_taken(ship: &Ship, plan: &Plan, h: &Half) -> bool
         }
     }
     false
-}
-
-/// Whether none but a 20-foot container fills the half-cell.
-pub fn has_twenty_only(ship: &Ship, cargo: &Cargo, plan: &Plan, h: &Half) -> bool
-    requires { length plan.now ≡ length (places ship.now) }
-    ensures { IsTrue result ↔ HasTwentyOnly ship.now cargo.now plan.now h.now }
-{
-    for p in 0..ship.places() {
-        if !takes_twenty_only(ship, cargo, plan, h, PlaceNo(p)) {
-            return false;
-        }
-    }
-    true
 }

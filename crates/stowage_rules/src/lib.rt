@@ -2,16 +2,17 @@
 #![tactic(auto)]
 
 mod departures;
+mod faults;
 mod half_cells;
-mod rules;
+mod plugs;
 mod separation;
+mod supports;
 #[cfg(test)]
 mod tests;
+mod tiers;
+mod weights;
 
-pub use departures::{holds_aboard, is_aboard, is_departure, is_stowed, is_well_formed};
-pub use half_cells::{filler, is_taken, is_twenty, takes_side};
-pub use rules::{
-    Rule, broken_rule, is_plugged, is_supported, is_twenty_on_twenty, is_within_limits,
-    weight_of_stack,
-};
-pub use separation::{broken_separation, is_near, is_separated_by, shares_half};
+pub use departures::{holds_aboard, is_aboard, is_departure, is_well_formed};
+pub use faults::{RuleBroken, departure_fault};
+pub use half_cells::{filler, filler_near, is_taken, is_twenty, takes_side};
+pub use separation::{is_near, shares_half};

@@ -1,9 +1,10 @@
-//! Separations of dangerous goods: plain, slow tests of a plan.
-ghost use Rattle.std.specs.Prelude.{◌≡◌, ◌↔◌, ◌<◌, ℕ, IsTrue, MatchOption, Some, length, slice_get};
+//! Separations of dangerous goods.
+ghost use Rattle.std.specs.Prelude.{◌≡◌, ◌↔◌, ◌<◌, ◌≤◌, ℕ, true, IsTrue, MatchOption, Some, length, slice_get};
 ghost use Rattle.stow_data.specs.Ship.{places};
-ghost use Rattle.stowage_rules.specs.Departure.{IsSeparated, IsSeparatedBy, adjoins, has_column_in_common, is_next, is_same_bay, meets, near};
-ghost use Rattle.stowage_rules.specs.Places.{HasClassAt, IsFirstUnseparated, KeptApart, KeptApartFrom};
+ghost use Rattle.stowage_rules.specs.Departure.{adjoins, has_column_in_common, is_next, is_same_bay, meets, near};
+ghost use Rattle.stowage_rules.specs.Faults.{AreFirstNear, AreTooNear, HasClassAt, IsFirstUnseparated, IsLeast, IsUnseparated};
 
+use crate::tiers::first_of_tier;
 use stow_data::{Cargo, Name, Place, PlaceNo, Plan, Separation, Ship, Span};
 
 /// Whether places of one tier or of two tiers have a column in common.
@@ -81,8 +82,8 @@ fn has_class(cargo: &Cargo, plan: &Plan, p: PlaceNo, class: &Name) -> bool
     }
 }
 
-/// Whether two places keep a separation.
-fn kept_apart(
+/// Whether, against a separation, a container of its first class stands at `p`, near one of its second class at `q`.
+fn are_too_near(
     ship: &Ship,
     cargo: &Cargo,
     plan: &Plan,
@@ -93,51 +94,79 @@ fn kept_apart(
     requires each_place { length plan.now ≡ length (places ship.now) }
     requires p_in { p < length (places ship.now) }
     requires q_in { q < length (places ship.now) }
-    ensures { IsTrue result ↔ KeptApart ship.now cargo.now plan.now rule.now p q }
+    ensures { IsTrue result ↔ AreTooNear ship.now cargo.now plan.now rule.now p q }
 {
-    if !has_class(cargo, plan, p, &rule.a) || !has_class(cargo, plan, q, &rule.b) {
-        return true;
+    if !is_near(ship, rule.level, &ship.place(p), &ship.place(q)) {
+        return false;
     }
-    !is_near(ship, rule.level, &ship.place(p), &ship.place(q))
+    has_class(cargo, plan, q, &rule.b) && has_class(cargo, plan, p, &rule.a)
 }
 
-/// Whether a place keeps a separation from all others.
-fn kept_apart_from(ship: &Ship, cargo: &Cargo, plan: &Plan, rule: &Separation, p: PlaceNo) -> bool
+/// Numbers from which and up to which all places stand that are near a place.
+fn near_range(ship: &Ship, level: u32, p: PlaceNo) -> (u32, u32)
+    requires { p < length (places ship.now) }
+    ensures all { (q : ℕ) (first second : Place) → slice_get (places ship.now) p ≡ Some first → slice_get (places ship.now) q ≡ Some second → near ship.now level first second ≡ true → (result.0 ≤ q) × (q < result.1) }
+    ensures inside { result.1 ≤ length (places ship.now) }
+{
+    if level == 3 {
+        return (0, ship.places());
+    }
+    let stack = ship.place(p).stack;
+    let from = first_of_tier(ship, p.0, stack, 0);
+    let end = first_of_tier(ship, p.0, stack, ship.stack(stack).tiers);
+    (from, end)
+}
+
+/// The first place that is too near to a place, against a separation.
+fn first_near_to(
+    ship: &Ship,
+    cargo: &Cargo,
+    plan: &Plan,
+    rule: &Separation,
+    p: PlaceNo,
+) -> Option<PlaceNo>
     requires each_place { length plan.now ≡ length (places ship.now) }
     requires inside { p < length (places ship.now) }
-    ensures { IsTrue result ↔ KeptApartFrom ship.now cargo.now plan.now rule.now p }
+    ensures { MatchOption result ((q : ℕ) → AreTooNear ship.now cargo.now plan.now rule.now p q → ⊥) (λ q. IsLeast (AreTooNear ship.now cargo.now plan.now rule.now p) q) }
 {
-    for q in 0..ship.places() {
-        if !kept_apart(ship, cargo, plan, rule, p, PlaceNo(q)) {
-            return false;
+    if !has_class(cargo, plan, p, &rule.a) {
+        return None;
+    }
+    let (from, end) = near_range(ship, rule.level, p);
+    for q in from..end {
+        if are_too_near(ship, cargo, plan, rule, p, PlaceNo(q)) {
+            return Some(PlaceNo(q));
         }
     }
-    true
+    None
 }
 
-/// Whether a plan keeps a separation, by its index from 0.
-pub fn is_separated_by(ship: &Ship, cargo: &Cargo, plan: &Plan, e: u32) -> bool
-    requires each_place { length plan.now ≡ length (places ship.now) }
-    requires inside { e < length ship.now.separations }
-    ensures { IsTrue result ↔ IsSeparatedBy ship.now cargo.now plan.now e }
-{
-    let rule = ship.separation(e);
-    for p in 0..ship.places() {
-        if !kept_apart_from(ship, cargo, plan, rule, PlaceNo(p)) {
-            return false;
-        }
-    }
-    true
-}
-
-/// The first separation that a plan doesn't keep.
-pub fn broken_separation(ship: &Ship, cargo: &Cargo, plan: &Plan) -> Option<u32>
+/// The first two places that are too near, against a separation.
+fn first_near(
+    ship: &Ship,
+    cargo: &Cargo,
+    plan: &Plan,
+    rule: &Separation,
+) -> Option<(PlaceNo, PlaceNo)>
     requires { length plan.now ≡ length (places ship.now) }
-    ensures { MatchOption result (IsSeparated ship.now cargo.now plan.now) (λ e. IsFirstUnseparated ship.now cargo.now plan.now e) }
+    ensures { MatchOption result ((p q : ℕ) → AreTooNear ship.now cargo.now plan.now rule.now p q → ⊥) (λ pair. AreFirstNear ship.now cargo.now plan.now rule.now pair) }
+{
+    for p in 0..ship.places() {
+        if let Some(q) = first_near_to(ship, cargo, plan, rule, PlaceNo(p)) {
+            return Some((PlaceNo(p), q));
+        }
+    }
+    None
+}
+
+/// The first separation that a plan doesn't keep, by its index from 0, and the first two places that are too near.
+pub fn first_unseparated(ship: &Ship, cargo: &Cargo, plan: &Plan) -> Option<(u32, PlaceNo, PlaceNo)>
+    requires { length plan.now ≡ length (places ship.now) }
+    ensures { MatchOption result ((e p q : ℕ) → IsUnseparated ship.now cargo.now plan.now e p q → ⊥) (λ found. IsFirstUnseparated ship.now cargo.now plan.now found) }
 {
     for e in 0..ship.separations() {
-        if !is_separated_by(ship, cargo, plan, e) {
-            return Some(e);
+        if let Some((p, q)) = first_near(ship, cargo, plan, ship.separation(e)) {
+            return Some((e, p, q));
         }
     }
     None

@@ -30,6 +30,10 @@ bare_at ship plan k p all = λ c place is on held. all p c place is on held
 pub all_bare : (ship : Ship) (plan : Plan) (k m : ℕ) → length (places ship) ≤ m → ((p : ℕ) → p < m → IsBareAt ship plan k p) → IsBare ship plan k
 all_bare ship plan k m l all = λ p c place is on held. all p (let i : p < length (places ship) = slice_get_within (places ship) p place is in omega arith) c place is on held
 
+pub by_side : (P : Bool → Type 0) → P false → P true → (side : Bool) → P side
+by_side P fore aft false = fore
+by_side P fore aft true = aft
+
 pub borne_below : (ship : Ship) (cargo : Cargo) (plan : Plan) (place : Place) (long : Length) (side : Bool) → 0 < place.tier → IsBearing ship cargo plan long (half_of place.stack (place.tier - 1) side) → IsBorneOn ship cargo plan place long side
 borne_below ship cargo plan place long side high bears = λ t has e. subst (λ (x : ℕ). IsBearing ship cargo plan long (half_of place.stack x side)) (let low : place.tier - 1 ≡ t = omega arith in low) bears
 

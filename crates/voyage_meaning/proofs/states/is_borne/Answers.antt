@@ -1,6 +1,6 @@
 use Rattle.std.proofs.Common.{true}
 use Rattle.voyage_meaning.specs.Places.{IsBorneOn}
-use Rattle.stowage_rules.proofs.RulesHold.{by_side}
+use Rattle.voyage_meaning.proofs.MovesHold.{by_side}
 use Rattle.voyage_meaning.proofs.states.is_borne.Goals as goal
 
 pub returns-then-is_borne_on : goal.returns-then-is_borne_on
