@@ -21,7 +21,7 @@ unfolding has_rehandle
 nothing_below ship cargo plan call p q c d none l m hp hq below stays = false_from_ne_true _ (λ (leaves : leaves_at cargo call (Some d) ≡ true).
     let at : held plan p ≡ Some c = held_is plan p (Some c) hp in
     let under : held plan q ≡ Some d = held_is plan q (Some d) hq in
-    let lifted : must_be_lifted ship cargo plan call p ≡ true = or_right _ _ (any_filter _ _ (place_numbers ship) ∙ some_from _ 0 (length (places ship)) q (omega arith) (omega arith) (and_from _ _ below (ap (leaves_at cargo call) under ∙ leaves))) in
+    let lifted : must_be_lifted ship cargo plan call p ≡ true = or_right _ _ (any_filter (λ (z : ℕ). is_below ship z p) (λ (z : ℕ). leaves_at cargo call (held plan z)) (place_numbers ship) ∙ some_from _ 0 (length (places ship)) q (omega arith) (omega arith) (and_from _ _ below (ap (leaves_at cargo call) under ∙ leaves))) in
     let here : must_be_rehandled ship cargo plan call p ≡ true = and_from _ _ (and_from _ _ (ap (λ (z : Option ℕ). is_some z) at) (not_from_false _ (ap (leaves_at cargo call) at ∙ stays))) lifted in
     both_ways _ none (some_from _ 0 (length (places ship)) p (omega arith) (omega arith) here))
 

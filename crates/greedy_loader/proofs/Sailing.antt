@@ -1,6 +1,6 @@
 -- The loader's plans are legal departures, and none of its calls rehandles anything.
 use Rattle.std.proofs.Common.{◌≡◌, ℕ, zero, suc, ◌+◌, ◌-◌, ◌<◌, true, false, List, [], ◌∷◌, length, Option, Some, None, refl, sym, ◌∙◌, ap, subst, arith, ⊎_elim}
-use Rattle.std.specs.Prelude.{slice_get, IfSome}
+use Rattle.std.specs.Prelude.{slice_get, All, IfSome}
 use Rattle.std.proofs.lemmas.Bool.{cases_Bool, cases_eq, both_ways, cond-true, cond-false, and_from, eq-eqb, lt-ltb, eqb-false, ne_eqb}
 use Rattle.std.proofs.lemmas.Option.{none-some, same_Some, slice_get_within}
 use Rattle.stow_data.specs.declared.geometry.Cover.{Cover}
@@ -158,3 +158,9 @@ plans_are_legal ship cargo (Some plans) rules plain_ship plain h = (load_is_lega
 pub plans_have_count : (ship : Ship) (cargo : Cargo) (o : Option (List Plan)) → IsShip ship → IsPlainShip ship → IsPlainCargo ship cargo → o ≡ load ship cargo → IfSome o (λ plans. HasCount ship cargo plans 0)
 plans_have_count ship cargo None rules plain_ship plain h = tt
 plans_have_count ship cargo (Some plans) rules plain_ship plain h = load_has_count ship cargo plans rules plain_ship plain (sym h)
+
+-- each of them has an entry for each place
+pub departures_whole : (ship : Ship) (cargo : Cargo) (call : ℕ) (plans : List Plan) → AreDepartures ship cargo call plans → All (λ plan. length plan ≡ length (places ship)) plans
+departures_whole ship cargo call [] h k d l = absurd (omega arith)
+departures_whole ship cargo call (plan ∷ plans) h zero d l = h.0.stowed.well_formed.each_place
+departures_whole ship cargo call (plan ∷ plans) h (suc k) d l = departures_whole ship cargo (suc call) plans h.1 k d (omega arith)

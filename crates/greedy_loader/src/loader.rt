@@ -93,7 +93,13 @@ fn first_clean(ship: &Ship, cargo: &Cargo, plan: &Plan, dest: CallNo) -> Option<
     requires whole { length plan.now ≡ length (places ship.now) }
     ensures { result ≡ find (λ p. is_open ship.now plan.now p && is_clean ship.now cargo.now plan.now dest p) (place_numbers ship.now) }
 {
-    let found = (0..ship.places()).find(|number| is_open_and_clean(ship, cargo, plan, dest, PlaceNo(*number)));
+    let found = (0..ship.places()).find(|number| is_open_and_clean(
+        ship,
+        cargo,
+        plan,
+        dest,
+        PlaceNo(*number),
+    ));
     Some(PlaceNo(found?))
 }
 

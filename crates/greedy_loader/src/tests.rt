@@ -13,7 +13,9 @@ use stow_data::{Bytes, ContainerNo, PlaceNo, PlanList, Ship};
 
 /// Whether a ship is plain that has one stack of two tiers with these keys, and these parts besides.
 fn is_plain_with(alloc: Global, keys: &str, parts: &str) -> Result<bool, Fail> {
-    let text = format!(in alloc; "name=\"V\"\n{parts}stack=[{{bay=2,row=1,tiers=[82,84],{keys}}}]")?;
+    let text = format!(in alloc;
+        "name=\"V\"\n{parts}stack=[{{bay=2,row=1,tiers=[82,84],{keys}}}]"
+    )?;
     let ship = read_profile(alloc, text.as_bytes()).map_err(|_| "refused")?;
     Ok(is_plain_ship(&ship))
 }
@@ -79,12 +81,7 @@ fn standing(plans: &PlanList, places: u32, call: usize, p: u32) -> Option<Contai
 }
 
 /// A sign for each place of the departure of a call: the number of what stands there, or `-`.
-fn push_departure(
-    text: &mut Bytes,
-    plans: &PlanList,
-    places: u32,
-    call: usize,
-) -> Result<(), Fail>
+fn push_departure(text: &mut Bytes, plans: &PlanList, places: u32, call: usize) -> Result<(), Fail>
     requires { All (λ plan. length plan ≡ places) plans.now }
 {
     for p in 0..places {
@@ -136,7 +133,8 @@ fn voyage(alloc: Global, profile: &str, containers: &str) -> Result<Bytes, Fail>
 const ONE_STACK: &str =
     "name=\"V\"\nstack=[{bay=2,row=1,tiers=[82,84],lengths=\"40\",limit_kg=1000000}]";
 
-const TWO_STACKS: &str = "name=\"V\"\nstack=[{bay=2,row=1,tiers=[82,84],lengths=\"40\",limit_kg=1000000},{bay=2,row=2,tiers=[82,84],lengths=\"40\",limit_kg=1000000}]";
+const TWO_STACKS: &str =
+    "name=\"V\"\nstack=[{bay=2,row=1,tiers=[82,84],lengths=\"40\",limit_kg=1000000},{bay=2,row=2,tiers=[82,84],lengths=\"40\",limit_kg=1000000}]";
 
 /// The later destination stands below, and is still there when the other has left.
 fn one_leaves_the_other<R: Abort>(rt: &R, alloc: Global) -> Result<(), Fail> {

@@ -18,12 +18,10 @@ use Rattle.baplie_model.specs.Groups.{cell_group}
 use Rattle.baplie_model.specs.Segments.{closes}
 use Rattle.baplie_model.specs.Messages.{IsMessageOf}
 use Rattle.plan_files.specs.DepartureFile as file
-use Rattle.plan_files.specs.DepartureFile.{Group, port_of, group_segments, unt, unz, message, file_segments, file_text, text_of, cell_group_of, message_of}
+use Rattle.plan_files.specs.DepartureFile.{Group, port_of, group_segments, file_text, cell_group_of, message_of}
 use Rattle.plan_files.specs.DepartureSegments.{one, unb, unh, bgm, dtm, tdt, loc, cell_segment, mea, temperature_segments, rff, eqd, goods_segments}
-use Rattle.baplie_write.specs.Whole as whole
-use Rattle.baplie_write.specs.Whole.{IsWhole, content, segments_of, trailer}
+use Rattle.baplie_write.specs.Whole.{IsWhole, content, segments_of}
 use Rattle.baplie_write.proofs.Built.{AreParts, read_by_parts}
-use Rattle.baplie_write.proofs.Counts.{some_digits}
 use Rattle.baplie_write.proofs.Parts.{interchange}
 use Rattle.plan_files.proofs.Groups.{all_told, head-groups, groups-groups, open-groups, length-groups}
 use Rattle.plan_files.proofs.Quiet.{IsBookedGroup, AllBooked, groups_quiet}
@@ -105,7 +103,7 @@ groups-writable [] p = All-nil IsWritable
 groups-writable (g ∷ gs) p = All-append IsWritable (group_segments g) (flat_map group_segments gs) (group-writable g p.0) (groups-writable gs p.1)
 
 are_parts : (cargo : Cargo) (bookings : Bookings) (call : ℕ) (gs : List Group) → IsBookedHead cargo bookings call → AllBooked gs → length gs ≤ 3000 → AreParts (message_of cargo bookings call gs)
-unfolding unh
+unfolding unh file.head
 are_parts cargo bookings call gs h p few =
     let is = content-is cargo bookings call gs in
     let head : faults.head (content (message_of cargo bookings call gs)) ≡ file.head cargo bookings call = ap faults.head is ∙ front-head cargo bookings call (flat_map group_segments gs) ∙ ap (λ xs. file.head cargo bookings call ++ xs) (head-groups gs) in

@@ -6,7 +6,7 @@ ghost use Rattle.stow_data.specs.Plans.{Plan, IsKnown};
 ghost use Rattle.bookings.specs.declared.shipment.Bookings.{Bookings};
 ghost use Rattle.bookings.specs.Rules.{IsBookings};
 ghost use Rattle.bookings.specs.BookedCargo.{booked_cargo};
-ghost use Rattle.plan_files.specs.DepartureFile.{file_segments, file_text, groups, message_of};
+ghost use Rattle.plan_files.specs.DepartureFile.{file_text, groups, message_of};
 ghost use Rattle.baplie_model.specs.Messages.{IsMessageOf};
 ghost use Rattle.baplie_write.specs.Whole.{IsWhole};
 
