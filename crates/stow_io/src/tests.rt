@@ -1,12 +1,12 @@
 //! Each call once over the doubles, the real files, and streams that give and take little at a time.
-ghost use Rattle.std.specs.Prelude.{◌<◌};
-
 use super::*;
 use crate::real::read_file;
 use crate::streams::{read_whole, write_whole};
 use std::alloc::Global;
+use std::cell::Cell;
+use std::fmt::Display;
 use std::fs;
-use std::io::{self, ErrorKind, Read, Write};
+use std::io::{self, ErrorKind, Print, Read, Write};
 use std::test::Fail;
 use stow_data::{Bytes, NoMemory, NumberList};
 
@@ -170,6 +170,48 @@ fn short_writes(rt: HostRuntime) -> Result<(), Fail> {
     assert!(rt; stream.taken.as_slice() == b"012".as_slice());
     let mut stream = Narrow::new(alloc, b"", 0, 0);
     assert!(rt; write_whole(&mut stream, b"0") == Err(Failed));
+    Ok(())
+}
+
+/// An output that takes a byte at a time, and fails when its turns are used up.
+#[derive(Drop)]
+struct Shy {
+    turns: Cell<u32>,
+}
+
+impl Print for Shy {
+    fn print<D: Display + Drop>(&self, _value: D) -> io::Result<()> {
+        Err(io::Error::from(ErrorKind::Unsupported))
+    }
+
+    fn println<D: Display + Drop>(&self, _value: D) -> io::Result<()> {
+        Err(io::Error::from(ErrorKind::Unsupported))
+    }
+
+    fn write_all(&self, _bytes: &[u8]) -> io::Result<()> {
+        Err(io::Error::from(ErrorKind::Unsupported))
+    }
+
+    fn write_some(&self, bytes: &[u8]) -> io::Result<usize> {
+        let turns = self.turns.get();
+        if turns == 0 {
+            return Err(io::Error::from(ErrorKind::Other));
+        }
+        self.turns.set(turns - 1);
+        Ok(bytes.len().min(1))
+    }
+}
+
+/// All bytes come out where each turn takes one, and a turn that fails in the middle is told.
+#[test]
+fn a_shy_output(rt: HostRuntime) -> Result<(), Fail> {
+    let shy = Shy {
+        turns: Cell::new(5),
+    };
+    let mut out = RealOut::new(&shy);
+    assert!(rt; out.put(b"abc") == Ok(()));
+    assert!(rt; shy.turns.get() == 2);
+    assert!(rt; out.put(b"def") == Err(Failed));
     Ok(())
 }
 
