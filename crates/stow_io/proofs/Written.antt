@@ -1,5 +1,5 @@
 -- What a loop of writes has written: a part of the bytes from the front.
-use Rattle.std.proofs.Common.{◌≡◌, ℕ, ◌-◌, List, [], ◌++◌, arith, refl, sym, ◌∙◌, ap, length, take, drop, None, Some, append_assoc, take-append-drop, le_refl}
+use Rattle.std.proofs.Common.{◌≡◌, ℕ, ◌-◌, List, ◌++◌, sym, ◌∙◌, ap, length, take, drop, None, Some, append_assoc, take-append-drop, le_refl}
 use Rattle.std.specs.Prelude.{Option}
 use Rattle.std.specs.Io.KnownBytes.{Appends, Keeps}
 use Rattle.std.proofs.lemmas.List.{take_rest, take_all, take-append-le}

@@ -60,7 +60,7 @@ impl Calls {
         ensures fails { IsTrue result ↔ NextFails self.old }
     {
         self.made = self.made.saturating_add(1);
-        self.failing.as_slice().contains(&self.made)
+        self.failing.contains(&self.made)
     }
 
     /// Counts a fault.
@@ -136,7 +136,7 @@ impl Folder for MemFolder {
             return Err(FolderNo::Failed);
         }
         match self.files.get(name) {
-            Some(bytes) if bytes.len() <= MOST_READ => Ok(Bytes::of(self.alloc, bytes.as_slice())?),
+            Some(bytes) if bytes.len() <= MOST_READ => Ok(bytes.copy(self.alloc)?),
             _ => {
                 self.calls.count_fault();
                 Err(FolderNo::Failed)
@@ -214,7 +214,7 @@ impl Folder for SureFolder {
     {
         match self.files.get(name) {
             None => Ok(Bytes::new(self.alloc)),
-            Some(bytes) if bytes.len() <= MOST_READ => Ok(Bytes::of(self.alloc, bytes.as_slice())?),
+            Some(bytes) if bytes.len() <= MOST_READ => Ok(bytes.copy(self.alloc)?),
             Some(_) => Err(FolderNo::NoMemory),
         }
     }
