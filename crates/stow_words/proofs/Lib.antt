@@ -1,0 +1,4 @@
+mod Local
+mod Digits
+mod Entered
+mod Simple

@@ -1,0 +1,81 @@
+-- What the words of a command line order, by what `clap` reads in them.
+use Rattle.std.specs.Prelude.{◌≡◌, ℕ, ◌⊎◌, cond, List, [], ◌∷◌, Option, Some, None, codes, unwrap_or, Result, Ok, Err}
+use Rattle.std.specs.Str.{bytes_eq}
+use Rattle.clap.specs.Words.{Text, Row, Kinds, first_of, subcommand_of, fault_of}
+use Rattle.stow_words.specs.declared.order.Order.{Order}
+use Rattle.stow_words.specs.declared.order.Order.TheVariants.{Plan, Check, Show, Make}
+use Rattle.stow_words.specs.declared.order.WordsNo.{WordsNo}
+use Rattle.stow_words.specs.declared.order.WordsNo.TheVariants.{NotTaken, Workers, Budget, Number, NoMemory}
+use Rattle.stow_words.specs.declared.commands.Verb.{Verb}
+use Rattle.stow_words.specs.declared.commands.Verb.TheVariants as verb
+use Rattle.stow_words.specs.Command.{stow_app}
+use Rattle.stow_words.specs.Numbers.{number_in}
+
+-- the value of a positional argument
+abbrev pub positional : Text → List Row → Text
+positional id rows = unwrap_or (first_of id rows) []
+
+-- the number after an option, or the one that stands for none
+abbrev pub number_or : ℕ → ℕ → ℕ → Option Text → Option ℕ
+number_or default least most None = Some default
+number_or default least most (Some text) = number_in least most text
+
+-- 1 to 16 workers, and 1 where none are named
+abbrev pub workers_in : List Row → Option ℕ
+workers_in rows = number_or 1 1 16 (first_of (codes "workers") rows)
+
+-- a budget of 1 to 100,000 nodes, and of 1,000 where none is named
+abbrev pub budget_in : List Row → Option ℕ
+budget_in rows = number_or 1000 1 100000 (first_of (codes "budget") rows)
+
+abbrev pub number_at : List Row → Option ℕ
+number_at rows = number_in 0 2147483647 (positional (codes "number") rows)
+
+abbrev pub planned : List Row → Option ℕ → Option ℕ → Result Order WordsNo
+planned rows None budget = Err Workers
+planned rows (Some workers) None = Err Budget
+planned rows (Some workers) (Some budget) = Ok (Plan (positional (codes "profile") rows) (positional (codes "bookings") rows) (positional (codes "name") rows) (first_of (codes "arrival") rows) workers budget)
+
+abbrev pub plan_order : List Row → Result Order WordsNo
+plan_order rows = planned rows (workers_in rows) (budget_in rows)
+
+abbrev pub check_order : List Row → Result Order WordsNo
+check_order rows = Ok (Check (positional (codes "profile") rows) (positional (codes "bookings") rows) (positional (codes "name") rows) (first_of (codes "arrival") rows))
+
+abbrev pub show_order : List Row → Result Order WordsNo
+show_order rows = Ok (Show (positional (codes "file") rows))
+
+abbrev pub made : List Row → Option ℕ → Result Order WordsNo
+made rows None = Err Number
+made rows (Some number) = Ok (Make number (positional (codes "name") rows))
+
+abbrev pub make_order : List Row → Result Order WordsNo
+make_order rows = made rows (number_at rows)
+
+-- the subcommand of a name
+abbrev pub verb_named : Text → Option Verb
+verb_named name = cond (bytes_eq name (codes "plan")) (Some verb.Plan) (cond (bytes_eq name (codes "check")) (Some verb.Check) (cond (bytes_eq name (codes "show")) (Some verb.Show) (cond (bytes_eq name (codes "make")) (Some verb.Make) None)))
+
+-- the order of a subcommand and its values
+abbrev pub order_of : Option Verb → List Row → Result Order WordsNo
+order_of None rows = Err NotTaken
+order_of (Some verb.Plan) rows = plan_order rows
+order_of (Some verb.Check) rows = check_order rows
+order_of (Some verb.Show) rows = show_order rows
+order_of (Some verb.Make) rows = make_order rows
+
+abbrev pub entered_order : Option (Text × List Row) → Result Order WordsNo
+entered_order None = Err NotTaken
+entered_order (Some p) = order_of (verb_named p.0) p.1
+
+abbrev pub unless_faulty : Kinds → Result Order WordsNo → Result Order WordsNo
+unless_faulty [] order = order
+unless_faulty (kind ∷ kinds) order = Err NotTaken
+
+-- what words order: nothing where `clap` finds a fault in them
+abbrev pub ordered : List Text → Result Order WordsNo
+ordered words = unless_faulty (fault_of stow_app words) (entered_order (subcommand_of stow_app words))
+
+-- an answer that is as wanted, or want of memory
+abbrev pub Gives : Result Order WordsNo → Result Order WordsNo → Type 0
+Gives answer wanted = (answer ≡ Err NoMemory) ⊎ (answer ≡ wanted)

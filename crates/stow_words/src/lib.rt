@@ -1,0 +1,13 @@
+//! The words of the command line, read by `clap`.
+#![tactic(auto)]
+
+mod commands;
+mod numbers;
+mod order;
+mod reading;
+
+#[cfg(test)]
+mod tests;
+
+pub use order::{Order, WordsNo};
+pub use reading::read_words;
