@@ -2,3 +2,10 @@ mod Local
 mod Digits
 mod Entered
 mod Simple
+mod Read
+mod Walks
+mod PlanTaken
+mod CheckTaken
+mod ShowTaken
+mod MakeTaken
+mod Forms

@@ -2,6 +2,7 @@
 ghost use Rattle.std.specs.Prelude.{◌≡◌, ◌≢◌, ◌⊎◌, [], Some, IfOk, Err, map, option_map};
 ghost use Rattle.clap.specs.Words.{fault_of, kind_of, found_of, rows_of, first_of};
 ghost use Rattle.stow_words.specs.Command.{stow_app};
+ghost use Rattle.stow_words.specs.Plain.{IsPlainForm};
 ghost use Rattle.stow_words.specs.Orders.{Gives, positional, workers_in, budget_in, number_at, number_or, plan_order, check_order, show_order, make_order, order_of, ordered};
 
 use crate::commands::{Verb, stow_command, verb_of};
@@ -152,6 +153,7 @@ fn texts_of<'a>(alloc: Global, words: &'a WordList) -> Result<Vec<&'a str>, NoMe
 pub fn read_words(alloc: Global, words: &WordList) -> Result<Order, WordsNo>
     ensures order { Gives result (ordered words.now) }
     ensures not_taken { result ≡ Err WordsNo.NotTaken → fault_of stow_app words.now ≢ [] }
+    ensures plain { IsPlainForm words.now → result ≢ Err WordsNo.NotTaken }
 {
     let texts = texts_of(alloc, words)?;
     let Ok(command) = stow_command(alloc) else {

@@ -1,0 +1,66 @@
+-- Words of the plain form of `make` are taken.
+use Rattle.std.proofs.Common.{◌≡◌, ℕ, Bool, true, false, ◌&&◌, List, [], ◌∷◌, ◌++◌, Some, None, codes, refl, eqb, unwrap_or, ◌∙◌, ap, sym}
+use Rattle.std.specs.Prelude.{find}
+use Rattle.std.specs.List.{fold, list_all}
+use Rattle.std.proofs.lemmas.Bool.{and_from, both_ways, not-true}
+use Rattle.std.proofs.lemmas.List.{append-nil, append_assoc}
+use Rattle.clap.specs.Words.{Text, Rule, Shape, takes, is_simple, built}
+use Rattle.clap.specs.Faults.{is_simple_and_free}
+use Rattle.clap.specs.Simple.{names_of, label_of}
+use Rattle.clap.specs.Takes.{walk_passes, turn_passes, level_passes, settle_passes, default_passes, is_valid}
+use Rattle.clap.specs.Walk.{Walk, Held, Names, Waiting, walked, walk, walk_from, nothing_held, idle, option, answers_to, to_positional, arg_by_index, settled, finished}
+use Rattle.clap.proofs.OnLiterals.{clap_on_literals}
+use Rattle.stow_words.specs.Command.{stow_app, plan_app, check_app, show_app, make_app}
+use Rattle.stow_words.specs.Plain.{is_plain, Opt, Arrival, Workers, Budget, id_of, AreOnce, ArePlain, words_of, IsPlainPlan, arrival_words, IsPlainOption, IsPlainCheck, IsPlainShow, IsPlainMake, IsPlainForm}
+use Rattle.stow_words.proofs.Walks.{halted, halted_walk, halted_passes, top, names, start, more, none, split_plain}
+
+abbrev leaf : Shape
+leaf = unwrap_or (find (λ s. answers_to (codes "make") (label_of s)) (built stow_app).subs) make_app.top
+
+first : walked top.rules names start (codes "make") ≡ halted nothing_held idle 1 false (codes "make") []
+unfolding clap_on_literals
+first = refl
+
+top_walk : (rest : List Text) → walk top.rules names nothing_held (codes "make" ∷ rest) ≡ halted nothing_held idle 1 false (codes "make") rest
+top_walk rest = ap (λ (w : Walk). fold (walked top.rules names) w rest) first ∙ halted_walk top.rules names nothing_held idle 1 false (codes "make") [] rest
+
+top_passes : (rest : List Text) → walk_passes top names start (codes "make" ∷ rest) ≡ true
+unfolding clap_on_literals
+top_passes rest = halted_passes top names nothing_held idle 1 false (codes "make") [] rest
+
+takes_by_rest : (name : Text) (rest : List Text) → level_passes leaf [] nothing_held rest false ≡ true → takes stow_app (name ∷ codes "make" ∷ rest) ≡ true
+takes_by_rest name rest h = rw (top_walk rest, top_passes rest, h) refl
+
+abbrev at_one : Text → Walk
+at_one p = to_positional leaf.rules (arg_by_index leaf.rules 1) p start nothing_held
+
+abbrev at_two : Text → Text → Walk
+at_two p b = to_positional leaf.rules (arg_by_index leaf.rules 2) b (at_one p) (at_one p).held
+
+step_one : (x : ℕ) (xs : Text) → eqb x 45 ≡ false → walked leaf.rules [] start (x ∷ xs) ≡ at_one (x ∷ xs)
+unfolding clap_on_literals
+step_one x xs e = simp e
+
+pass_one : (x : ℕ) (xs : Text) → eqb x 45 ≡ false → turn_passes leaf [] start (x ∷ xs) ≡ true
+unfolding clap_on_literals
+pass_one x xs e = simp e
+
+step_two : (p : Text) (y : ℕ) (ys : Text) → eqb y 45 ≡ false → walked leaf.rules [] (at_one p) (y ∷ ys) ≡ at_two p (y ∷ ys)
+unfolding clap_on_literals
+step_two p y ys e = simp e
+
+pass_two : (p : Text) (y : ℕ) (ys : Text) → eqb y 45 ≡ false → turn_passes leaf [] (at_one p) (y ∷ ys) ≡ true
+unfolding clap_on_literals
+pass_two p y ys e = simp e
+
+two_words : (x y : ℕ) (xs ys : Text) → eqb x 45 ≡ false → eqb y 45 ≡ false → level_passes leaf [] nothing_held ((x ∷ xs) ∷ (y ∷ ys) ∷ []) false ≡ true
+two_words x y xs ys e f =
+    let w : walk leaf.rules [] nothing_held ((x ∷ xs) ∷ (y ∷ ys) ∷ []) ≡ at_two (x ∷ xs) (y ∷ ys) = ap (λ (w : Walk). walked leaf.rules [] w (y ∷ ys)) (step_one x xs e) ∙ step_two (x ∷ xs) y ys f in
+    let p : walk_passes leaf [] start ((x ∷ xs) ∷ (y ∷ ys) ∷ []) ≡ true = more leaf [] start (at_one (x ∷ xs)) (x ∷ xs) _ (pass_one x xs e) (step_one x xs e) (more leaf [] (at_one (x ∷ xs)) (at_two (x ∷ xs) (y ∷ ys)) (y ∷ ys) _ (pass_two (x ∷ xs) y ys f) (step_two (x ∷ xs) y ys f) (none leaf [] _)) in
+    rw (w, p) refl
+
+pub make_taken : (words : List Text) → IsPlainMake words → takes stow_app words ≡ true
+make_taken words f =
+    let s = split_plain f.number f.number_plain in
+    let t = split_plain f.base f.base_plain in
+    rw (f.words_are, s.2, t.2) (takes_by_rest f.name _ (two_words s.0 t.0 s.1 t.1 s.3 t.3))
