@@ -5,7 +5,6 @@ mod commands;
 mod numbers;
 mod order;
 mod reading;
-
 #[cfg(test)]
 mod tests;
 

@@ -22,9 +22,14 @@ pub enum Order {
         arrival: Option<Word>,
     },
     /// `stow show FILE`
-    Show { file: Word },
+    Show {
+        file: Word,
+    },
     /// `stow make NUMBER OUT`
-    Make { number: u32, name: Word },
+    Make {
+        number: u32,
+        name: Word,
+    },
 }
 
 /// Why words are refused.

@@ -41,13 +41,7 @@ fn option(alloc: Global, found: &ArgMatches<'_>, id: &str) -> Result<Option<Word
 }
 
 // The number after an option, or the one that stands for none.
-fn number_or(
-    found: &ArgMatches<'_>,
-    id: &str,
-    default: u64,
-    least: u64,
-    most: u64,
-) -> Option<u64>
+fn number_or(found: &ArgMatches<'_>, id: &str, default: u64, least: u64, most: u64) -> Option<u64>
     ensures { result ≡ number_or default least most (first_of id.now (rows_of (found_of found.now))) }
 {
     match text_of(found, id) {

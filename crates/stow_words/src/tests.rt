@@ -27,14 +27,16 @@ fn refuses(alloc: Global, line: &str, why: WordsNo) -> bool {
 
 // Whether a line orders the plan of `a`, `b` and `c` with so many workers and this budget.
 fn plans(alloc: Global, line: &str, number: u32, nodes: u64) -> bool {
-    let Ok(Order::Plan {
-        profile,
-        bookings,
-        name,
-        arrival: None,
-        workers,
-        budget,
-    }) = read(alloc, line)
+    let Ok(
+        Order::Plan {
+            profile,
+            bookings,
+            name,
+            arrival: None,
+            workers,
+            budget,
+        },
+    ) = read(alloc, line)
     else {
         return false;
     };
@@ -64,7 +66,13 @@ fn workers_have_a_range(rt: HostRuntime) -> Result<(), Fail> {
     let alloc = rt.alloc();
     assert!(rt; refuses(alloc, "stow plan a b c --workers 0", WordsNo::Workers));
     assert!(rt; refuses(alloc, "stow plan a b c --workers 17", WordsNo::Workers));
-    assert!(rt; refuses(alloc, "stow plan a b c --budget x --workers 17", WordsNo::Workers));
+    assert!(rt;
+        refuses(
+            alloc,
+            "stow plan a b c --budget x --workers 17",
+            WordsNo::Workers
+        )
+    );
     Ok(())
 }
 
@@ -73,7 +81,13 @@ fn budgets_have_a_range(rt: HostRuntime) -> Result<(), Fail> {
     let alloc = rt.alloc();
     assert!(rt; refuses(alloc, "stow plan a b c --budget 0", WordsNo::Budget));
     assert!(rt; refuses(alloc, "stow plan a b c --budget x", WordsNo::Budget));
-    assert!(rt; refuses(alloc, "stow plan a b c --budget 1 --budget 2", WordsNo::NotTaken));
+    assert!(rt;
+        refuses(
+            alloc,
+            "stow plan a b c --budget 1 --budget 2",
+            WordsNo::NotTaken
+        )
+    );
     Ok(())
 }
 
@@ -82,7 +96,12 @@ fn numbers_have_a_range(rt: HostRuntime) -> Result<(), Fail> {
     let alloc = rt.alloc();
     assert!(rt; refuses(alloc, "stow make 2147483648 c", WordsNo::Number));
     assert!(rt; refuses(alloc, "stow make 1x c", WordsNo::Number));
-    assert!(rt; matches!(read(alloc, "stow make 2147483647 c"), Ok(Order::Make { .. })));
+    assert!(rt;
+        matches!(
+            read(alloc, "stow make 2147483647 c"),
+            Ok(Order::Make { .. })
+        )
+    );
     Ok(())
 }
 
@@ -106,10 +125,12 @@ fn help_is_not_taken(rt: HostRuntime) -> Result<(), Fail> {
 
 // Whether a line orders a check with the arrival `d`.
 fn checks(alloc: Global, line: &str) -> bool {
-    let Ok(Order::Check {
-        arrival: Some(file),
-        ..
-    }) = read(alloc, line)
+    let Ok(
+        Order::Check {
+            arrival: Some(file),
+            ..
+        },
+    ) = read(alloc, line)
     else {
         return false;
     };
