@@ -11,8 +11,8 @@ use Rattle.proof_trees.specs.Program.{Program}
 use Rattle.proof_trees.specs.Boxes.{Box, at, fixed, tightened, AreRows}
 use Rattle.proof_trees.specs.Multipliers.{Multipliers, worth, Closes, raised, raised_all}
 use Rattle.proof_trees.specs.Trees.{End, Leaf, Left, Branch, Entry, Pending, begun, EndProves, ProveAll}
-use Rattle.bound_checker.specs.declared.refusals.BoundNo.{BoundNo}
-use Rattle.bound_checker.specs.declared.refusals.BoundNo.TheVariants.{Multiplier, StepRow, BranchFixed, LeafShort}
+use Rattle.certificate.specs.declared.refusals.BoundNo.{BoundNo}
+use Rattle.certificate.specs.declared.refusals.BoundNo.TheVariants.{Multiplier, StepRow, BranchFixed, LeafShort}
 use Rattle.bound_checker.specs.Entries.{same_row}
 use Rattle.bound_checker.proofs.InOrder.{failed}
 use Rattle.bound_checker.specs.Faults.{needed, step_fault, raised_rows, short_fault, end_fault, tree_fault}

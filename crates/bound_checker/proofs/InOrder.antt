@@ -8,7 +8,7 @@ use Rattle.zero_one_rows.specs.Variables.{Voyage}
 use Rattle.zero_one_model.specs.Early.{early}
 use Rattle.proof_trees.specs.Program.{Program}
 use Rattle.proof_trees.specs.Multipliers.{Multipliers}
-use Rattle.bound_checker.specs.declared.refusals.BoundNo.{BoundNo}
+use Rattle.certificate.specs.declared.refusals.BoundNo.{BoundNo}
 use Rattle.bound_checker.specs.declared.sums.Sums.{Sums}
 use Rattle.bound_checker.specs.Entries.{raise_of}
 use Rattle.bound_checker.specs.Faults.{raised_row, raised_rows}

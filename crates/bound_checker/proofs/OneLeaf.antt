@@ -17,8 +17,8 @@ use Rattle.proof_trees.specs.Boxes.{Box, free_box, tightened}
 use Rattle.proof_trees.specs.Multipliers.{Multipliers}
 use Rattle.proof_trees.specs.Trees.{begun, root}
 use Rattle.proof_trees.proofs.Soundness.{proved_bound}
-use Rattle.bound_checker.specs.declared.refusals.BoundNo.{BoundNo}
-use Rattle.bound_checker.specs.declared.refusals.BoundNo.TheVariants.{NoMemory}
+use Rattle.certificate.specs.declared.refusals.BoundNo.{BoundNo}
+use Rattle.certificate.specs.declared.refusals.BoundNo.TheVariants.{NoMemory}
 use Rattle.bound_checker.specs.declared.sums.Sums.{Sums}
 use Rattle.bound_checker.specs.Entries.{same_row, raise_of, entry_of, end_of, ProvesBound, IsOneLeaf}
 use Rattle.bound_checker.specs.Faults.{step_fault, raised_rows, short_fault, end_fault, tree_fault, first_fault}

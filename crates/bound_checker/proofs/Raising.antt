@@ -7,8 +7,8 @@ use Rattle.zero_one_rows.specs.declared.program.Row.{Row}
 use Rattle.zero_one_rows.specs.Variables.{Voyage, variables}
 use Rattle.zero_one_model.specs.Early.{early}
 use Rattle.proof_trees.specs.Multipliers.{Multipliers, amount_of, with_amount, raised}
-use Rattle.bound_checker.specs.declared.refusals.BoundNo.{BoundNo}
-use Rattle.bound_checker.specs.declared.refusals.BoundNo.TheVariants.{Multiplier, StepRow, NoMemory}
+use Rattle.certificate.specs.declared.refusals.BoundNo.{BoundNo}
+use Rattle.certificate.specs.declared.refusals.BoundNo.TheVariants.{Multiplier, StepRow, NoMemory}
 use Rattle.bound_checker.specs.declared.sums.Sums.{Sums}
 use Rattle.bound_checker.specs.Entries.{same_row}
 use Rattle.bound_checker.specs.Faults.{raised_row}

@@ -9,8 +9,8 @@ use Rattle.proof_trees.specs.Program.{Program}
 use Rattle.proof_trees.specs.Boxes.{Box, at, fixed, tightened}
 use Rattle.proof_trees.specs.Multipliers.{Multipliers, worth, raised}
 use Rattle.proof_trees.specs.Trees.{End, Leaf, Left, Branch, Entry, Pending, begun, root}
-use Rattle.bound_checker.specs.declared.refusals.BoundNo.{BoundNo}
-use Rattle.bound_checker.specs.declared.refusals.BoundNo.TheVariants.{Multiplier, StepRow, BranchFixed, LeafShort, TreeEnds, TreeTooLong}
+use Rattle.certificate.specs.declared.refusals.BoundNo.{BoundNo}
+use Rattle.certificate.specs.declared.refusals.BoundNo.TheVariants.{Multiplier, StepRow, BranchFixed, LeafShort, TreeEnds, TreeTooLong}
 use Rattle.bound_checker.specs.Entries.{same_row, entry_of}
 
 -- the least dual value that closes at the bound

@@ -4,8 +4,8 @@ use Rattle.zero_one_rows.specs.declared.program.Row.{Row}
 use Rattle.zero_one_rows.specs.Variables.{Voyage, variables}
 use Rattle.zero_one_model.specs.Early.{early}
 use Rattle.proof_trees.specs.Multipliers.{Multipliers, amount_of, weighed, weighed_rhs}
-use Rattle.bound_checker.specs.declared.refusals.BoundNo.{BoundNo}
-use Rattle.bound_checker.specs.declared.refusals.BoundNo.TheVariants.{NoMemory}
+use Rattle.certificate.specs.declared.refusals.BoundNo.{BoundNo}
+use Rattle.certificate.specs.declared.refusals.BoundNo.TheVariants.{NoMemory}
 use Rattle.bound_checker.specs.declared.sums.Sums.{Sums}
 use Rattle.bound_checker.specs.Entries.{same_row}
 

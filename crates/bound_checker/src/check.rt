@@ -10,9 +10,8 @@ ghost use Rattle.bound_checker.specs.Entries.{ProvesBound, IsOneLeaf};
 ghost use Rattle.bound_checker.specs.Faults.{needed, short_fault, first_fault};
 ghost use Rattle.bound_checker.specs.Sums.{Carries, CarriesSome};
 
-use crate::refusals::BoundNo;
 use crate::sums::Sums;
-use certificate::{End, Tree};
+use certificate::{BoundNo, End, Tree};
 use std::alloc::Global;
 use zero_one_model::{Box01, Model};
 

@@ -4,9 +4,8 @@
 mod amounts;
 mod check;
 mod laws;
-mod refusals;
 mod sums;
 
+pub use certificate::BoundNo;
 pub use check::{check_bound, is_one_leaf};
 pub use laws::proved_or_fault;
-pub use refusals::BoundNo;

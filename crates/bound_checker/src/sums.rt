@@ -12,7 +12,7 @@ ghost use Rattle.bound_checker.specs.Faults.{raised_row, raised_rows};
 ghost use Rattle.bound_checker.specs.Sums.{in_range, weight_at, IsSmall, Carries, CarriesSome, HasRoom, Stands};
 
 use crate::amounts::Amounts;
-use crate::refusals::BoundNo;
+use certificate::BoundNo;
 use std::alloc::Global;
 use stow_data::{NoMemory, VarNo};
 use zero_one_model::{Box01, Model};

@@ -13,7 +13,7 @@ use Rattle.certificate.specs.declared.tree.Head.{Head}
 use Rattle.certificate.specs.declared.tree.Record.{Record}
 use Rattle.certificate.specs.Grammar.{IsCert}
 use Rattle.certificate.specs.FirstFault.{HasFault}
-use Rattle.bound_checker.specs.declared.refusals.BoundNo.{BoundNo}
+use Rattle.certificate.specs.declared.refusals.BoundNo.{BoundNo}
 use Rattle.bound_checker.specs.Entries.{ProvesBound, IsOneLeaf}
 use Rattle.bound_checker.specs.Faults.{first_fault}
 use Rattle.baplie_model.specs.declared.parts.Message.{Message}

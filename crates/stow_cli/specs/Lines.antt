@@ -2,8 +2,8 @@
 use Rattle.std.specs.Prelude.{pos, true, [], ◌∷◌}
 use Rattle.certificate.specs.declared.faults.CertFault.{CertFault}
 use Rattle.certificate.specs.declared.faults.CertFault.TheVariants as cert
-use Rattle.bound_checker.specs.declared.refusals.BoundNo.{BoundNo}
-use Rattle.bound_checker.specs.declared.refusals.BoundNo.TheVariants as bound
+use Rattle.certificate.specs.declared.refusals.BoundNo.{BoundNo}
+use Rattle.certificate.specs.declared.refusals.BoundNo.TheVariants as bound
 use Rattle.baplie_read.specs.declared.faults.BaplieFault.{BaplieFault}
 use Rattle.baplie_read.specs.declared.faults.BaplieFault.TheVariants.{Seg, At, NoMemory}
 use Rattle.edifact_segments.specs.declared.faults.SegFault.TheVariants as seg

@@ -7,8 +7,6 @@ mod half_cells;
 mod plugs;
 mod separation;
 mod supports;
-#[cfg(test)]
-mod tests;
 mod tiers;
 mod weights;
 

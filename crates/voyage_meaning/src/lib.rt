@@ -5,8 +5,6 @@ mod bearing;
 mod crane;
 mod moves;
 mod states;
-#[cfg(test)]
-mod tests;
 
 pub use bearing::is_bearing;
 pub use crane::{MoveList, count_call, count_voyage, run};

@@ -2,8 +2,8 @@ use Rattle.std.proofs.Common.{◌≡◌, ◌≢◌, ◌∙◌, ap, subst, map, [
 use Rattle.std.proofs.lemmas.Result.{err_from_is_err_and}
 use Rattle.zero_one_model.specs.Early.{early}
 use Rattle.proof_trees.specs.Boxes.{Box, free_box}
-use Rattle.bound_checker.specs.declared.refusals.BoundNo.{BoundNo}
-use Rattle.bound_checker.specs.declared.refusals.BoundNo.TheVariants.{NoMemory}
+use Rattle.certificate.specs.declared.refusals.BoundNo.{BoundNo}
+use Rattle.certificate.specs.declared.refusals.BoundNo.TheVariants.{NoMemory}
 use Rattle.bound_checker.specs.Entries.{raise_of, ProvesBound}
 use Rattle.bound_checker.specs.Faults.{raised_rows, first_fault}
 use Rattle.bound_checker.proofs.OneLeaf.{fault_is, leaf_fault, ClosesOr, raises_refused, leaf_ok, leaf_refused, carries_some, bounds, proves_where, proves_nowhere, if_err_other, on_ok_other, if_err_at}

@@ -4,7 +4,7 @@ use Rattle.zero_one_rows.specs.declared.program.Row.{Row}
 use Rattle.zero_one_rows.specs.declared.program.Raise.{Raise}
 use Rattle.zero_one_model.specs.Early.{early, early_rows}
 use Rattle.proof_trees.specs.Multipliers.{Multipliers}
-use Rattle.bound_checker.specs.declared.refusals.BoundNo.{BoundNo}
+use Rattle.certificate.specs.declared.refusals.BoundNo.{BoundNo}
 use Rattle.bound_checker.specs.Entries.{raise_of}
 use Rattle.bound_checker.specs.Faults.{raised_rows}
 use Rattle.bound_checker.specs.Sums.{Carried, Stands}

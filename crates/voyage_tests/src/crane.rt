@@ -2,12 +2,12 @@
 ghost use Rattle.std.specs.Prelude.{◌≡◌, IfOk, All, length};
 ghost use Rattle.stow_data.specs.Ship.{places};
 
-use super::*;
 use sample_voyage::{Entries, plan_of, small_cargo, small_ship};
 use std::alloc::Global;
 use std::process::Abort;
 use std::test::Fail;
 use stow_data::{CallNo, ContainerNo, CoverNo, NoMemory, PlaceNo, Plan, PlanList, Seq, Ship};
+use voyage_meaning::{Move, MoveList, State, count_call, count_voyage, run};
 
 const ON_DECK: PlaceNo = PlaceNo(6);
 

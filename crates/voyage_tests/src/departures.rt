@@ -3,12 +3,12 @@
 //! to 3 are in the hold, fore and aft in each tier.
 ghost use Rattle.std.specs.Prelude.{◌≤◌};
 
-use super::*;
 use sample_voyage::{Entries, plan_of, ship_of_level, small_cargo, small_ship};
 use std::alloc::Global;
 use std::process::Abort;
 use std::test::Fail;
 use stow_data::{CallNo, HalfNo, NoMemory, PlaceNo, StackNo};
+use stowage_rules::{RuleBroken, departure_fault, is_departure, is_well_formed};
 
 /// The first fault of the plan with these containers, where classes 3 and 8 are kept apart by this level.
 fn first_fault(

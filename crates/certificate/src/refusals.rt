@@ -36,7 +36,7 @@ pub enum BoundNo {
 
 impl From<NoMemory> for BoundNo {
     ghost use Rattle.std.specs.Prelude.{◌≡◌};
-    ghost use Rattle.bound_checker.specs.declared.refusals.BoundNo.TheVariants.{NoMemory};
+    ghost use Rattle.certificate.specs.declared.refusals.BoundNo.TheVariants.{NoMemory};
 
     ghost from_gives = { λ _ e. e ≡ NoMemory };
 
