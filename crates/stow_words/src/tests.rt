@@ -25,23 +25,29 @@ fn refuses(alloc: Global, line: &str, why: WordsNo) -> bool {
     }
 }
 
-// Whether a line orders the plan of `a`, `b` and `c` with so many workers and this budget.
-fn plans(alloc: Global, line: &str, number: u32, nodes: u64) -> bool {
-    let Ok(
+// Whether this is the plan of `a`, `b` and `c` with so many workers and this budget.
+fn is_plan(order: &Order, number: u32, nodes: u64) -> bool {
+    match order {
         Order::Plan {
             profile,
             bookings,
             name,
-            arrival: None,
+            arrival: _,
             workers,
             budget,
-        },
-    ) = read(alloc, line)
-    else {
-        return false;
-    };
-    let names = profile.as_str() == "a" && bookings.as_str() == "b" && name.as_str() == "c";
-    names && workers == number && budget == nodes
+        } => {
+            let names = profile.as_str() == "a" && bookings.as_str() == "b" && name.as_str() == "c";
+            names && *workers == number && *budget == nodes
+        }
+        _ => false,
+    }
+}
+
+fn plans(alloc: Global, line: &str, number: u32, nodes: u64) -> bool {
+    match read(alloc, line) {
+        Ok(order) => is_plan(&order, number, nodes),
+        Err(_) => false,
+    }
 }
 
 #[test]
@@ -123,26 +129,38 @@ fn help_is_not_taken(rt: HostRuntime) -> Result<(), Fail> {
     Ok(())
 }
 
-// Whether a line orders a check with the arrival `d`.
-fn checks(alloc: Global, line: &str) -> bool {
-    let Ok(
+// Whether this is a check with the arrival `d`.
+fn is_check(order: &Order) -> bool {
+    match order {
         Order::Check {
-            arrival: Some(file),
-            ..
+            profile: _,
+            bookings: _,
+            name: _,
+            arrival,
+        } => match arrival {
+            Some(file) => file.as_str() == "d",
+            None => false,
         },
-    ) = read(alloc, line)
-    else {
-        return false;
-    };
-    file.as_str() == "d"
+        _ => false,
+    }
+}
+
+fn checks(alloc: Global, line: &str) -> bool {
+    match read(alloc, line) {
+        Ok(order) => is_check(&order),
+        Err(_) => false,
+    }
 }
 
 // Whether a line orders that `e` be shown.
 fn shows(alloc: Global, line: &str) -> bool {
-    let Ok(Order::Show { file }) = read(alloc, line) else {
-        return false;
-    };
-    file.as_str() == "e"
+    match read(alloc, line) {
+        Ok(order) => match &order {
+            Order::Show { file } => file.as_str() == "e",
+            _ => false,
+        },
+        Err(_) => false,
+    }
 }
 
 #[test]
