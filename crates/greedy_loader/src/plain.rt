@@ -1,20 +1,10 @@
 //! Plain ships and plain bookings.
 ghost use Rattle.std.specs.Prelude.{◌↔◌, ◌≡◌, ◌*◌, ◌≤◌, false, All, IsTrue};
 ghost use Rattle.stow_data.specs.Kinds.{rounded};
-ghost use Rattle.stow_data.specs.Profile.{IsShip};
 ghost use Rattle.greedy_loader.specs.Plain.{IsPlainShip, ArePlain, IsPlainBooking, IsPlainStack};
 
 use bookings::{Booking, Bookings};
 use stow_data::{Length, Lengths, Ship, Stack, StackNo};
-
-/// The heaviest weight of a container, rounded up to a step.
-fn heaviest(step: u32) -> u32
-    requires from { 1 ≤ step }
-    requires to { step ≤ 10000 }
-    ensures { result ≡ rounded step 99999 }
-{
-    step * ((99_999 + step - 1) / step)
-}
 
 /// Whether none of a stack's places has a reefer plug.
 fn has_no_plug(stack: &Stack) -> bool
@@ -25,22 +15,18 @@ fn has_no_plug(stack: &Stack) -> bool
 
 /// Whether the heaviest containers in all tiers of a stack stay within its limit.
 fn is_roomy(ship: &Ship, stack: &Stack) -> bool
-    requires { IsShip ship.now }
     ensures { IsTrue result ↔ stack.now.tiers * rounded ship.now.weight_step 99999 ≤ stack.now.limit_kg }
 {
-    let most = heaviest(ship.weight_step());
-    stack.tiers as u64 * most as u64 <= stack.limit_kg as u64
+    stack.tiers as u64 * ship.rounded(99_999) as u64 <= stack.limit_kg as u64
 }
 
 fn is_plain_stack(ship: &Ship, stack: &Stack) -> bool
-    requires { IsShip ship.now }
     ensures { IsTrue result ↔ IsPlainStack ship.now stack.now }
 {
     stack.lengths == Lengths::Forty && has_no_plug(stack) && is_roomy(ship, stack)
 }
 
 fn has_plain_stacks(ship: &Ship) -> bool
-    requires { IsShip ship.now }
     ensures { IsTrue result ↔ All (IsPlainStack ship.now) ship.now.stacks }
 {
     for number in 0..ship.stacks() {
@@ -55,7 +41,6 @@ fn has_plain_stacks(ship: &Ship) -> bool
 pub fn is_plain_ship(ship: &Ship) -> bool
     ensures { IsTrue result ↔ IsPlainShip ship.now }
 {
-    let _places = ship.places();
     ship.covers() == 0 && ship.separations() == 0 && has_plain_stacks(ship)
 }
 
