@@ -1,6 +1,3 @@
 pub mod Steps
 pub mod Texts
-pub mod Bounds
-pub mod Judging
-pub mod Messages
-pub mod Works
+pub mod Exact

@@ -2,7 +2,7 @@
 use Rattle.std.proofs.Common.{◌≡◌, ℕ, ◌+◌, ◌<◌, ◌≤◌, List, [], ◌∷◌, ◌++◌, length, get_or, take, Option, refl}
 use Rattle.std.proofs.lemmas.List.{take_more, take_all}
 use Rattle.stow_io.specs.Files.{Files, put}
-use Rattle.stow_cli.specs.declared.writing.NamedFile.{NamedFile}
+use Rattle.stow_answers.specs.declared.files.NamedFile.{NamedFile}
 use Rattle.stow_cli.specs.Writing.{with_files}
 
 with_files-last : (fs : List NamedFile) (f : NamedFile) (m : Option Files) → with_files (fs ++ f ∷ []) m ≡ put f.name f.bytes (with_files fs m)

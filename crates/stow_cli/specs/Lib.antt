@@ -1,10 +1,4 @@
-pub mod Asked
-pub mod Inputs
-pub mod Work
-pub mod Voyages
-pub mod Lines
-pub mod Answers
-pub mod Named
 pub mod Writing
+pub mod Outside
 pub mod Ends
-pub mod Reading
+pub mod Numbers

@@ -3,7 +3,7 @@ use Rattle.std.specs.Prelude.{◌≡◌, ℕ, ◌<◌, Option, List, [], ◌∷�
 use Rattle.stow_io.specs.Files.{Files, PutsPart, put}
 use Rattle.stow_io.specs.declared.outside.FolderNo.{FolderNo}
 use Rattle.stow_io.specs.declared.outside.FolderNo.TheVariants.{Failed, NoMemory}
-use Rattle.stow_cli.specs.declared.writing.NamedFile.{NamedFile}
+use Rattle.stow_answers.specs.declared.files.NamedFile.{NamedFile}
 use Rattle.stow_cli.specs.declared.writing.WriteStop.{WriteStop}
 
 -- the files after these were written in their order

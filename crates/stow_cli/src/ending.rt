@@ -2,10 +2,11 @@
 ghost use Rattle.std.specs.Prelude.{◌≡◌, ◌⊎◌, ◌≤◌, codes, ◌++◌};
 ghost use Rattle.stow_io.specs.Causes.{Rose};
 ghost use Rattle.stow_cli.specs.Ends.{Says, SaysNo, Finishes};
+ghost use Rattle.stow_cli.specs.Outside.{outside, HasRisen};
 
 use crate::status::Status;
-use crate::work::Work;
 use crate::writing::write_files;
+use stow_answers::Work;
 use stow_io::{Folder, FolderNo, Sink};
 
 /// Prints a line, or a part of it where the sink fails.
@@ -47,8 +48,8 @@ pub fn say_no<K: Sink>(out: &mut K, line: &[u8]) -> Status
 
 /// Writes all files, and then prints the report.
 pub fn finish<F: Folder, K: Sink>(work: &Work, folder: &mut F, out: &mut K) -> Status
-    ensures finishes { Finishes work.now result (F.files folder.old) (F.files folder.new) (K.written out.old) (K.written out.new) (Rose (F.faults folder.old) (F.faults folder.new)) (Rose (K.faults out.old) (K.faults out.new)) }
-    ensures fault { result ≡ Status.Fault → Rose (F.faults folder.old) (F.faults folder.new) ⊎ Rose (K.faults out.old) (K.faults out.new) }
+    ensures finishes { Finishes work.now result (outside F.Folder K.Sink folder.old out.old) (outside F.Folder K.Sink folder.new out.new) }
+    ensures fault { result ≡ Status.Fault → HasRisen (outside F.Folder K.Sink folder.old out.old) (outside F.Folder K.Sink folder.new out.new) }
     ensures later { F.faults folder.old ≤ F.faults folder.new }
     ensures sink_later { K.faults out.old ≤ K.faults out.new }
 {

@@ -1,12 +1,11 @@
 //! Runs that look at files: certificates and bay plans.
 use super::*;
-use crate::tests::{numbers_of, words_of};
+use crate::runs::{CHECK, SHOW, ends, folder_of, numbers_of};
 use std::alloc::Global;
 use std::process::Abort;
-use std::sync::Wait;
 use std::test::Fail;
-use std::thread::Threads;
-use stow_io::{MemFolder, MemSink, NoGate};
+use stow_data::NoMemory;
+use stow_io::MemFolder;
 
 /// A stack of one tier, for which two containers are booked.
 const NARROW: &[u8] = b"name = \"V\"
@@ -78,98 +77,127 @@ const CHECKS: &[(&[u8], Status, &[u8])] = &[
     (b"", Status::No, b"check no cert 1\n"),
 ];
 
-fn certificates_are_checked<R: Threads + Wait + Sync + Abort>(
-    rt: &R,
-    alloc: Global,
-) -> Result<(), Fail> {
-    let words = words_of(alloc, &["stow", "check", "ship.toml", "cargo.toml", "X"])?;
-    for (text, wanted, printed) in CHECKS {
-        let mut folder = MemFolder::new(alloc, numbers_of(alloc, &[])?);
-        folder.lay("ship.toml", NARROW)?;
-        folder.lay("cargo.toml", TWO)?;
+fn certificates_are_checked<R: Abort>(rt: &R, alloc: Global) -> Result<(), NoMemory> {
+    for (text, status, printed) in CHECKS {
+        let mut folder = folder_of(alloc, NARROW, TWO, &[])?;
         folder.lay("X.cert", *text)?;
-        let mut out = MemSink::new(alloc, 1000, numbers_of(alloc, &[])?)?;
-        let status = stow(rt, alloc, &words, &mut folder, &mut out, &NoGate);
-        assert_eq!(rt; status, *wanted);
-        assert_eq!(rt; out.text().as_slice(), *printed);
+        ends(rt, alloc, CHECK, &mut folder, *status, *printed)?;
     }
     Ok(())
 }
 
-fn a_missing_certificate_is_named<R: Threads + Wait + Sync + Abort>(
-    rt: &R,
-    alloc: Global,
-) -> Result<(), Fail> {
-    let words = words_of(alloc, &["stow", "check", "ship.toml", "cargo.toml", "X"])?;
-    let mut folder = MemFolder::new(alloc, numbers_of(alloc, &[])?);
-    folder.lay("ship.toml", NARROW)?;
-    folder.lay("cargo.toml", TWO)?;
-    let mut out = MemSink::new(alloc, 1000, numbers_of(alloc, &[])?)?;
-    let status = stow(rt, alloc, &words, &mut folder, &mut out, &NoGate);
-    assert_eq!(rt; status, Status::Fault);
-    assert_eq!(rt; out.text().as_slice(), b"fault read X.cert\n".as_slice());
-    Ok(())
-}
-
-/// A bay plan of one container and an empty cell.
-const BAY_PLAN: &[u8] = b"UNB+UNOA:2+LINE+SHIP+260131:0900+77'
-UNH+1+BAPLIE:D:95B:UN:SMDG22'
-BGM++PLAN1+9'
-LOC+147+0020102::5'
-FTX+AAI+++O?'NEIL ?+ CO'
-MEA+VGM++KGM:21999.5'
-LOC+11+DEHAM:139:6'
-EQD+CN+ABCU1234567+42G1+++5'
-LOC+147+0020104::5'
-UNT+9+1'
-UNZ+1+77'
+/// A bay plan whose lines end with CR LF.
+const BAY_PLAN: &[u8] = b"UNB+UNOA:2+LINE+SHIP+260131:0900+77'\r
+UNH+1+BAPLIE:D:95B:UN:SMDG22'\r
+BGM++PLAN1+9'\r
+DTM+137:2601310900:201'\r
+TDT+20+012W+++ABC:172:20+++XYZ1:103::FEEDER ONE'\r
+LOC+5+NLRTM:139:6'\r
+LOC+61+DEHAM:139:6'\r
+DTM+133:2601310900:201'\r
+LOC+147+0020102::5'\r
+FTX+AAI+++O?'NEIL ?+ CO'\r
+MEA+VGM++KGM:21999.5'\r
+DIM+5+CMT:10'\r
+LOC+9+NLRTM:139:6'\r
+LOC+11+DEHAM:139:6'\r
+RFF+BM:1'\r
+EQD+CN+ABCU1234567+42G1+++5'\r
+NAD+CA+ABC:172:20'\r
+UNT+17+1'\r
+UNZ+1+77'\r
 ";
 
-/// Bay plans, and what is shown of them.
-const SHOWN: &[(&[u8], Status, &[u8])] = &[
-    (
-        BAY_PLAN,
-        Status::Fine,
-        b"0020102 ABCU1234567 40 DEHAM 22000\n0020104 empty\ncontainers 1\nkilograms 22000\n",
-    ),
-    (b"", Status::Input, b"refused edifact 1\n"),
-    (
-        b"UNB+UNOA:2+A+B+260131:0900+7'\n",
-        Status::Input,
-        b"refused edifact 6 1\n",
-    ),
-    (
-        b"UNB+UNOA:2+A+B+260131:0900+7'\nUNH+1",
-        Status::Input,
-        b"refused edifact 3 30\n",
-    ),
-    (
-        b"UNB+UNOA:2+A+B+260131:0900+7'\nUNH+1+BAPLIE:D:95B:UN:SMDG22'\nUNT+3+1'\nUNZ+1+7'\n",
-        Status::Input,
-        b"refused baplie 15 3 3 2\n",
-    ),
-];
+/// The same bay plan under other service characters.
+const OTHER_MARKS: &[u8] = b"UNA/*,! ~UNB*UNOA/2*LINE*SHIP*260131/0900*77~
+UNH*1*BAPLIE/D/95B/UN/SMDG22~
+BGM**PLAN1*9~
+DTM*137/2601310900/201~
+TDT*20*012W***ABC/172/20***XYZ1/103//FEEDER ONE~
+LOC*5*NLRTM/139/6~
+LOC*61*DEHAM/139/6~
+DTM*133/2601310900/201~
+LOC*147*0020102//5~
+FTX*AAI***O'NEIL + CO~
+MEA*VGM**KGM/21999.5~
+DIM*5*CMT/10~
+LOC*9*NLRTM/139/6~
+LOC*11*DEHAM/139/6~
+RFF*BM/1~
+EQD*CN*ABCU1234567*42G1***5~
+NAD*CA*ABC/172/20~
+UNT*17*1~
+UNZ*1*77~
+";
 
-fn bay_plans_are_shown<R: Threads + Wait + Sync + Abort>(
+const LISTED: &[u8] = b"0020102 ABCU1234567 40 DEHAM 22000
+containers 1
+kilograms 22000
+";
+
+fn shown<R: Abort>(
     rt: &R,
     alloc: Global,
-) -> Result<(), Fail> {
-    let words = words_of(alloc, &["stow", "show", "P"])?;
-    for (text, wanted, printed) in SHOWN {
-        let mut folder = MemFolder::new(alloc, numbers_of(alloc, &[])?);
-        folder.lay("P", *text)?;
-        let mut out = MemSink::new(alloc, 1000, numbers_of(alloc, &[])?)?;
-        let status = stow(rt, alloc, &words, &mut folder, &mut out, &NoGate);
-        assert_eq!(rt; status, *wanted);
-        assert_eq!(rt; out.text().as_slice(), *printed);
+    text: &[u8],
+    status: Status,
+    printed: &[u8],
+) -> Result<(), NoMemory> {
+    let mut folder = MemFolder::new(alloc, numbers_of(alloc, &[])?);
+    folder.lay("P", text)?;
+    ends(rt, alloc, SHOW, &mut folder, status, printed)
+}
+
+/// An interchange of a message with a cell and nothing in it, and one whose UNT counts a segment too many.
+const EMPTY_CELL: &[u8] = b"UNB+UNOA:2+A+B+260131:0900+7'
+UNH+1+BAPLIE:D:95B:UN:SMDG22'
+LOC+147+0020104::5'
+UNT+3+1'
+UNZ+1+7'
+";
+
+const WRONG_COUNT: &[u8] = b"UNB+UNOA:2+A+B+260131:0900+7'
+UNH+1+BAPLIE:D:95B:UN:SMDG22'
+UNT+3+1'
+UNZ+1+7'
+";
+
+const NOTHING_STANDS: &[u8] = b"0020104 empty
+containers 0
+kilograms 0
+";
+
+fn bay_plans_are_shown<R: Abort>(rt: &R, alloc: Global) -> Result<(), NoMemory> {
+    shown(rt, alloc, BAY_PLAN, Status::Fine, LISTED)?;
+    shown(rt, alloc, OTHER_MARKS, Status::Fine, LISTED)?;
+    shown(rt, alloc, EMPTY_CELL, Status::Fine, NOTHING_STANDS)?;
+    Ok(())
+}
+
+/// So many bytes of a text.
+fn cut(text: &[u8], most: usize) -> &[u8] {
+    if most <= text.len() {
+        &text[..most]
+    } else {
+        text
     }
+}
+
+/// Cut behind EQD, cut inside NAD, a wrong count, and nothing at all.
+fn other_texts_are_refused<R: Abort>(rt: &R, alloc: Global) -> Result<(), NoMemory> {
+    let behind = b"refused edifact 6 16\n";
+    shown(rt, alloc, cut(BAY_PLAN, 390), Status::Input, behind)?;
+    let inside = b"refused edifact 3 392\n";
+    shown(rt, alloc, cut(BAY_PLAN, 400), Status::Input, inside)?;
+    let count = b"refused baplie 15 3 3 2\n";
+    shown(rt, alloc, WRONG_COUNT, Status::Input, count)?;
+    shown(rt, alloc, b"", Status::Input, b"refused edifact 1\n")?;
     Ok(())
 }
 
 #[test]
 fn files_are_looked_at(rt: HostRuntime) -> Result<(), Fail> {
     certificates_are_checked(&rt, rt.alloc())?;
-    a_missing_certificate_is_named(&rt, rt.alloc())?;
     bay_plans_are_shown(&rt, rt.alloc())?;
+    other_texts_are_refused(&rt, rt.alloc())?;
     Ok(())
 }

@@ -1,28 +1,51 @@
 //! How the program ends.
+ghost use Rattle.std.specs.Prelude.{◌≡◌};
+ghost use Rattle.stow_cli.specs.Numbers.{number};
 
-/// How a run ended. The number of each is the exit status of the program.
+/// How a run ended.
 #[derive(Clone, Copy, Debug, PartialEq, Eq)]
 pub enum Status {
     /// All was done.
-    Fine = 0,
+    Fine,
     /// A check refuses a written file or number.
-    No = 1,
+    No,
     /// The words are not taken, or a number among them is out of its range.
-    Words = 2,
+    Words,
     /// The node budget was spent; a plan is written, whose rehandles are above the bound.
-    Gap = 3,
+    Gap,
     /// There is no legal voyage.
-    NoPlan = 4,
+    NoPlan,
     /// The node budget was spent, and no plan was found.
-    Undecided = 5,
+    Undecided,
     /// The ship's profile, the bookings or a bay plan is refused.
-    Input = 6,
+    Input,
     /// The folder's or the sink's count of faults rose.
-    Fault = 7,
+    Fault,
     /// Want of memory.
-    Memory = 8,
+    Memory,
     /// A limit is passed.
-    Large = 9,
+    Large,
     /// What the words ask for isn't built yet.
-    Unbuilt = 10,
+    Unbuilt,
+}
+
+impl Status {
+    /// The exit status of the program.
+    pub fn number(self) -> u8
+        ensures { result ≡ number self }
+    {
+        match self {
+            Status::Fine => 0,
+            Status::No => 1,
+            Status::Words => 2,
+            Status::Gap => 3,
+            Status::NoPlan => 4,
+            Status::Undecided => 5,
+            Status::Input => 6,
+            Status::Fault => 7,
+            Status::Memory => 8,
+            Status::Large => 9,
+            Status::Unbuilt => 10,
+        }
+    }
 }

@@ -1,17 +1,14 @@
 //! The top call.
 ghost use Rattle.std.specs.Prelude.{◌≡◌, ◌⊎◌, ◌≤◌};
-ghost use Rattle.stow_io.specs.Causes.{Rose};
-ghost use Rattle.stow_cli.specs.Ends.{IsRun};
+ghost use Rattle.stow_cli.specs.Ends.{IsRun, IsExact};
+ghost use Rattle.stow_cli.specs.Outside.{outside, HasRisen};
 
-use crate::answer::Answer;
-use crate::answering::answer;
 use crate::ending::{finish, say, say_name, say_no};
-use crate::order::order_of;
-use crate::reading::ReadStop;
 use crate::status::Status;
 use std::alloc::Global;
 use std::sync::Wait;
 use std::thread::Threads;
+use stow_answers::{Answer, ReadStop, answer_to, order_of};
 use stow_data::WordList;
 use stow_io::{Folder, Gate, Sink};
 
@@ -24,8 +21,36 @@ pub fn stow<R: Threads + Wait + Sync, F: Folder, K: Sink, G: Gate + Sync>(
     out: &mut K,
     _gate: &G,
 ) -> Status
-    ensures run { IsRun words.now result (F.files folder.old) (F.files folder.new) (K.written out.old) (K.written out.new) (Rose (F.faults folder.old) (F.faults folder.new)) (Rose (K.faults out.old) (K.faults out.new)) }
-    ensures fault { result ≡ Status.Fault → Rose (F.faults folder.old) (F.faults folder.new) ⊎ Rose (K.faults out.old) (K.faults out.new) }
+    ensures run { IsRun words.now result (outside F.Folder K.Sink folder.old out.old) (outside F.Folder K.Sink folder.new out.new) }
+    ensures exact { IsExact words.now result (outside F.Folder K.Sink folder.old out.old) (outside F.Folder K.Sink folder.new out.new) }
+    ensures fault { result ≡ Status.Fault → HasRisen (outside F.Folder K.Sink folder.old out.old) (outside F.Folder K.Sink folder.new out.new) }
+    ensures folder_later { F.faults folder.old ≤ F.faults folder.new }
+    ensures sink_later { K.faults out.old ≤ K.faults out.new }
+{
+    run(alloc, words, folder, out)
+}
+
+/// The same for all orders that wait for nobody, which are all so far: by its bounds this call can neither
+/// block nor run forever, so it returns.
+pub fn run<F: Folder, K: Sink>(
+    alloc: Global,
+    words: &WordList,
+    folder: &mut F,
+    out: &mut K,
+) -> Status
+    ensures run { IsRun words.now result (outside F.Folder K.Sink folder.old out.old) (outside F.Folder K.Sink folder.new out.new) }
+    ensures exact { IsExact words.now result (outside F.Folder K.Sink folder.old out.old) (outside F.Folder K.Sink folder.new out.new) }
+    ensures fault { result ≡ Status.Fault → HasRisen (outside F.Folder K.Sink folder.old out.old) (outside F.Folder K.Sink folder.new out.new) }
+    ensures folder_later { F.faults folder.old ≤ F.faults folder.new }
+    ensures sink_later { K.faults out.old ≤ K.faults out.new }
+{
+    obey(alloc, words, folder, out)
+}
+
+/// Answers the order, writes its files and prints.
+fn obey<F: Folder, K: Sink>(alloc: Global, words: &WordList, folder: &mut F, out: &mut K) -> Status
+    ensures run { IsRun words.now result (outside F.Folder K.Sink folder.old out.old) (outside F.Folder K.Sink folder.new out.new) }
+    ensures fault { result ≡ Status.Fault → HasRisen (outside F.Folder K.Sink folder.old out.old) (outside F.Folder K.Sink folder.new out.new) }
     ensures folder_later { F.faults folder.old ≤ F.faults folder.new }
     ensures sink_later { K.faults out.old ≤ K.faults out.new }
 {
@@ -33,7 +58,7 @@ pub fn stow<R: Threads + Wait + Sync, F: Folder, K: Sink, G: Gate + Sync>(
         say(out, b"unbuilt\n");
         return Status::Unbuilt;
     };
-    match answer(alloc, order, folder) {
+    match answer_to(alloc, order, folder) {
         Ok(Answer::Work(work)) => finish(&work, folder, out),
         Ok(Answer::No(line)) => say_no(out, line.as_slice()),
         Ok(Answer::Input(line)) => {

@@ -4,18 +4,8 @@ ghost use Rattle.stow_io.specs.Causes.{Rose};
 ghost use Rattle.stow_io.specs.declared.outside.FolderNo.TheVariants.{Failed};
 ghost use Rattle.stow_cli.specs.Writing.{Written};
 
-use stow_data::{Bytes, Seq, Word};
+use stow_answers::FileList;
 use stow_io::{Folder, FolderNo};
-
-/// A file to be written.
-#[derive(Debug, Drop)]
-pub struct NamedFile {
-    pub name: Word,
-    pub bytes: Bytes,
-}
-
-/// Files in the order in which they are written.
-pub type FileList = Seq<NamedFile>;
 
 /// The first file that was not written whole, and why.
 #[derive(Clone, Copy, Debug, PartialEq, Eq)]

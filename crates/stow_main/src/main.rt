@@ -51,5 +51,5 @@ fn main(rt: HostRuntime) -> ExitCode {
             Status::Words
         }
     };
-    ExitCode::from(status as u8)
+    ExitCode::from(status.number())
 }

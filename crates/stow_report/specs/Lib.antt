@@ -2,3 +2,4 @@ pub mod Refusals
 pub mod Faults
 pub mod Inputs
 pub mod Listings
+pub mod Verdicts

@@ -1,0 +1,5 @@
+pub mod Bounds
+pub mod Judging
+pub mod Messages
+pub mod Works
+pub mod OneAnswer

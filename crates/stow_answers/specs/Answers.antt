@@ -1,0 +1,199 @@
+-- What each order is answered.
+use Rattle.std.specs.Prelude.{◌≡◌, ◌≢◌, ◌⊎◌, ℕ, codes, List, [], ◌++◌, Option, Some, None}
+use Rattle.std.specs.Fmt.{decimal}
+use Rattle.stow_io.specs.Files.{Files}
+use Rattle.stow_data.specs.Ship.{Ship}
+use Rattle.stow_data.specs.declared.limits.Limit.{Limit}
+use Rattle.bookings.specs.declared.shipment.Bookings.{Bookings}
+use Rattle.zero_one_rows.specs.Variables.{Voyage}
+use Rattle.zero_one_model.specs.Building.{IsWithin, Passes}
+use Rattle.certificate.specs.declared.faults.CertFault.{CertFault}
+use Rattle.certificate.specs.declared.tree.Head.{Head}
+use Rattle.certificate.specs.declared.tree.Record.{Record}
+use Rattle.certificate.specs.Grammar.{IsCert}
+use Rattle.certificate.specs.FirstFault.{HasFault}
+use Rattle.certificate.specs.declared.refusals.BoundNo.{BoundNo}
+use Rattle.bound_checker.specs.Entries.{ProvesBound}
+use Rattle.bound_checker.specs.Taken.{IsCheckable}
+use Rattle.bound_checker.specs.Faults.{first_fault}
+use Rattle.baplie_model.specs.declared.parts.Message.{Message}
+use Rattle.baplie_read.specs.declared.faults.BaplieFault.{BaplieFault}
+use Rattle.baplie_read.specs.declared.faults.BaplieFault.TheVariants.{NoMemory}
+use Rattle.baplie_model.specs.Messages.{IsMessageOf}
+use Rattle.baplie_read.specs.Reading.{IsBaplieFault}
+use Rattle.stow_report.specs.Refusals.{refusal_text}
+use Rattle.stow_report.specs.Inputs.{limit_line}
+use Rattle.stow_report.specs.Listings.{listing_text}
+use Rattle.stow_answers.specs.declared.answer.Answer.{Answer}
+use Rattle.stow_answers.specs.declared.answer.Answer.TheVariants as answer
+use Rattle.stow_answers.specs.declared.work.Work.{Work}
+use Rattle.stow_answers.specs.Asked.{Names, Asked, Plan, Check, Show}
+use Rattle.stow_answers.specs.declared.voyage.BookedVoyage.{BookedVoyage}
+use Rattle.stow_answers.specs.Booked.{IsPlain, booked_voyage, voyage_of}
+use Rattle.stow_answers.specs.Inputs.{IsContent, AreInputs, TurnsDown, IsReadBy}
+use Rattle.stow_report.specs.Verdicts.{cert_line, bound_line, file_line}
+use Rattle.stow_answers.specs.Voyages.{Sails, IsBound}
+use Rattle.stow_answers.specs.Work.{work_for, cert_name}
+
+-- ## Inputs
+
+-- the inputs are plain, and their voyage is answered so
+pub record Takes (names : Names) (files : Option Files) (P : BookedVoyage → Answer → Type 0) (a : Answer) : Type 0 where
+  pub ship : Ship
+  pub booked : Bookings
+  pub inputs_are : AreInputs names files ship booked
+  pub plain : IsPlain ship booked
+  pub judged : P (booked_voyage ship booked) a
+
+-- the inputs of these files are answered so, or are turned down
+abbrev pub Judges : Names → Option Files → (BookedVoyage → Answer → Type 0) → Answer → Type 0
+Judges names files P a = Takes names files P a ⊎ TurnsDown names files a
+
+-- the line says which limit the model passes, and the number that passes it
+pub record IsTooLarge (m : Voyage) (line : List ℕ) : Type 0 where
+  pub limit : Limit
+  pub number : ℕ
+  pub passes : Passes m limit number
+  pub line_is : line ≡ refusal_text (limit_line limit number)
+
+-- within the limits, or the line of the one that is passed
+abbrev pub WithinOr : Voyage → Option (List ℕ) → Type 0
+WithinOr m None = IsWithin m
+WithinOr m (Some line) = IsTooLarge m line
+
+-- ## `plan`
+
+-- the model's limits come first, then the loader's rule, which gives the plans or none
+abbrev pub PlanOf : List ℕ → BookedVoyage → Answer → Type 0
+PlanOf base v (answer.Work work) = IsWithin (voyage_of v) × (work_for base v ≡ Some work) × Sails base v work
+PlanOf base v (answer.Large line) = IsTooLarge (voyage_of v) line
+PlanOf base v answer.Unbuilt = IsWithin (voyage_of v) × (work_for base v ≡ None)
+PlanOf base v (answer.No line) = ⊥
+PlanOf base v (answer.Input line) = ⊥
+
+-- ## `check`
+
+-- the text is a certificate that can be checked, and this holds of its bound and its tree
+pub record HasCert (m : Voyage) (bytes : List ℕ) (P : ℕ → List Record → Type 0) : Type 0 where
+  pub head : Head
+  pub tree : List Record
+  pub is_cert : IsCert bytes head tree
+  pub checkable : IsCheckable m head tree
+  pub fact : P head.bound tree
+
+-- the text is a certificate that can't be checked yet
+pub record HasOtherCert (m : Voyage) (bytes : List ℕ) : Type 0 where
+  pub head : Head
+  pub tree : List Record
+  pub is_cert : IsCert bytes head tree
+  pub other : IsCheckable m head tree → ⊥
+
+-- the text is no certificate, and the line says why
+pub record RefusesText (bytes line : List ℕ) : Type 0 where
+  pub fault : CertFault
+  pub has : HasFault bytes fault
+  pub line_is : line ≡ refusal_text (cert_line fault)
+
+-- the tree doesn't prove the bound, and the line names its first fault
+pub record RefusesTree (m : Voyage) (line : List ℕ) (bound : ℕ) (tree : List Record) : Type 0 where
+  pub no : BoundNo
+  pub first : first_fault m tree bound ≡ Some no
+  pub line_is : line ≡ refusal_text (bound_line no)
+
+abbrev pub bound_text : ℕ → List ℕ
+bound_text bound = codes "bound " ++ (decimal bound ++ codes "\n")
+
+-- the tree proves the bound, which is printed, and below which no solution of the 0-1 program costs
+pub record Confirms (m : Voyage) (work : Work) (bound : ℕ) (tree : List Record) : Type 0 where
+  pub proves : ProvesBound m tree bound
+  pub bounds : IsBound m bound
+  pub no_files : work.files ≡ []
+  pub report : work.report ≡ bound_text bound
+
+-- what a tree is answered that should prove the bound
+abbrev pub TreeOf : Voyage → List Record → ℕ → Answer → Type 0
+TreeOf m tree bound (answer.Work work) = Confirms m work bound tree
+TreeOf m tree bound (answer.No line) = RefusesTree m line bound tree
+TreeOf m tree bound (answer.Large line) = ⊥
+TreeOf m tree bound (answer.Input line) = ⊥
+TreeOf m tree bound answer.Unbuilt = ⊥
+
+-- what the text of a certificate is answered
+abbrev pub CertOf : Voyage → List ℕ → Answer → Type 0
+CertOf m bytes (answer.Work work) = HasCert m bytes (Confirms m work)
+CertOf m bytes (answer.No line) = RefusesText bytes line ⊎ HasCert m bytes (RefusesTree m line)
+CertOf m bytes answer.Unbuilt = HasOtherCert m bytes
+CertOf m bytes (answer.Large line) = ⊥
+CertOf m bytes (answer.Input line) = ⊥
+
+-- the file under the certificate's name is answered so
+pub record ReadsCert (m : Voyage) (base : List ℕ) (files : Option Files) (a : Answer) : Type 0 where
+  pub bytes : List ℕ
+  pub content : IsContent files (cert_name base) bytes
+  pub cert : CertOf m bytes a
+
+pub record IsLarge (m : Voyage) (a : Answer) : Type 0 where
+  pub line : List ℕ
+  pub answer_is : a ≡ answer.Large line
+  pub too_large : IsTooLarge m line
+
+-- the model's limits come first, then the certificate
+abbrev pub CheckOf : List ℕ → Option Files → BookedVoyage → Answer → Type 0
+CheckOf base files v a = IsLarge (voyage_of v) a ⊎ (IsWithin (voyage_of v) × ReadsCert (voyage_of v) base files a)
+
+-- ## `show`
+
+-- the text is no bay plan, and the line says why
+pub record RefusesFile (bytes line : List ℕ) : Type 0 where
+  pub fault : BaplieFault
+  pub named : fault ≢ NoMemory
+  pub has : IsBaplieFault bytes fault
+  pub line_is : line ≡ refusal_text (file_line fault)
+
+-- the bay plan of the text is listed
+pub record Lists (bytes : List ℕ) (work : Work) : Type 0 where
+  pub message : Message
+  pub is_message : IsMessageOf bytes message
+  pub no_files : work.files ≡ []
+  pub report : work.report ≡ listing_text message.groups
+
+-- what the text of a bay plan is answered
+abbrev pub ShowOf : List ℕ → Answer → Type 0
+ShowOf bytes (answer.Work work) = Lists bytes work
+ShowOf bytes (answer.Input line) = RefusesFile bytes line
+ShowOf bytes (answer.No line) = ⊥
+ShowOf bytes (answer.Large line) = ⊥
+ShowOf bytes answer.Unbuilt = ⊥
+
+pub record IsShown (file : List ℕ) (files : Option Files) (a : Answer) : Type 0 where
+  pub bytes : List ℕ
+  pub content : IsContent files file bytes
+  pub shown : ShowOf bytes a
+
+-- ## All orders
+
+-- words of no form aren't built yet
+abbrev pub IsAnswerTo : Option Asked → Option Files → Answer → Type 0
+IsAnswerTo None files a = a ≡ answer.Unbuilt
+IsAnswerTo (Some (Plan names)) files a = Judges names files (PlanOf names.base) a
+IsAnswerTo (Some (Check names)) files a = Judges names files (CheckOf names.base files) a
+IsAnswerTo (Some (Show file)) files a = IsShown file files a
+
+-- the certificate is read where the inputs are plain and their voyage is within the limits
+pub record IsCertOf (names : Names) (files : Option Files) (name : List ℕ) : Type 0 where
+  pub ship : Ship
+  pub booked : Bookings
+  pub inputs_are : AreInputs names files ship booked
+  pub plain : IsPlain ship booked
+  pub within : IsWithin (voyage_of (booked_voyage ship booked))
+  pub name_is : name ≡ cert_name names.base
+
+abbrev pub IsCheckRead : Names → Option Files → List ℕ → Type 0
+IsCheckRead names files name = IsReadBy names files name ⊎ IsCertOf names files name
+
+-- a file that is read for the order
+abbrev pub IsReadFor : Option Asked → Option Files → List ℕ → Type 0
+IsReadFor None files name = ⊥
+IsReadFor (Some (Plan names)) files name = IsReadBy names files name
+IsReadFor (Some (Check names)) files name = IsCheckRead names files name
+IsReadFor (Some (Show file)) files name = name ≡ file

@@ -1,0 +1,10 @@
+-- The answers exclude each other.
+use Rattle.std.specs.Prelude.{◌≡◌, Option, Some}
+use Rattle.stow_io.specs.Files.{Files}
+use Rattle.stow_answers.specs.declared.answer.Answer.{Answer}
+use Rattle.stow_answers.specs.Asked.{Asked}
+use Rattle.stow_answers.specs.Answers.{IsAnswerTo}
+
+-- over files that are told, two answers to the same order are equal
+abbrev pub HasOneAnswer : Type 0
+HasOneAnswer = (order : Option Asked) (files : Files) (a b : Answer) → IsAnswerTo order (Some files) a → IsAnswerTo order (Some files) b → a ≡ b

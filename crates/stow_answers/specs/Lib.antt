@@ -1,0 +1,10 @@
+pub mod Asked
+pub mod Inputs
+pub mod Booked
+pub mod Trees
+pub mod Work
+pub mod Voyages
+pub mod Answers
+pub mod Named
+pub mod Reading
+pub mod Law

@@ -1,6 +1,0 @@
-use Rattle.stow_cli.specs.Answers.{PlanOf}
-use Rattle.stow_cli.proofs.Judging.{judges, taken}
-use Rattle.stow_cli.proofs.planning.plan.Goals as goal
-
-pub returns-in-Ok-clause-gives : goal.returns-in-Ok-clause-gives
-returns-in-Ok-clause-gives g c = judges _ _ (PlanOf c.args.inputs.base.now) c.in-Ok.answer c.in-Plain.plain (taken _ _ _ c.in-Plain.plain c.in_ok-plain.ensures.gives c.in-Plain.is) c.in-Ok.ensures
