@@ -12,6 +12,16 @@ use stow_data::{CallNo, Cargo, KindNo, NoMemory, Seq, Ship};
 use zero_one_model::Model;
 use zero_one_rows::{Raise, Row};
 
+fn trip(load: u32, dest: u32) -> Trip
+    ensures loads { result.load ≡ load }
+    ensures leaves { result.dest ≡ dest }
+{
+    Trip {
+        load: CallNo(load),
+        dest: CallNo(dest),
+    }
+}
+
 /// So many containers of a kind are put at call 1.
 fn flow(kind: u32) -> Row {
     Row::Flow {
@@ -113,11 +123,7 @@ fn is_right<R: Abort>(rt: &R, alloc: Global, ship: &Ship, cargo: &Cargo) -> Resu
 fn the_bound_of_two_containers(rt: HostRuntime) -> Result<(), Fail> {
     let alloc = rt.alloc();
     let ship = ship(alloc, 1)?;
-    let trip = Trip {
-        load: CallNo(1),
-        dest: CallNo(2),
-    };
-    let cargo = two_containers(alloc, &ship, trip, trip)?;
+    let cargo = two_containers(alloc, &ship, trip(1, 2), trip(1, 2))?;
     is_right(&rt, alloc, &ship, &cargo)?;
     tells_leaves(&rt, alloc)?;
     Ok(())
