@@ -1,0 +1,3 @@
+pub mod Uptos
+pub mod Shapes
+pub mod Harmless

@@ -1,0 +1,35 @@
+-- The bays of a picture (ISO 9711).
+use Rattle.std.specs.Prelude.{ℕ, ◌+◌, ◌-◌, ◌*◌, ◌%◌, ◌==◌, nat_eq, Bool, List, [], ◌∷◌, map, if◌then◌else◌}
+use Rattle.std.specs.List.{list_any}
+use Rattle.baplie_model.specs.declared.parts.CellGroup.{CellGroup}
+use Rattle.bay_views.specs.Upto.{upto}
+
+abbrev pub has : List ℕ → ℕ → Bool
+has numbers n = list_any (λ m. m == n) numbers
+
+abbrev pub has_bay : List CellGroup → ℕ → Bool
+has_bay groups bay = list_any (λ g. g.bay == bay) groups
+
+-- an even number, where it passes
+abbrev pub even_if : (ℕ → Bool) → ℕ → List ℕ
+even_if P k = if P (2 * k) then 2 * k ∷ [] else []
+
+-- the even numbers up to 1,000 that pass
+abbrev pub evens : (ℕ → Bool) → List ℕ
+evens P = upto (even_if P) 501
+
+-- the bays of 40 foot that the message names
+abbrev pub long_bays : List CellGroup → List ℕ
+long_bays groups = evens (has_bay groups)
+
+-- The bay of 40 foot that a bay is drawn in. An odd bay is the fore half of the one behind it or the aft half of the one before it, whichever the message names; where it names neither, 1 and 3 are drawn in 2, 5 and 7 in 6 and so on.
+abbrev pub home_of : List ℕ → ℕ → ℕ
+home_of longs bay =
+    if bay % 2 == 0 then bay else (if has longs (bay + 1) then bay + 1 else (if has longs (bay - 1) then bay - 1 else (if bay % 4 == 1 then bay + 1 else bay - 1)))
+
+abbrev pub homes : List ℕ → List CellGroup → List ℕ
+homes longs groups = map (λ g. home_of longs g.bay) groups
+
+-- the bays that are drawn, from fore to aft
+abbrev pub drawn_bays : List CellGroup → List ℕ
+drawn_bays groups = evens (has (homes (long_bays groups) groups))

@@ -1,0 +1,115 @@
+-- The text of a picture (SVG 1.1).
+use Rattle.std.specs.Prelude.{ℕ, ◌+◌, ◌-◌, ◌*◌, ◌/◌, ◌%◌, ◌^◌, min, nat_lt, codes, List, [], ◌∷◌, ◌++◌, length, flat_map, count_by, slice_index_or, if◌then◌else◌}
+use Rattle.std.specs.Fmt.{decimal}
+use Rattle.std.specs.List.{sum_by}
+use Rattle.baplie_model.specs.declared.parts.CellGroup.{CellGroup}
+use Rattle.stow_report.specs.Listings.{digit, holds, kilograms}
+use Rattle.bay_views.specs.declared.frames.Frame.{Frame}
+use Rattle.bay_views.specs.declared.sheets.Sheet.{Sheet}
+use Rattle.bay_views.specs.Escapes.{escaped}
+use Rattle.bay_views.specs.Upto.{upto}
+use Rattle.bay_views.specs.Frames.{columns, deck_height, hold_height, hold_begin, top_of, row_of}
+use Rattle.bay_views.specs.Sheets.{sheet_of, bay_left, bay_top, sheet_width, sheet_height}
+use Rattle.bay_views.specs.Ports.{is_for, kg_for}
+use Rattle.bay_views.specs.Cells.{shape_of}
+use Rattle.bay_views.specs.Marks.{raw, label, rect, swatch, shape_text}
+
+-- ## The legend
+
+abbrev pub totals : ℕ → ℕ → List ℕ
+totals containers kg = label 14 24 (codes "h") ++ decimal containers ++ raw (codes " containers, ") ++ decimal kg ++ raw (codes " kg</text>\n")
+
+abbrev pub entry_left : ℕ → ℕ
+entry_left i = 14 + 206 * (i % 6)
+
+abbrev pub entry_top : ℕ → ℕ
+entry_top i = 40 + 22 * (min i (2 ^ 32) / 6)
+
+-- a port with its colour, its containers and their kilograms
+abbrev pub entry : ℕ → List ℕ → ℕ → ℕ → List ℕ
+entry i port containers kg =
+    swatch (entry_left i) (entry_top i) 26 16 i ++ label (entry_left i + 32) (entry_top i + 13) (codes "l") ++ escaped port ++ raw (codes ": ") ++ decimal containers ++ raw (codes ", ") ++ decimal kg ++ raw (codes " kg</text>\n")
+
+abbrev pub entry_of : List (List ℕ) → List CellGroup → ℕ → List ℕ
+entry_of ports groups i = let port = slice_index_or ports i [] in entry i port (count_by (is_for port) groups) (sum_by (kg_for port) groups)
+
+abbrev pub legend : List (List ℕ) → List CellGroup → List ℕ
+legend ports groups = totals (count_by holds groups) (sum_by kilograms groups) ++ upto (entry_of ports groups) (length ports)
+
+-- ## What each bay is drawn on
+
+abbrev pub two_digits : ℕ → List ℕ
+two_digits n = digit (n / 10) ∷ digit n ∷ []
+
+abbrev pub row_label : Frame → ℕ → ℕ → List ℕ
+row_label f base n = label (62 + 56 * n) base (codes "n") ++ two_digits (row_of f n) ++ raw (codes "</text>")
+
+abbrev pub row_labels : Frame → ℕ → List ℕ
+row_labels f base = upto (row_label f base) (columns f)
+
+abbrev pub tier_label : Frame → ℕ → ℕ → List ℕ
+tier_label f low k = label 20 (top_of f (low + 2 * k) + 16) (codes "n") ++ two_digits (low + 2 * k) ++ raw (codes "</text>")
+
+abbrev pub tier_labels : Frame → ℕ → ℕ → List ℕ
+tier_labels f low height = upto (tier_label f low) (height / 24)
+
+-- the deck, the hatch line and the hold
+abbrev pub ground : Frame → List ℕ
+ground f =
+    rect 34 40 (56 * columns f) (deck_height f) ++ raw (codes "k'/>") ++ rect 34 (deck_height f + 42) (56 * columns f) 4 ++ raw (codes "x'/>") ++ rect 34 (hold_begin f) (56 * columns f) (hold_height f) ++ raw (codes "w'/>")
+
+abbrev pub template : Frame → List ℕ
+template f =
+    raw (codes "<defs><g id='b'>") ++ ground f ++ row_labels f 36 ++ row_labels f (hold_begin f + hold_height f + 14) ++ tier_labels f f.deck_low (deck_height f) ++ tier_labels f f.hold_low (hold_height f) ++ raw (codes "</g></defs>\n")
+
+-- two digits, or more from 100 on
+abbrev pub bay_digits : ℕ → List ℕ
+bay_digits n = if nat_lt n 100 then two_digits n else decimal n
+
+abbrev pub use_at : ℕ → ℕ → List ℕ
+use_at left top = raw (codes "<use href='#b' x='") ++ decimal left ++ raw (codes "' y='") ++ decimal top ++ raw (codes "'/>")
+
+abbrev pub bay : ℕ → ℕ → ℕ → List ℕ
+bay left top number =
+    use_at left top ++ label (left + 34) (top + 18) (codes "h") ++ raw (codes "Bay ") ++ bay_digits number ++ raw (codes " (") ++ bay_digits (number - 1) ++ raw (codes ", ") ++ bay_digits (number + 1) ++ raw (codes ")</text>\n")
+
+abbrev pub bay_of : Sheet → ℕ → List ℕ
+bay_of s i = bay (bay_left s i) (bay_top s i) (slice_index_or s.bays i 0)
+
+abbrev pub bays : Sheet → List ℕ
+bays s = upto (bay_of s) (length s.bays)
+
+-- ## The whole
+
+abbrev pub opening : ℕ → ℕ → List ℕ
+opening width height =
+    raw (codes "<svg xmlns='http://www.w3.org/2000/svg' width='") ++ decimal width ++ raw (codes "' height='") ++ decimal height ++ raw (codes "' viewBox='0 0 ") ++ decimal width ++ raw (codes " ") ++ decimal height ++ raw (codes "'>\n")
+
+abbrev pub texts : List ℕ
+texts = codes "<style>text{font:12px sans-serif}.h{font-weight:bold;font-size:15px}.n{font-size:11px;text-anchor:middle;fill:#444}.t{font-size:10.5px;font-weight:bold;text-anchor:middle}.m{font-size:8.5px}.t,.m{paint-order:stroke;stroke:#fff;stroke-width:2.6px;stroke-linejoin:round}\n"
+
+abbrev pub boxes : List ℕ
+boxes = codes "rect{stroke:#444;stroke-width:.7}.v{fill:none;stroke:#999;stroke-dasharray:3 2}.k{fill:#eef4f8;stroke:none}.w{fill:#f2efe8;stroke:none}.x{fill:#000;stroke:none}.z{fill:url(#z)}.e rect{fill-opacity:.4}.r rect{stroke:#0033aa;stroke-width:2.4}.d rect{stroke:#c00000;stroke-width:2.4}\n"
+
+-- seven colours that differ for colour-blind readers too (Okabe and Ito 2008)
+abbrev pub colours : List ℕ
+colours = codes ".p0{fill:#e69f00}.p1{fill:#56b4e9}.p2{fill:#009e73}.p3{fill:#f0e442}.p4{fill:#0072b2}.p5{fill:#d55e00}.p6{fill:#cc79a7}</style>\n"
+
+abbrev pub pattern : List ℕ
+pattern = codes "<defs><pattern id='z' width='9' height='9' patternUnits='userSpaceOnUse' patternTransform='rotate(45)'><path d='M0 0H3.5V9H0Z' fill='#222'/></pattern></defs>\n"
+
+abbrev pub key : List ℕ
+key = codes "<text x='420' y='24' class='l'>R: reefer (blue outline). E: empty (pale). Class of dangerous goods (red outline). A pair of bays: fore half left, aft half right.</text>\n"
+
+abbrev pub front : ℕ → ℕ → List ℕ
+front width height = opening width height ++ raw texts ++ raw boxes ++ raw colours ++ raw pattern ++ raw key
+
+-- the shape of each cell group, in their order
+abbrev pub body : Sheet → List (List ℕ) → List CellGroup → List ℕ
+body s ports groups = flat_map (λ g. shape_text (shape_of s ports g)) groups
+
+abbrev pub drawing : Sheet → List (List ℕ) → List CellGroup → List ℕ
+drawing s ports groups = front (sheet_width s) (sheet_height s) ++ legend ports groups ++ template s.frame ++ bays s ++ body s ports groups ++ raw (codes "</svg>\n")
+
+abbrev pub picture : List (List ℕ) → List CellGroup → List ℕ
+picture ports groups = drawing (sheet_of (length ports) groups) ports groups

@@ -1,0 +1,10 @@
+pub mod Escapes
+pub mod Upto
+pub mod Frames
+pub mod Bays
+pub mod Sheets
+pub mod Ports
+pub mod Cells
+pub mod Marks
+pub mod Drawings
+pub mod Pages

@@ -1,0 +1,48 @@
+-- The page that steps through several pictures (HTML 5).
+use Rattle.std.specs.Prelude.{ℕ, ◌+◌, ◌-◌, ◌/◌, ◌%◌, ◌==◌, Bool, ◌||◌, ◌&&◌, nat_le, nat_lt, codes, List, [], ◌∷◌, ◌++◌, length, flat_map, slice_index_or, if◌then◌else◌}
+use Rattle.std.specs.Fmt.{decimal}
+use Rattle.bay_views.specs.Escapes.{escaped_text}
+use Rattle.bay_views.specs.Upto.{upto}
+use Rattle.bay_views.specs.Marks.{raw, when}
+
+-- ## References to files (RFC 3986)
+
+-- letters, digits and `-` `.` `_` `~`
+abbrev pub is_unreserved : ℕ → Bool
+is_unreserved b = (nat_le 97 b && nat_le b 122) || ((nat_le 65 b && nat_le b 90) || ((nat_le 48 b && nat_le b 57) || (b == 45 || (b == 46 || (b == 95 || b == 126)))))
+
+-- 0 to 9, then A to F
+abbrev pub hex_digit : ℕ → ℕ
+hex_digit n = if nat_lt n 10 then 48 + n else 55 + n
+
+abbrev pub percent : ℕ → List ℕ
+percent b = if is_unreserved b then b ∷ [] else 37 ∷ hex_digit (b / 16) ∷ hex_digit (b % 16) ∷ []
+
+abbrev pub reference : List ℕ → List ℕ
+reference name = flat_map percent name
+
+-- ## The page
+
+-- a step to another section
+abbrev pub step : ℕ → List ℕ → List ℕ
+step i word = raw (codes "<a href='#c") ++ decimal i ++ raw (codes "'>") ++ raw word ++ raw (codes "</a> ")
+
+-- the picture alone, and the picture
+abbrev pub links : List ℕ → List ℕ
+links name =
+    raw (codes "<a href='") ++ reference name ++ raw (codes ".svg'>") ++ escaped_text name ++ raw (codes "</a></p>\n<object type='image/svg+xml' data='") ++ reference name ++ raw (codes ".svg'></object></section>\n")
+
+-- a section: its number, its name, the steps to the one before and the one behind, and the picture
+abbrev pub section : ℕ → ℕ → List ℕ → List ℕ
+section i many name =
+    raw (codes "<section id='c") ++ decimal i ++ raw (codes "'><p>") ++ when (nat_lt 0 i) (step (i - 1) (codes "&lt; Previous")) ++ raw (codes "<b>") ++ decimal (i + 1) ++ raw (codes " of ") ++ decimal many ++ raw (codes "</b> ")
+    ++ when (nat_lt (i + 1) many) (step (i + 1) (codes "Next &gt;")) ++ links name
+
+abbrev pub section_of : List (List ℕ) → ℕ → List ℕ
+section_of names i = section i (length names) (slice_index_or names i [])
+
+abbrev pub page_front : List ℕ
+page_front = codes "<!DOCTYPE html>\n<html lang='en'><head><meta charset='utf-8'><title>Bay views</title>\n<style>body{font:14px sans-serif;margin:0 12px}section{min-height:100vh}p{margin:0;padding:8px 0}</style></head><body>\n"
+
+abbrev pub index_page : List (List ℕ) → List ℕ
+index_page names = raw page_front ++ upto (section_of names) (length names) ++ raw (codes "</body></html>\n")

@@ -1,0 +1,255 @@
+//! The text of a picture.
+ghost use Rattle.std.specs.Prelude.{◌≡◌, ◌<◌, ◌≤◌, ◌^◌, ◌+◌, ◌-◌, ◌*◌, ◌/◌, ◌++◌, ◌∷◌, [], All, length, IfOk, OnOk};
+ghost use Rattle.stow_report.specs.Listings.{IsCell, AreListable, digit};
+ghost use Rattle.bay_views.specs.Frames.{IsFrame, columns};
+ghost use Rattle.bay_views.specs.Sheets.{IsSheet, sheet_width, sheet_height};
+ghost use Rattle.bay_views.specs.Cells.{shape_of};
+ghost use Rattle.bay_views.specs.Marks.{shape_text};
+ghost use Rattle.bay_views.specs.Drawings.{two_digits, row_label, row_labels, tier_label, tier_labels, ground, template, bay_digits, use_at, bay, bay_of, bays, opening, texts, boxes, colours, pattern, key, front, body, drawing, picture};
+
+use crate::cells::cell_of;
+use crate::frames::Frame;
+use crate::legend::{number_of, write_legend};
+use crate::marks::{put, write_filled, write_label, write_raw, write_rect, write_vacant};
+use crate::sheets::{Sheet, sheet_of};
+use baplie_model::CellGroup;
+use itoa::Buffer;
+use std::alloc::Global;
+use stow_data::{Bytes, NameList, NoMemory};
+
+/// The picture of these cell groups: a legend of the ports with their counts, and the bays from fore to
+/// aft, with a shape for each cell. A port has the colour of its number among the ports; that of a
+/// container which goes to none of them is one of no port.
+pub fn picture(alloc: Global, ports: &NameList, groups: &[CellGroup]) -> Result<Bytes, NoMemory>
+    requires { AreListable groups.now }
+    ensures { IfOk result (λ text. text ≡ picture ports.now groups.now) }
+{
+    let sheet = sheet_of(alloc, ports.len(), groups)?;
+    let mut out = Bytes::new(alloc);
+    write_front(&mut out, sheet.width(), sheet.height())?;
+    write_legend(&mut out, ports, groups)?;
+    write_template(&mut out, &sheet.frame)?;
+    write_bays(&mut out, &sheet)?;
+    write_body(&mut out, &sheet, ports, groups)?;
+    write_raw(&mut out, b"</svg>\n")?;
+    Ok(out)
+}
+
+/// Appends the shape of each group.
+fn write_body(
+    out: &mut Bytes,
+    sheet: &Sheet,
+    ports: &NameList,
+    groups: &[CellGroup],
+) -> Result<(), NoMemory>
+    requires sheet { IsSheet sheet.now }
+    requires cells { All IsCell groups.now }
+    ensures { OnOk result (out.new ≡ out.old ++ body sheet.now ports.now groups.now) }
+{
+    for group in groups {
+        write_shape(out, sheet, ports, group)?;
+    }
+    Ok(())
+}
+
+fn write_shape(
+    out: &mut Bytes,
+    sheet: &Sheet,
+    ports: &NameList,
+    group: &CellGroup,
+) -> Result<(), NoMemory>
+    requires sheet { IsSheet sheet.now }
+    requires cell { IsCell group.now }
+    ensures { OnOk result (out.new ≡ out.old ++ shape_text (shape_of sheet.now ports.now group.now)) }
+{
+    let cell = cell_of(sheet, group);
+    match &group.facts {
+        Some(facts) => write_filled(out, &cell, number_of(ports, &facts.dest), facts),
+        None => write_vacant(out, &cell),
+    }
+}
+
+fn write_opening(out: &mut Bytes, width: u64, height: u64) -> Result<(), NoMemory>
+    ensures { OnOk result (out.new ≡ out.old ++ opening width height) }
+{
+    put(
+        out,
+        b"<svg xmlns='http://www.w3.org/2000/svg' width='",
+        width,
+    )?;
+    put(out, b"' height='", height)?;
+    put(out, b"' viewBox='0 0 ", width)?;
+    put(out, b" ", height)?;
+    write_raw(out, b"'>\n")
+}
+
+fn write_front(out: &mut Bytes, width: u64, height: u64) -> Result<(), NoMemory>
+    ensures { OnOk result (out.new ≡ out.old ++ front width height) }
+{
+    write_opening(out, width, height)?;
+    write_raw(out, texts())?;
+    write_raw(out, boxes())?;
+    write_raw(out, colours())?;
+    write_raw(out, pattern())?;
+    write_raw(out, key())
+}
+
+fn texts() -> &'static [u8]
+    ensures { result.now ≡ texts }
+{
+    b"<style>text{font:12px sans-serif}.h{font-weight:bold;font-size:15px}.n{font-size:11px;text-anchor:middle;fill:#444}.t{font-size:10.5px;font-weight:bold;text-anchor:middle}.m{font-size:8.5px}.t,.m{paint-order:stroke;stroke:#fff;stroke-width:2.6px;stroke-linejoin:round}\n"
+}
+
+fn boxes() -> &'static [u8]
+    ensures { result.now ≡ boxes }
+{
+    b"rect{stroke:#444;stroke-width:.7}.v{fill:none;stroke:#999;stroke-dasharray:3 2}.k{fill:#eef4f8;stroke:none}.w{fill:#f2efe8;stroke:none}.x{fill:#000;stroke:none}.z{fill:url(#z)}.e rect{fill-opacity:.4}.r rect{stroke:#0033aa;stroke-width:2.4}.d rect{stroke:#c00000;stroke-width:2.4}\n"
+}
+
+/// Seven colours that differ for colour-blind readers too (Okabe and Ito 2008).
+fn colours() -> &'static [u8]
+    ensures { result.now ≡ colours }
+{
+    b".p0{fill:#e69f00}.p1{fill:#56b4e9}.p2{fill:#009e73}.p3{fill:#f0e442}.p4{fill:#0072b2}.p5{fill:#d55e00}.p6{fill:#cc79a7}</style>\n"
+}
+
+fn pattern() -> &'static [u8]
+    ensures { result.now ≡ pattern }
+{
+    b"<defs><pattern id='z' width='9' height='9' patternUnits='userSpaceOnUse' patternTransform='rotate(45)'><path d='M0 0H3.5V9H0Z' fill='#222'/></pattern></defs>\n"
+}
+
+fn key() -> &'static [u8]
+    ensures { result.now ≡ key }
+{
+    b"<text x='420' y='24' class='l'>R: reefer (blue outline). E: empty (pale). Class of dangerous goods (red outline). A pair of bays: fore half left, aft half right.</text>\n"
+}
+
+fn two_digits(n: u64) -> [u8; 2]
+    ensures { result ≡ two_digits n }
+{
+    [b'0' + (n / 10 % 10) as u8, b'0' + (n % 10) as u8]
+}
+
+fn write_row(out: &mut Bytes, frame: &Frame, base: u64, n: u32) -> Result<(), NoMemory>
+    requires frame { IsFrame frame.now }
+    requires column { n < columns frame.now }
+    ensures { OnOk result (out.new ≡ out.old ++ row_label frame.now base n) }
+{
+    let _columns = frame.columns();
+    write_label(out, 62 + 56 * u64::from(n), base, b"n")?;
+    out.extend(&two_digits(u64::from(frame.row_of(n))))?;
+    write_raw(out, b"</text>")
+}
+
+#[tactic(auto, using(crate::proofs::Uptos::uptos))]
+fn write_rows(out: &mut Bytes, frame: &Frame, base: u64) -> Result<(), NoMemory>
+    requires { IsFrame frame.now }
+    ensures { OnOk result (out.new ≡ out.old ++ row_labels frame.now base) }
+{
+    for n in 0..frame.columns() {
+        write_row(out, frame, base, n)?;
+    }
+    Ok(())
+}
+
+fn write_tier(out: &mut Bytes, frame: &Frame, low: u32, k: u32) -> Result<(), NoMemory>
+    requires frame { IsFrame frame.now }
+    requires low { low ≤ 82 }
+    requires high { k ≤ 50 }
+    ensures { OnOk result (out.new ≡ out.old ++ tier_label frame.now low k) }
+{
+    let tier = low + 2 * k;
+    write_label(out, 20, u64::from(frame.top_of(tier)) + 16, b"n")?;
+    out.extend(&two_digits(u64::from(tier)))?;
+    write_raw(out, b"</text>")
+}
+
+#[tactic(auto, using(crate::proofs::Uptos::uptos))]
+fn write_tiers(out: &mut Bytes, frame: &Frame, low: u32, height: u32) -> Result<(), NoMemory>
+    requires frame { IsFrame frame.now }
+    requires low { low ≤ 82 }
+    requires height { height ≤ 984 }
+    ensures { OnOk result (out.new ≡ out.old ++ tier_labels frame.now low height) }
+{
+    for k in 0..height / 24 {
+        write_tier(out, frame, low, k)?;
+    }
+    Ok(())
+}
+
+fn write_ground(out: &mut Bytes, frame: &Frame) -> Result<(), NoMemory>
+    requires { IsFrame frame.now }
+    ensures { OnOk result (out.new ≡ out.old ++ ground frame.now) }
+{
+    let width = 56 * u64::from(frame.columns());
+    let deck = u64::from(frame.deck_height());
+    let hold = u64::from(frame.hold_height());
+    write_rect(out, 34, 40, width, deck)?;
+    write_raw(out, b"k'/>")?;
+    write_rect(out, 34, deck + 42, width, 4)?;
+    write_raw(out, b"x'/>")?;
+    write_rect(out, 34, u64::from(frame.hold_begin()), width, hold)?;
+    write_raw(out, b"w'/>")
+}
+
+/// Appends what each bay is drawn on, for use at each.
+fn write_template(out: &mut Bytes, frame: &Frame) -> Result<(), NoMemory>
+    requires { IsFrame frame.now }
+    ensures { OnOk result (out.new ≡ out.old ++ template frame.now) }
+{
+    let hold_end = u64::from(frame.hold_begin()) + u64::from(frame.hold_height());
+    write_raw(out, b"<defs><g id='b'>")?;
+    write_ground(out, frame)?;
+    write_rows(out, frame, 36)?;
+    write_rows(out, frame, hold_end + 14)?;
+    write_tiers(out, frame, frame.deck_low, frame.deck_height())?;
+    write_tiers(out, frame, frame.hold_low, frame.hold_height())?;
+    write_raw(out, b"</g></defs>\n")
+}
+
+fn write_bay_number(out: &mut Bytes, n: u64) -> Result<(), NoMemory>
+    ensures { OnOk result (out.new ≡ out.old ++ bay_digits n) }
+{
+    if n < 100 {
+        return out.extend(&two_digits(n));
+    }
+    out.extend(Buffer::new().format(n).as_bytes())
+}
+
+fn write_use(out: &mut Bytes, left: u64, top: u64) -> Result<(), NoMemory>
+    ensures { OnOk result (out.new ≡ out.old ++ use_at left top) }
+{
+    put(out, b"<use href='#b' x='", left)?;
+    put(out, b"' y='", top)?;
+    write_raw(out, b"'/>")
+}
+
+fn write_bay(out: &mut Bytes, left: u64, top: u64, number: u32) -> Result<(), NoMemory>
+    requires left { left < 2 ^ 33 }
+    requires top { top < 2 ^ 42 }
+    ensures { OnOk result (out.new ≡ out.old ++ bay left top number) }
+{
+    let number = u64::from(number);
+    write_use(out, left, top)?;
+    write_label(out, left + 34, top + 18, b"h")?;
+    write_raw(out, b"Bay ")?;
+    write_bay_number(out, number)?;
+    write_raw(out, b" (")?;
+    write_bay_number(out, number.saturating_sub(1))?;
+    write_raw(out, b", ")?;
+    write_bay_number(out, number + 1)?;
+    write_raw(out, b")</text>\n")
+}
+
+#[tactic(auto, using(crate::proofs::Uptos::uptos))]
+fn write_bays(out: &mut Bytes, sheet: &Sheet) -> Result<(), NoMemory>
+    requires { IsSheet sheet.now }
+    ensures { OnOk result (out.new ≡ out.old ++ bays sheet.now) }
+{
+    for i in 0..sheet.bays.len() {
+        let number = *sheet.bays.at(i);
+        write_bay(out, sheet.bay_left(i), sheet.bay_top(i), number)?;
+    }
+    Ok(())
+}

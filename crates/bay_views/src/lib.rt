@@ -1,0 +1,25 @@
+//! Pictures of bay plan messages (SMDG BAPLIE 2.2) as SVG 1.1 texts, and the page that steps through them.
+#![tactic(auto)]
+
+mod bays;
+mod cells;
+mod drawing;
+mod escaping;
+mod frames;
+mod law;
+mod legend;
+mod marks;
+mod page;
+mod sheets;
+
+pub use cells::Cell;
+pub use drawing::picture;
+pub use escaping::{escape, escape_text};
+pub use frames::Frame;
+pub use law::{drawn_once, nothing_breaks_out};
+pub use legend::add_ports;
+pub use page::index_page;
+pub use sheets::Sheet;
+
+#[cfg(test)]
+mod tests;

@@ -1,0 +1,201 @@
+//! The text of a cell.
+ghost use Rattle.std.specs.Prelude.{◌≡◌, ◌<◌, ◌≤◌, ◌^◌, ◌+◌, ◌++◌, ◌%◌, nat_le, codes, OnOk};
+ghost use Rattle.std.specs.Fmt.{decimal};
+ghost use Rattle.stow_report.specs.Listings.{length_text};
+ghost use Rattle.bay_views.specs.Escapes.{escaped};
+ghost use Rattle.bay_views.specs.Marks.{raw, when, only_if, rect, swatch, label, classes, class_text, title, letters, marks, filled_text, vacant_text};
+
+use crate::cells::Cell;
+use crate::escaping::escape;
+use baplie_model::Facts;
+use itoa::Buffer;
+use stow_data::{Bytes, Length, Name, NoMemory};
+
+/// Appends markup or words of the document's own.
+#[tactic(auto, unfolding(crate::specs::Marks::raw))]
+pub(crate) fn write_raw(out: &mut Bytes, text: &[u8]) -> Result<(), NoMemory>
+    ensures { OnOk result (out.new ≡ out.old ++ raw text.now) }
+{
+    out.extend(text)
+}
+
+/// Appends such a text and a number.
+pub(crate) fn put(out: &mut Bytes, text: &[u8], number: u64) -> Result<(), NoMemory>
+    ensures { OnOk result (out.new ≡ out.old ++ raw text.now ++ decimal number) }
+{
+    write_raw(out, text)?;
+    out.extend(Buffer::new().format(number).as_bytes())
+}
+
+/// Appends a text where it is to stand.
+pub(crate) fn put_if(out: &mut Bytes, on: bool, text: &[u8]) -> Result<(), NoMemory>
+    ensures { OnOk result (out.new ≡ out.old ++ only_if on text.now) }
+{
+    if on { write_raw(out, text) } else { Ok(()) }
+}
+
+pub(crate) fn write_rect(
+    out: &mut Bytes,
+    left: u64,
+    top: u64,
+    width: u64,
+    height: u64,
+) -> Result<(), NoMemory>
+    ensures { OnOk result (out.new ≡ out.old ++ rect left top width height) }
+{
+    put(out, b"<rect x='", left)?;
+    put(out, b"' y='", top)?;
+    put(out, b"' width='", width)?;
+    put(out, b"' height='", height)?;
+    write_raw(out, b"' class='")
+}
+
+fn write_stripes(
+    out: &mut Bytes,
+    left: u64,
+    top: u64,
+    width: u64,
+    height: u64,
+    port: usize,
+) -> Result<(), NoMemory>
+    ensures { OnOk result (out.new ≡ out.old ++ when (nat_le 7 (port % 14)) (rect left top width height ++ raw (codes "z'/>"))) }
+{
+    if port % 14 < 7 {
+        return Ok(());
+    }
+    write_rect(out, left, top, width, height)?;
+    write_raw(out, b"z'/>")
+}
+
+/// Appends a rectangle in the colour of a port.
+pub(crate) fn write_swatch(
+    out: &mut Bytes,
+    left: u64,
+    top: u64,
+    width: u64,
+    height: u64,
+    port: usize,
+) -> Result<(), NoMemory>
+    ensures { OnOk result (out.new ≡ out.old ++ swatch left top width height port) }
+{
+    write_rect(out, left, top, width, height)?;
+    put(out, b"p", port as u64 % 7)?;
+    write_raw(out, b"'/>")?;
+    write_stripes(out, left, top, width, height, port)
+}
+
+/// Appends a text up to what it says.
+pub(crate) fn write_label(
+    out: &mut Bytes,
+    left: u64,
+    base: u64,
+    class: &[u8],
+) -> Result<(), NoMemory>
+    ensures { OnOk result (out.new ≡ out.old ++ label left base class.now) }
+{
+    put(out, b"<text x='", left)?;
+    put(out, b"' y='", base)?;
+    write_raw(out, b"' class='")?;
+    write_raw(out, class)?;
+    write_raw(out, b"'>")
+}
+
+fn write_classes(out: &mut Bytes, facts: &Facts) -> Result<(), NoMemory>
+    ensures { OnOk result (out.new ≡ out.old ++ classes facts.now) }
+{
+    put_if(out, facts.empty, b"e ")?;
+    put_if(out, facts.reefer, b"r ")?;
+    put_if(out, facts.class.is_some(), b"d ")
+}
+
+fn write_class(out: &mut Bytes, class: &Option<Name>) -> Result<(), NoMemory>
+    ensures { OnOk result (out.new ≡ out.old ++ class_text class.now) }
+{
+    match class {
+        Some(class) => escape(out, class.bytes()),
+        None => Ok(()),
+    }
+}
+
+/// A length in feet, between spaces.
+fn length_text(long: Length) -> &'static [u8]
+    ensures { result.now ≡ length_text long }
+{
+    match long {
+        Length::Twenty => b" 20 ",
+        Length::Forty => b" 40 ",
+    }
+}
+
+fn write_title(out: &mut Bytes, cell: &Cell, facts: &Facts) -> Result<(), NoMemory>
+    ensures { OnOk result (out.new ≡ out.old ++ title cell.now facts.now) }
+{
+    out.extend(&cell.number)?;
+    write_raw(out, b" ")?;
+    escape(out, facts.id.bytes())?;
+    out.extend(length_text(facts.long))?;
+    escape(out, facts.dest.bytes())?;
+    put(out, b" ", u64::from(facts.kg))?;
+    write_raw(out, b" kg")?;
+    put_if(out, facts.reefer, b", reefer")?;
+    put_if(out, facts.empty, b", empty")?;
+    put_if(out, facts.class.is_some(), b", class ")?;
+    write_class(out, &facts.class)
+}
+
+fn write_letters(out: &mut Bytes, cell: &Cell, dest: &Name) -> Result<(), NoMemory>
+    requires left { cell.now.left < 2 ^ 33 }
+    requires top { cell.now.top < 2 ^ 42 }
+    requires width { cell.now.width ≤ 56 }
+    ensures { OnOk result (out.new ≡ out.old ++ letters cell.now dest.now) }
+{
+    write_label(out, cell.left + cell.width / 2, cell.top + 20, b"t")?;
+    let bytes = dest.bytes();
+    escape(out, &bytes[bytes.len().saturating_sub(3)..])?;
+    write_raw(out, b"</text>")
+}
+
+fn write_marks(out: &mut Bytes, cell: &Cell, facts: &Facts) -> Result<(), NoMemory>
+    requires left { cell.now.left < 2 ^ 33 }
+    requires top { cell.now.top < 2 ^ 42 }
+    ensures { OnOk result (out.new ≡ out.old ++ marks cell.now facts.now) }
+{
+    write_label(out, cell.left + 2, cell.top + 9, b"m")?;
+    put_if(out, facts.reefer, b"R ")?;
+    put_if(out, facts.empty, b"E ")?;
+    write_class(out, &facts.class)?;
+    write_raw(out, b"</text>")
+}
+
+/// Appends a container with the number of its port.
+pub(crate) fn write_filled(
+    out: &mut Bytes,
+    cell: &Cell,
+    port: usize,
+    facts: &Facts,
+) -> Result<(), NoMemory>
+    requires left { cell.now.left < 2 ^ 33 }
+    requires top { cell.now.top < 2 ^ 42 }
+    requires width { cell.now.width ≤ 56 }
+    ensures { OnOk result (out.new ≡ out.old ++ filled_text cell.now port facts.now) }
+{
+    write_raw(out, b"<g class='")?;
+    write_classes(out, facts)?;
+    write_raw(out, b"'><title>")?;
+    write_title(out, cell, facts)?;
+    write_raw(out, b"</title>")?;
+    write_swatch(out, cell.left, cell.top, cell.width, 24, port)?;
+    write_letters(out, cell, &facts.dest)?;
+    write_marks(out, cell, facts)?;
+    write_raw(out, b"</g>\n")
+}
+
+/// Appends an empty cell.
+pub(crate) fn write_vacant(out: &mut Bytes, cell: &Cell) -> Result<(), NoMemory>
+    ensures { OnOk result (out.new ≡ out.old ++ vacant_text cell.now) }
+{
+    write_rect(out, cell.left, cell.top, cell.width, 24)?;
+    write_raw(out, b"v'><title>")?;
+    out.extend(&cell.number)?;
+    write_raw(out, b" empty</title></rect>\n")
+}

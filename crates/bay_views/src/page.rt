@@ -1,0 +1,125 @@
+//! The page that steps through several pictures.
+ghost use Rattle.std.specs.Prelude.{◌≡◌, ◌<◌, ◌≤◌, ◌+◌, ◌-◌, ◌++◌, nat_lt, codes, length, IfOk, OnOk};
+ghost use Rattle.bay_views.specs.Marks.{when};
+ghost use Rattle.bay_views.specs.Pages.{is_unreserved, hex_digit, percent, reference, step, links, section, section_of, page_front, index_page};
+
+use crate::escaping::escape_text;
+use crate::marks::{put, write_raw};
+use itoa::Buffer;
+use std::alloc::Global;
+use stow_data::{Bytes, NoMemory, WordList};
+
+fn is_unreserved(byte: u8) -> bool
+    ensures { result ≡ is_unreserved byte }
+{
+    byte.is_ascii_alphanumeric() || byte == b'-' || byte == b'.' || byte == b'_' || byte == b'~'
+}
+
+fn hex_digit(n: u8) -> u8
+    requires { n < 16 }
+    ensures { result ≡ hex_digit n }
+{
+    if n < 10 { b'0' + n } else { b'7' + n }
+}
+
+fn write_percent(out: &mut Bytes, byte: u8) -> Result<(), NoMemory>
+    ensures { OnOk result (out.new ≡ out.old ++ percent byte) }
+{
+    if is_unreserved(byte) {
+        return out.push(byte);
+    }
+    out.push(b'%')?;
+    out.push(hex_digit(byte / 16))?;
+    out.push(hex_digit(byte % 16))
+}
+
+/// Appends a name as a reference: all but letters, digits, `-`, `.`, `_` and `~` by percent and two
+/// hexadecimal digits (RFC 3986).
+fn write_reference(out: &mut Bytes, name: &str) -> Result<(), NoMemory>
+    ensures { OnOk result (out.new ≡ out.old ++ reference name.now) }
+{
+    for byte in name.as_bytes() {
+        write_percent(out, *byte)?;
+    }
+    Ok(())
+}
+
+fn write_step(out: &mut Bytes, i: u64, word: &[u8]) -> Result<(), NoMemory>
+    ensures { OnOk result (out.new ≡ out.old ++ step i word.now) }
+{
+    put(out, b"<a href='#c", i)?;
+    write_raw(out, b"'>")?;
+    write_raw(out, word)?;
+    write_raw(out, b"</a> ")
+}
+
+fn write_previous(out: &mut Bytes, i: u64) -> Result<(), NoMemory>
+    ensures { OnOk result (out.new ≡ out.old ++ when (nat_lt 0 i) (step (i - 1) (codes "&lt; Previous"))) }
+{
+    if i == 0 {
+        return Ok(());
+    }
+    write_step(out, i - 1, b"&lt; Previous")
+}
+
+fn write_next(out: &mut Bytes, i: u64, many: u64) -> Result<(), NoMemory>
+    requires { i < many }
+    ensures { OnOk result (out.new ≡ out.old ++ when (nat_lt (i + 1) many) (step (i + 1) (codes "Next &gt;"))) }
+{
+    if i + 1 >= many {
+        return Ok(());
+    }
+    write_step(out, i + 1, b"Next &gt;")
+}
+
+fn write_section(out: &mut Bytes, i: u64, many: u64, name: &str) -> Result<(), NoMemory>
+    requires { i < many }
+    ensures { OnOk result (out.new ≡ out.old ++ section i many name.now) }
+{
+    put(out, b"<section id='c", i)?;
+    write_raw(out, b"'><p>")?;
+    write_previous(out, i)?;
+    put(out, b"<b>", i + 1)?;
+    put(out, b" of ", many)?;
+    write_raw(out, b"</b> ")?;
+    write_next(out, i, many)?;
+    write_links(out, name)
+}
+
+fn write_links(out: &mut Bytes, name: &str) -> Result<(), NoMemory>
+    ensures { OnOk result (out.new ≡ out.old ++ links name.now) }
+{
+    write_raw(out, b"<a href='")?;
+    write_reference(out, name)?;
+    write_raw(out, b".svg'>")?;
+    escape_text(out, name)?;
+    write_raw(out, b"</a></p>\n<object type='image/svg+xml' data='")?;
+    write_reference(out, name)?;
+    write_raw(out, b".svg'></object></section>\n")
+}
+
+fn page_front() -> &'static [u8]
+    ensures { result.now ≡ page_front }
+{
+    b"<!DOCTYPE html>\n<html lang='en'><head><meta charset='utf-8'><title>Bay views</title>\n<style>body{font:14px sans-serif;margin:0 12px}section{min-height:100vh}p{margin:0;padding:8px 0}</style></head><body>\n"
+}
+
+/// The page of these files, of which each has its picture beside it under its name and `.svg`: a section
+/// for each with its picture, and plain links to the one before and the one behind.
+#[tactic(auto, using(crate::proofs::Uptos::uptos))]
+pub fn index_page(alloc: Global, names: &WordList) -> Result<Bytes, NoMemory>
+    ensures { IfOk result (λ text. text ≡ index_page names.now) }
+{
+    let mut out = Bytes::new(alloc);
+    write_raw(&mut out, page_front())?;
+    for i in 0..names.len() {
+        write_section(
+            &mut out,
+            i as u64,
+            names.len() as u64,
+            names.at(i).as_str(),
+        )?;
+    }
+    write_raw(&mut out, b"</body></html>\n")?;
+    Ok(out)
+}

@@ -1,0 +1,92 @@
+//! Each public call once.
+use crate::{add_ports, escape, escape_text, index_page, picture};
+use baplie_model::{CellGroup, Facts};
+use edifact_segments::SegmentList;
+use std::alloc::Global;
+use std::test::Fail;
+use stow_data::{Bytes, Length, Name, NameList, NoMemory, Word, WordList};
+
+/// Whether a text holds another one.
+fn has(text: &Bytes, part: &[u8]) -> bool {
+    for front in 0..text.len() {
+        if text.as_slice()[front..].starts_with(part) {
+            return true;
+        }
+    }
+    false
+}
+
+fn group(alloc: Global, bay: u32, tier: u32, facts: Option<Facts>) -> CellGroup {
+    CellGroup {
+        bay,
+        row: 1,
+        tier,
+        facts,
+        segments: SegmentList::new(alloc),
+    }
+}
+
+/// A container whose names hold characters of markup.
+fn marked() -> Facts {
+    Facts {
+        id: Name::of(b"A<B1"),
+        iso: Name::of(b"42R1"),
+        long: Length::Forty,
+        empty: true,
+        kg: 22_000,
+        reefer: true,
+        class: Some(Name::of(b"3&\"")),
+        dest: Name::of(b"DE>AM"),
+    }
+}
+
+fn drawn(alloc: Global) -> Result<Bytes, NoMemory> {
+    let groups = [
+        group(alloc, 2, 2, Some(marked())),
+        group(alloc, 3, 82, None),
+    ];
+    let mut ports = NameList::new(alloc);
+    add_ports(&mut ports, &groups)?;
+    picture(alloc, &ports, &groups)
+}
+
+#[test]
+fn escapes_texts(rt: HostRuntime) -> Result<(), Fail> {
+    let mut out = Bytes::new(rt.alloc());
+    escape(&mut out, b"a<b>&\"'\xE9\x07 ")?;
+    escape_text(&mut out, "é<")?;
+    let wanted: &[u8] = b"a&lt;b&gt;&amp;&quot;&apos;&#233;&#65533; \xC3\xA9&lt;";
+    assert_eq!(rt; out.as_slice(), wanted);
+    Ok(())
+}
+
+#[test]
+fn draws_cells(rt: HostRuntime) -> Result<(), Fail> {
+    let text = drawn(rt.alloc())?;
+    let title: &[u8] = b"<title>0020102 A&lt;B1 40 DE&gt;AM 22000 kg, reefer, empty, class 3&amp;&quot;</title>";
+    assert_eq!(rt; has(&text, title), true);
+    assert_eq!(rt; has(&text, b"<title>0030182 empty</title>"), true);
+    assert_eq!(rt; has(&text, b">1 containers, 22000 kg</text>"), true);
+    Ok(())
+}
+
+#[test]
+fn writes_legend(rt: HostRuntime) -> Result<(), Fail> {
+    let text = drawn(rt.alloc())?;
+    assert_eq!(rt; has(&text, b">DE&gt;AM: 1, 22000 kg</text>"), true);
+    assert_eq!(rt; has(&text, b">Bay 02 (01, 03)</text>"), true);
+    Ok(())
+}
+
+#[test]
+fn steps_through_pictures(rt: HostRuntime) -> Result<(), Fail> {
+    let alloc = rt.alloc();
+    let mut names = WordList::new(alloc);
+    names.push(Word::of(alloc, "a b<.edi")?)?;
+    names.push(Word::of(alloc, "c.edi")?)?;
+    let page = index_page(alloc, &names)?;
+    assert_eq!(rt; has(&page, b"<a href='a%20b%3C.edi.svg'>a b&lt;.edi</a>"), true);
+    assert_eq!(rt; has(&page, b"<a href='#c1'>Next &gt;</a>"), true);
+    assert_eq!(rt; has(&page, b"<a href='#c0'>&lt; Previous</a>"), true);
+    Ok(())
+}

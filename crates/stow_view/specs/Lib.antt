@@ -1,0 +1,5 @@
+pub mod Asked
+pub mod Reading
+pub mod Work
+pub mod Writing
+pub mod Ends

@@ -1,0 +1,111 @@
+//! The reads of the bay plans.
+ghost use Rattle.std.specs.Prelude.{◌≡◌, ◌≤◌, ◌^◌, length, map, All, Contains, IfOk, IfErr};
+ghost use Rattle.stow_io.specs.Causes.{Rose};
+ghost use Rattle.stow_report.specs.Refusals.{refusal_text};
+ghost use Rattle.stow_view.specs.Reading.{file_line, IsViewOf, TellsOf, IsStop};
+
+use baplie_read::{BaplieFault, Message, read_baplie};
+use edifact_segments::SegFault;
+use std::alloc::Global;
+use stow_data::{Bytes, NoMemory, Seq, Word};
+use stow_io::{Folder, FolderNo};
+use stow_report::{Line, interchange_line, message_line, refusal};
+
+/// A bay plan that was read, and the name of its file.
+#[derive(Drop)]
+pub struct View {
+    pub name: Word,
+    pub message: Message,
+}
+
+/// Bay plans in the order of their names.
+pub type ViewList = Seq<View>;
+
+/// Why there are no pictures.
+#[derive(Drop)]
+pub enum Stop<'a> {
+    /// A file that is no bay plan: the line that says so.
+    Refused(Bytes),
+    /// A file that was not read.
+    Failed(&'a str),
+    NoMemory,
+}
+
+/// The line of a text that is no bay plan.
+fn file_line(alloc: Global, fault: BaplieFault) -> Result<Line, NoMemory>
+    ensures { IfOk result (λ line. line ≡ file_line fault) }
+{
+    match fault {
+        BaplieFault::Seg(fault) => interchange_line(alloc, fault),
+        BaplieFault::At { segment, cause } => message_line(alloc, segment, cause),
+        BaplieFault::NoMemory => interchange_line(alloc, SegFault::NoMemory),
+    }
+}
+
+/// What a text is read as: a message, or the line that refuses it.
+#[derive(Drop)]
+pub enum Told {
+    Message(Message),
+    Line(Bytes),
+}
+
+/// What a text tells.
+fn told(alloc: Global, bytes: &[u8]) -> Result<Told, NoMemory>
+    requires { length bytes.now ≤ 2 ^ 29 }
+    ensures { IfOk result (TellsOf bytes.now) }
+{
+    match read_baplie(alloc, bytes) {
+        Ok(message) => Ok(Told::Message(message)),
+        Err(BaplieFault::NoMemory) => Err(NoMemory),
+        Err(fault) => Ok(Told::Line(refusal(alloc, &file_line(alloc, fault)?)?)),
+    }
+}
+
+/// The bay plan of a file.
+fn read_view<'a, F: Folder>(
+    alloc: Global,
+    folder: &mut F,
+    name: &'a str,
+) -> Result<View, Stop<'a>>
+    ensures stays { F.files folder.new ≡ F.files folder.old }
+    ensures named { IfOk result (λ v. v.name ≡ name.now) }
+    ensures gives { IfOk result (IsViewOf (F.files folder.old)) }
+    ensures later { F.faults folder.old ≤ F.faults folder.new }
+    ensures failed { IfErr result (IsStop (F.files folder.old) (Rose (F.faults folder.old) (F.faults folder.new)) (λ n. n ≡ name.now)) }
+{
+    let bytes = match folder.read(name) {
+        Ok(bytes) => bytes,
+        Err(FolderNo::Failed) => return Err(Stop::Failed(name)),
+        Err(FolderNo::NoMemory) => return Err(Stop::NoMemory),
+    };
+    match told(alloc, bytes.as_slice()) {
+        Ok(Told::Message(message)) => match Word::of(alloc, name) {
+            Ok(name) => Ok(View { name, message }),
+            Err(NoMemory) => Err(Stop::NoMemory),
+        },
+        Ok(Told::Line(line)) => Err(Stop::Refused(line)),
+        Err(NoMemory) => Err(Stop::NoMemory),
+    }
+}
+
+/// The bay plans of the files, up to the first that is none or that is not read.
+pub fn read_views<'a, F: Folder>(
+    alloc: Global,
+    folder: &mut F,
+    names: &'a [Word],
+) -> Result<ViewList, Stop<'a>>
+    ensures stays { F.files folder.new ≡ F.files folder.old }
+    ensures named { IfOk result (λ views. map (λ v. v.name) views ≡ names.now) }
+    ensures gives { IfOk result (All (IsViewOf (F.files folder.old))) }
+    ensures later { F.faults folder.old ≤ F.faults folder.new }
+    ensures failed { IfErr result (IsStop (F.files folder.old) (Rose (F.faults folder.old) (F.faults folder.new)) (Contains names.now)) }
+{
+    let mut views = ViewList::new(alloc);
+    for name in names {
+        let view = read_view(alloc, folder, name.as_str())?;
+        if views.push(view).is_err() {
+            return Err(Stop::NoMemory);
+        }
+    }
+    Ok(views)
+}

@@ -1,0 +1,70 @@
+//! The top call.
+ghost use Rattle.std.specs.Prelude.{◌≡◌, ◌≤◌};
+ghost use Rattle.stow_io.specs.Causes.{Rose};
+ghost use Rattle.stow_view.specs.Ends.{IsRun, IsAnswer};
+
+use crate::ending::{finish, say, say_name};
+use crate::naming::{are_together, names_in};
+use crate::reading::{Stop, read_views};
+use crate::status::Status;
+use crate::work::{Work, work_of};
+use std::alloc::Global;
+use stow_data::{NoMemory, Word, WordList};
+use stow_io::{Folder, Sink};
+
+/// What is written and printed for the files of these names, all of which are read first.
+fn answer<'a, F: Folder>(
+    alloc: Global,
+    folder: &mut F,
+    names: &'a [Word],
+) -> Result<Work, Stop<'a>>
+    ensures stays { F.files folder.new ≡ F.files folder.old }
+    ensures answered { IsAnswer (F.files folder.old) (Rose (F.faults folder.old) (F.faults folder.new)) names.now result }
+    ensures later { F.faults folder.old ≤ F.faults folder.new }
+{
+    let views = match read_views(alloc, folder, names) {
+        Ok(views) => views,
+        Err(stop) => return Err(stop),
+    };
+    match work_of(alloc, &views) {
+        Ok(work) => Ok(work),
+        Err(NoMemory) => Err(Stop::NoMemory),
+    }
+}
+
+/// For each file that the words name its picture, and for several files the page that steps through them.
+/// All files are read and all texts are made before the first is written.
+pub fn view<F: Folder, K: Sink>(
+    alloc: Global,
+    words: &WordList,
+    folder: &mut F,
+    out: &mut K,
+) -> Status
+    ensures run { IsRun words.now result (F.files folder.old) (F.files folder.new) (K.written out.old) (K.written out.new) (Rose (F.faults folder.old) (F.faults folder.new)) (Rose (K.faults out.old) (K.faults out.new)) }
+    ensures later { F.faults folder.old ≤ F.faults folder.new }
+    ensures sink_later { K.faults out.old ≤ K.faults out.new }
+{
+    let Some(names) = names_in(words) else {
+        say(out, b"refused words 1\n");
+        return Status::Words;
+    };
+    if names.len() > 1 && !are_together(names) {
+        say(out, b"refused words 1\n");
+        return Status::Words;
+    }
+    match answer(alloc, folder, names) {
+        Ok(work) => finish(&work, folder, out),
+        Err(Stop::Refused(line)) => {
+            say(out, line.as_slice());
+            Status::Input
+        }
+        Err(Stop::Failed(name)) => {
+            say_name(out, b"fault read ", name);
+            Status::Fault
+        }
+        Err(Stop::NoMemory) => {
+            say(out, b"memory\n");
+            Status::Memory
+        }
+    }
+}

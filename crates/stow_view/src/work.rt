@@ -1,0 +1,96 @@
+//! What is written and printed for the bay plans.
+ghost use Rattle.std.specs.Prelude.{◌≡◌, ◌++◌, [], map, flat_map, All, IfOk, OnOk};
+ghost use Rattle.stow_report.specs.Listings.{AreListable};
+ghost use Rattle.stow_view.specs.Work.{ports_of, file_of, files_of, line_of, report_of, IsWorkOf, AreDrawable};
+
+use crate::naming::{base_of, page_name, picture_name};
+use crate::reading::{View, ViewList};
+use crate::writing::{FileList, NamedFile};
+use bay_views::{add_ports, index_page, picture};
+use std::alloc::Global;
+use stow_data::{Bytes, NameList, NoMemory, Word, WordList};
+
+/// The files to be written, in their order, and the report to be printed after them.
+#[derive(Debug, Drop)]
+pub struct Work {
+    pub files: FileList,
+    pub report: Bytes,
+}
+
+/// The ports of discharge of all bay plans, so that each has one colour in all pictures.
+fn ports_of(alloc: Global, views: &[View]) -> Result<NameList, NoMemory>
+    ensures { IfOk result (λ ports. ports ≡ ports_of views.now) }
+{
+    let mut ports = NameList::new(alloc);
+    for view in views {
+        add_ports(&mut ports, view.message.groups.as_slice())?;
+    }
+    Ok(ports)
+}
+
+/// The picture of a bay plan, under its name.
+fn file_of(alloc: Global, ports: &NameList, view: &View) -> Result<NamedFile, NoMemory>
+    requires { AreListable view.now.message.groups }
+    ensures { IfOk result (λ file. file ≡ file_of ports.now view.now) }
+{
+    Ok(NamedFile {
+        name: picture_name(alloc, view.name.as_str())?,
+        bytes: picture(alloc, ports, view.message.groups.as_slice())?,
+    })
+}
+
+fn files_of(alloc: Global, ports: &NameList, views: &[View]) -> Result<FileList, NoMemory>
+    requires { AreDrawable views.now }
+    ensures { IfOk result (λ files. files ≡ files_of ports.now views.now) }
+{
+    let mut files = FileList::new(alloc);
+    for view in views {
+        files.push(file_of(alloc, ports, view)?)?;
+    }
+    Ok(files)
+}
+
+/// The page that steps through the pictures, beside the first of them.
+fn page_of(alloc: Global, first: &str, views: &[View]) -> Result<NamedFile, NoMemory> {
+    let mut names = WordList::new(alloc);
+    for view in views {
+        names.push(Word::of(alloc, base_of(view.name.as_str()))?)?;
+    }
+    Ok(NamedFile {
+        name: page_name(alloc, first)?,
+        bytes: index_page(alloc, &names)?,
+    })
+}
+
+/// A line for each file.
+fn report_of(alloc: Global, files: &FileList) -> Result<Bytes, NoMemory>
+    ensures { IfOk result (λ text. text ≡ report_of files.now) }
+{
+    let mut out = Bytes::new(alloc);
+    for file in files.as_slice() {
+        write_line(&mut out, file)?;
+    }
+    Ok(out)
+}
+
+fn write_line(out: &mut Bytes, file: &NamedFile) -> Result<(), NoMemory>
+    ensures { OnOk result (out.new ≡ out.old ++ line_of file.now) }
+{
+    out.extend(b"written ")?;
+    out.extend(file.name.as_str().as_bytes())?;
+    out.push(b'\n')
+}
+
+/// A picture for each bay plan and, where there are several, the page that steps through them.
+pub fn work_of(alloc: Global, views: &ViewList) -> Result<Work, NoMemory>
+    requires { AreDrawable views.now }
+    ensures { IfOk result (IsWorkOf views.now) }
+{
+    let ports = ports_of(alloc, views.as_slice())?;
+    let mut files = files_of(alloc, &ports, views.as_slice())?;
+    if let [first, _, ..] = views.as_slice() {
+        files.push(page_of(alloc, first.name.as_str(), views.as_slice())?)?;
+    }
+    let report = report_of(alloc, &files)?;
+    Ok(Work { files, report })
+}
