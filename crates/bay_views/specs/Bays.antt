@@ -1,8 +1,7 @@
 -- The bays of a picture (ISO 9711).
-use Rattle.std.specs.Prelude.{ℕ, ◌+◌, ◌-◌, ◌*◌, ◌%◌, ◌==◌, nat_eq, Bool, List, [], ◌∷◌, map, if◌then◌else◌}
+use Rattle.std.specs.Prelude.{ℕ, zero, suc, ◌++◌, ◌+◌, ◌-◌, ◌*◌, ◌%◌, ◌==◌, nat_eq, Bool, List, [], ◌∷◌, map, if◌then◌else◌}
 use Rattle.std.specs.List.{list_any}
 use Rattle.baplie_model.specs.declared.parts.CellGroup.{CellGroup}
-use Rattle.bay_views.specs.Upto.{upto}
 
 abbrev pub has : List ℕ → ℕ → Bool
 has numbers n = list_any (λ m. m == n) numbers
@@ -10,17 +9,17 @@ has numbers n = list_any (λ m. m == n) numbers
 abbrev pub has_bay : List CellGroup → ℕ → Bool
 has_bay groups bay = list_any (λ g. g.bay == bay) groups
 
--- an even number, where it passes
-abbrev pub even_if : (ℕ → Bool) → ℕ → List ℕ
-even_if P k = if P (2 * k) then 2 * k ∷ [] else []
+abbrev pub number_if : Bool → ℕ → List ℕ
+number_if on n = if on then n ∷ [] else []
 
--- the even numbers up to 1,000 that pass
-abbrev pub evens : (ℕ → Bool) → List ℕ
-evens P = upto (even_if P) 501
+-- of the first even numbers, so many from 0 on, those that pass
+unfoldable pub evens : (ℕ → Bool) → ℕ → List ℕ
+evens P zero = []
+evens P (suc n) = evens P n ++ number_if (P (2 * n)) (2 * n)
 
 -- the bays of 40 foot that the message names
 abbrev pub long_bays : List CellGroup → List ℕ
-long_bays groups = evens (has_bay groups)
+long_bays groups = evens (has_bay groups) 501
 
 -- The bay of 40 foot that a bay is drawn in. An odd bay is the fore half of the one behind it or the aft half of the one before it, whichever the message names; where it names neither, 1 and 3 are drawn in 2, 5 and 7 in 6 and so on.
 abbrev pub home_of : List ℕ → ℕ → ℕ
@@ -32,4 +31,4 @@ homes longs groups = map (λ g. home_of longs g.bay) groups
 
 -- the bays that are drawn, from fore to aft
 abbrev pub drawn_bays : List CellGroup → List ℕ
-drawn_bays groups = evens (has (homes (long_bays groups) groups))
+drawn_bays groups = evens (has (homes (long_bays groups) groups)) 501

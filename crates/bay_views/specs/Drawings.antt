@@ -1,5 +1,5 @@
 -- The text of a picture (SVG 1.1).
-use Rattle.std.specs.Prelude.{ℕ, ◌+◌, ◌-◌, ◌*◌, ◌/◌, ◌%◌, ◌^◌, min, nat_lt, codes, List, [], ◌∷◌, ◌++◌, length, flat_map, count_by, slice_index_or, if◌then◌else◌}
+use Rattle.std.specs.Prelude.{ℕ, ◌+◌, ◌-◌, ◌*◌, ◌/◌, ◌%◌, ◌^◌, min, nat_lt, codes, List, [], ◌∷◌, ◌++◌, length, flat_map, count_by, slice_get, slice_index_or, Option, Some, None, if◌then◌else◌}
 use Rattle.std.specs.Fmt.{decimal}
 use Rattle.std.specs.List.{sum_by}
 use Rattle.baplie_model.specs.declared.parts.CellGroup.{CellGroup}
@@ -25,13 +25,22 @@ entry_left i = 14 + 206 * (i % 6)
 abbrev pub entry_top : ℕ → ℕ
 entry_top i = 40 + 22 * (min i (2 ^ 32) / 6)
 
+abbrev pub counts : List ℕ → ℕ → ℕ → List ℕ
+counts port containers kg = escaped port ++ raw (codes ": ") ++ decimal containers ++ raw (codes ", ") ++ decimal kg ++ raw (codes " kg</text>\n")
+
 -- a port with its colour, its containers and their kilograms
+abbrev pub entry_at : ℕ → ℕ → ℕ → List ℕ → ℕ → ℕ → List ℕ
+entry_at left top i port containers kg = swatch left top 26 16 i ++ label (left + 32) (top + 13) (codes "l") ++ counts port containers kg
+
 abbrev pub entry : ℕ → List ℕ → ℕ → ℕ → List ℕ
-entry i port containers kg =
-    swatch (entry_left i) (entry_top i) 26 16 i ++ label (entry_left i + 32) (entry_top i + 13) (codes "l") ++ escaped port ++ raw (codes ": ") ++ decimal containers ++ raw (codes ", ") ++ decimal kg ++ raw (codes " kg</text>\n")
+entry i port containers kg = entry_at (entry_left i) (entry_top i) i port containers kg
+
+abbrev pub entry_in : List CellGroup → ℕ → Option (List ℕ) → List ℕ
+entry_in groups i None = []
+entry_in groups i (Some port) = entry i port (count_by (is_for port) groups) (sum_by (kg_for port) groups)
 
 abbrev pub entry_of : List (List ℕ) → List CellGroup → ℕ → List ℕ
-entry_of ports groups i = let port = slice_index_or ports i [] in entry i port (count_by (is_for port) groups) (sum_by (kg_for port) groups)
+entry_of ports groups i = entry_in groups i (slice_get ports i)
 
 abbrev pub legend : List (List ℕ) → List CellGroup → List ℕ
 legend ports groups = totals (count_by holds groups) (sum_by kilograms groups) ++ upto (entry_of ports groups) (length ports)
@@ -54,13 +63,27 @@ abbrev pub tier_labels : Frame → ℕ → ℕ → List ℕ
 tier_labels f low height = upto (tier_label f low) (height / 24)
 
 -- the deck, the hatch line and the hold
+abbrev pub area : ℕ → ℕ → ℕ → List ℕ → List ℕ
+area top width height class = rect 34 top width height ++ raw class
+
+abbrev pub areas : ℕ → ℕ → ℕ → ℕ → List ℕ
+areas width deck begin hold = area 40 width deck (codes "k'/>") ++ area (deck + 42) width 4 (codes "x'/>") ++ area begin width hold (codes "w'/>")
+
 abbrev pub ground : Frame → List ℕ
-ground f =
-    rect 34 40 (56 * columns f) (deck_height f) ++ raw (codes "k'/>") ++ rect 34 (deck_height f + 42) (56 * columns f) 4 ++ raw (codes "x'/>") ++ rect 34 (hold_begin f) (56 * columns f) (hold_height f) ++ raw (codes "w'/>")
+ground f = areas (56 * columns f) (deck_height f) (hold_begin f) (hold_height f)
+
+abbrev pub low_rows : Frame → List ℕ
+low_rows f = row_labels f (hold_begin f + hold_height f + 14)
+
+abbrev pub deck_tiers : Frame → List ℕ
+deck_tiers f = tier_labels f f.deck_low (deck_height f)
+
+abbrev pub hold_tiers : Frame → List ℕ
+hold_tiers f = tier_labels f f.hold_low (hold_height f)
 
 abbrev pub template : Frame → List ℕ
 template f =
-    raw (codes "<defs><g id='b'>") ++ ground f ++ row_labels f 36 ++ row_labels f (hold_begin f + hold_height f + 14) ++ tier_labels f f.deck_low (deck_height f) ++ tier_labels f f.hold_low (hold_height f) ++ raw (codes "</g></defs>\n")
+    raw (codes "<defs><g id='b'>") ++ ground f ++ row_labels f 36 ++ low_rows f ++ deck_tiers f ++ hold_tiers f ++ raw (codes "</g></defs>\n")
 
 -- two digits, or more from 100 on
 abbrev pub bay_digits : ℕ → List ℕ

@@ -40,11 +40,15 @@ abbrev pub class_text : Option (List ℕ) → List ℕ
 class_text None = []
 class_text (Some class) = escaped class
 
+abbrev pub weight : Facts → List ℕ
+weight f = raw (codes " ") ++ decimal f.kg ++ raw (codes " kg")
+
+abbrev pub told : Facts → List ℕ
+told f = only_if f.reefer (codes ", reefer") ++ only_if f.empty (codes ", empty") ++ only_if (is_some f.class) (codes ", class ") ++ class_text f.class
+
 -- what hovering shows: the cell, the id, the length, the port of discharge, the kilograms and what else is told
 abbrev pub title : Cell → Facts → List ℕ
-title cell f =
-    cell.number ++ raw (codes " ") ++ escaped f.id ++ length_text f.long ++ escaped f.dest ++ raw (codes " ") ++ decimal f.kg ++ raw (codes " kg") ++ only_if f.reefer (codes ", reefer") ++ only_if f.empty (codes ", empty")
-    ++ only_if (is_some f.class) (codes ", class ") ++ class_text f.class
+title cell f = cell.number ++ raw (codes " ") ++ escaped f.id ++ length_text f.long ++ escaped f.dest ++ weight f ++ told f
 
 -- the last three characters of the port, in the middle of the cell
 abbrev pub letters : Cell → List ℕ → List ℕ

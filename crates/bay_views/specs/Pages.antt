@@ -1,5 +1,5 @@
 -- The page that steps through several pictures (HTML 5).
-use Rattle.std.specs.Prelude.{ℕ, ◌+◌, ◌-◌, ◌/◌, ◌%◌, ◌==◌, Bool, ◌||◌, ◌&&◌, nat_le, nat_lt, codes, List, [], ◌∷◌, ◌++◌, length, flat_map, slice_index_or, if◌then◌else◌}
+use Rattle.std.specs.Prelude.{ℕ, ◌+◌, ◌-◌, ◌/◌, ◌%◌, ◌==◌, Bool, ◌||◌, ◌&&◌, nat_le, nat_lt, codes, List, [], ◌∷◌, ◌++◌, length, flat_map, slice_get, Option, Some, None, if◌then◌else◌}
 use Rattle.std.specs.Fmt.{decimal}
 use Rattle.bay_views.specs.Escapes.{escaped_text}
 use Rattle.bay_views.specs.Upto.{upto}
@@ -38,8 +38,12 @@ section i many name =
     raw (codes "<section id='c") ++ decimal i ++ raw (codes "'><p>") ++ when (nat_lt 0 i) (step (i - 1) (codes "&lt; Previous")) ++ raw (codes "<b>") ++ decimal (i + 1) ++ raw (codes " of ") ++ decimal many ++ raw (codes "</b> ")
     ++ when (nat_lt (i + 1) many) (step (i + 1) (codes "Next &gt;")) ++ links name
 
+abbrev pub section_in : ℕ → ℕ → Option (List ℕ) → List ℕ
+section_in i many None = []
+section_in i many (Some name) = section i many name
+
 abbrev pub section_of : List (List ℕ) → ℕ → List ℕ
-section_of names i = section i (length names) (slice_index_or names i [])
+section_of names i = section_in i (length names) (slice_get names i)
 
 abbrev pub page_front : List ℕ
 page_front = codes "<!DOCTYPE html>\n<html lang='en'><head><meta charset='utf-8'><title>Bay views</title>\n<style>body{font:14px sans-serif;margin:0 12px}section{min-height:100vh}p{margin:0;padding:8px 0}</style></head><body>\n"

@@ -1,7 +1,7 @@
 //! The bays that are drawn.
-ghost use Rattle.std.specs.Prelude.{◌≡◌, ◌<◌, ◌≤◌, length, All, IfOk};
+ghost use Rattle.std.specs.Prelude.{◌≡◌, ◌<◌, ◌≤◌, ◌+◌, ◌++◌, length, All, IfOk, OnOk};
 ghost use Rattle.stow_report.specs.Listings.{IsCell};
-ghost use Rattle.bay_views.specs.Bays.{has, has_bay, long_bays, home_of, homes, drawn_bays, evens};
+ghost use Rattle.bay_views.specs.Bays.{number_if, has, has_bay, long_bays, home_of, homes, drawn_bays, evens};
 
 use baplie_model::CellGroup;
 use std::alloc::Global;
@@ -19,17 +19,22 @@ fn has_bay(groups: &[CellGroup], bay: u32) -> bool
     groups.iter().any(|group| group.bay == bay)
 }
 
+fn push_if(numbers: &mut NumberList, on: bool, n: u32) -> Result<(), NoMemory>
+    ensures pushed { OnOk result (numbers.new ≡ numbers.old ++ number_if on n) }
+    ensures one { OnOk result (length numbers.new ≤ length numbers.old + 1) }
+{
+    if on { numbers.push(n) } else { Ok(()) }
+}
+
 /// The bays of 40 foot that are named.
-#[tactic(auto, using(crate::proofs::Uptos::uptos))]
+#[tactic(auto, using(crate::proofs::Uptos::evens_steps))]
 pub(crate) fn long_bays(alloc: Global, groups: &[CellGroup]) -> Result<NumberList, NoMemory>
     ensures value { IfOk result (λ bays. bays ≡ long_bays groups.now) }
     ensures few { IfOk result (λ bays. length bays ≤ 501) }
 {
     let mut bays = NumberList::new(alloc);
     for half in 0..501 {
-        if has_bay(groups, 2 * half) {
-            bays.push(2 * half)?;
-        }
+        push_if(&mut bays, has_bay(groups, 2 * half), 2 * half)?;
     }
     Ok(bays)
 }
@@ -64,16 +69,14 @@ fn homes(alloc: Global, longs: &NumberList, groups: &[CellGroup]) -> Result<Numb
 }
 
 /// The even numbers among these, rising.
-#[tactic(auto, using(crate::proofs::Uptos::uptos))]
+#[tactic(auto, using(crate::proofs::Uptos::evens_steps))]
 fn evens_among(alloc: Global, numbers: &NumberList) -> Result<NumberList, NoMemory>
-    ensures value { IfOk result (λ bays. bays ≡ evens (has numbers.now)) }
+    ensures value { IfOk result (λ bays. bays ≡ evens (has numbers.now) 501) }
     ensures few { IfOk result (λ bays. length bays ≤ 501) }
 {
     let mut bays = NumberList::new(alloc);
     for half in 0..501 {
-        if has(numbers, 2 * half) {
-            bays.push(2 * half)?;
-        }
+        push_if(&mut bays, has(numbers, 2 * half), 2 * half)?;
     }
     Ok(bays)
 }

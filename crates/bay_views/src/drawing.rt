@@ -5,15 +5,14 @@ ghost use Rattle.bay_views.specs.Frames.{IsFrame, columns};
 ghost use Rattle.bay_views.specs.Sheets.{IsSheet, sheet_width, sheet_height};
 ghost use Rattle.bay_views.specs.Cells.{shape_of};
 ghost use Rattle.bay_views.specs.Marks.{shape_text};
-ghost use Rattle.bay_views.specs.Drawings.{two_digits, row_label, row_labels, tier_label, tier_labels, ground, template, bay_digits, use_at, bay, bay_of, bays, opening, texts, boxes, colours, pattern, key, front, body, drawing, picture};
+ghost use Rattle.bay_views.specs.Drawings.{two_digits, row_label, row_labels, tier_label, tier_labels, low_rows, deck_tiers, hold_tiers, area, areas, ground, template, bay_digits, use_at, bay, bay_of, bays, opening, texts, boxes, colours, pattern, key, front, body, drawing, picture};
 
 use crate::cells::cell_of;
 use crate::frames::Frame;
 use crate::legend::{number_of, write_legend};
-use crate::marks::{put, write_filled, write_label, write_raw, write_rect, write_vacant};
+use crate::marks::{put, write_filled, write_label, write_number, write_raw, write_rect, write_vacant};
 use crate::sheets::{Sheet, sheet_of};
 use baplie_model::CellGroup;
-use itoa::Buffer;
 use std::alloc::Global;
 use stow_data::{Bytes, NameList, NoMemory};
 
@@ -142,7 +141,7 @@ fn write_row(out: &mut Bytes, frame: &Frame, base: u64, n: u32) -> Result<(), No
     write_raw(out, b"</text>")
 }
 
-#[tactic(auto, using(crate::proofs::Uptos::uptos))]
+#[tactic(auto, using(crate::proofs::Uptos::upto_more))]
 fn write_rows(out: &mut Bytes, frame: &Frame, base: u64) -> Result<(), NoMemory>
     requires { IsFrame frame.now }
     ensures { OnOk result (out.new ≡ out.old ++ row_labels frame.now base) }
@@ -165,7 +164,7 @@ fn write_tier(out: &mut Bytes, frame: &Frame, low: u32, k: u32) -> Result<(), No
     write_raw(out, b"</text>")
 }
 
-#[tactic(auto, using(crate::proofs::Uptos::uptos))]
+#[tactic(auto, using(crate::proofs::Uptos::upto_more))]
 fn write_tiers(out: &mut Bytes, frame: &Frame, low: u32, height: u32) -> Result<(), NoMemory>
     requires frame { IsFrame frame.now }
     requires low { low ≤ 82 }
@@ -182,15 +181,43 @@ fn write_ground(out: &mut Bytes, frame: &Frame) -> Result<(), NoMemory>
     requires { IsFrame frame.now }
     ensures { OnOk result (out.new ≡ out.old ++ ground frame.now) }
 {
-    let width = 56 * u64::from(frame.columns());
-    let deck = u64::from(frame.deck_height());
-    let hold = u64::from(frame.hold_height());
-    write_rect(out, 34, 40, width, deck)?;
-    write_raw(out, b"k'/>")?;
-    write_rect(out, 34, deck + 42, width, 4)?;
-    write_raw(out, b"x'/>")?;
-    write_rect(out, 34, u64::from(frame.hold_begin()), width, hold)?;
-    write_raw(out, b"w'/>")
+    let width = 56 * frame.columns();
+    write_areas(
+        out,
+        width,
+        frame.deck_height(),
+        frame.hold_begin(),
+        frame.hold_height(),
+    )
+}
+
+fn write_areas(
+    out: &mut Bytes,
+    width: u32,
+    deck: u32,
+    begin: u32,
+    hold: u32,
+) -> Result<(), NoMemory>
+    requires { deck ≤ 264 }
+    ensures { OnOk result (out.new ≡ out.old ++ areas width deck begin hold) }
+{
+    let width = u64::from(width);
+    write_area(out, 40, width, u64::from(deck), b"k'/>")?;
+    write_area(out, u64::from(deck + 42), width, 4, b"x'/>")?;
+    write_area(out, u64::from(begin), width, u64::from(hold), b"w'/>")
+}
+
+fn write_area(
+    out: &mut Bytes,
+    top: u64,
+    width: u64,
+    height: u64,
+    class: &[u8],
+) -> Result<(), NoMemory>
+    ensures { OnOk result (out.new ≡ out.old ++ area top width height class.now) }
+{
+    write_rect(out, 34, top, width, height)?;
+    write_raw(out, class)
 }
 
 /// Appends what each bay is drawn on, for use at each.
@@ -198,14 +225,36 @@ fn write_template(out: &mut Bytes, frame: &Frame) -> Result<(), NoMemory>
     requires { IsFrame frame.now }
     ensures { OnOk result (out.new ≡ out.old ++ template frame.now) }
 {
-    let hold_end = u64::from(frame.hold_begin()) + u64::from(frame.hold_height());
     write_raw(out, b"<defs><g id='b'>")?;
     write_ground(out, frame)?;
     write_rows(out, frame, 36)?;
-    write_rows(out, frame, hold_end + 14)?;
-    write_tiers(out, frame, frame.deck_low, frame.deck_height())?;
-    write_tiers(out, frame, frame.hold_low, frame.hold_height())?;
+    write_low_rows(out, frame)?;
+    write_deck_tiers(out, frame)?;
+    write_hold_tiers(out, frame)?;
     write_raw(out, b"</g></defs>\n")
+}
+
+/// Appends the row numbers below the hold.
+fn write_low_rows(out: &mut Bytes, frame: &Frame) -> Result<(), NoMemory>
+    requires { IsFrame frame.now }
+    ensures { OnOk result (out.new ≡ out.old ++ low_rows frame.now) }
+{
+    let end = frame.hold_begin() + frame.hold_height() + 14;
+    write_rows(out, frame, u64::from(end))
+}
+
+fn write_deck_tiers(out: &mut Bytes, frame: &Frame) -> Result<(), NoMemory>
+    requires { IsFrame frame.now }
+    ensures { OnOk result (out.new ≡ out.old ++ deck_tiers frame.now) }
+{
+    write_tiers(out, frame, frame.deck_low, frame.deck_height())
+}
+
+fn write_hold_tiers(out: &mut Bytes, frame: &Frame) -> Result<(), NoMemory>
+    requires { IsFrame frame.now }
+    ensures { OnOk result (out.new ≡ out.old ++ hold_tiers frame.now) }
+{
+    write_tiers(out, frame, frame.hold_low, frame.hold_height())
 }
 
 fn write_bay_number(out: &mut Bytes, n: u64) -> Result<(), NoMemory>
@@ -214,7 +263,7 @@ fn write_bay_number(out: &mut Bytes, n: u64) -> Result<(), NoMemory>
     if n < 100 {
         return out.extend(&two_digits(n));
     }
-    out.extend(Buffer::new().format(n).as_bytes())
+    write_number(out, n)
 }
 
 fn write_use(out: &mut Bytes, left: u64, top: u64) -> Result<(), NoMemory>
@@ -242,13 +291,13 @@ fn write_bay(out: &mut Bytes, left: u64, top: u64, number: u32) -> Result<(), No
     write_raw(out, b")</text>\n")
 }
 
-#[tactic(auto, using(crate::proofs::Uptos::uptos))]
+#[tactic(auto, using(crate::proofs::Uptos::upto_more))]
 fn write_bays(out: &mut Bytes, sheet: &Sheet) -> Result<(), NoMemory>
     requires { IsSheet sheet.now }
     ensures { OnOk result (out.new ≡ out.old ++ bays sheet.now) }
 {
     for i in 0..sheet.bays.len() {
-        let number = *sheet.bays.at(i);
+        let number = sheet.bays.as_slice()[i];
         write_bay(out, sheet.bay_left(i), sheet.bay_top(i), number)?;
     }
     Ok(())

@@ -3,12 +3,10 @@ ghost use Rattle.std.specs.Prelude.{◌≡◌, ◌<◌, ◌≤◌, ◌^◌, ◌+
 ghost use Rattle.std.specs.List.{sum_by};
 ghost use Rattle.stow_report.specs.Listings.{holds, kilograms};
 ghost use Rattle.bay_views.specs.Ports.{same_text, is_port, with_port, with_facts, with_ports, number_of, goes_to, is_for, kg_to, kg_for};
-ghost use Rattle.bay_views.specs.Drawings.{totals, entry, entry_of, legend};
+ghost use Rattle.bay_views.specs.Drawings.{totals, counts, entry_left, entry_top, entry_at, entry, entry_of, legend};
 
-use crate::escaping::escape;
-use crate::marks::{put, write_label, write_raw, write_swatch};
+use crate::marks::{put, write_label, write_name, write_number, write_raw, write_swatch};
 use baplie_model::{CellGroup, Facts};
-use itoa::Buffer;
 use stow_data::{Bytes, Name, NameList, NoMemory};
 
 fn same_text(a: &[u8], b: &[u8]) -> bool
@@ -136,7 +134,7 @@ fn write_totals(out: &mut Bytes, containers: u64, kilograms: u64) -> Result<(), 
     ensures { OnOk result (out.new ≡ out.old ++ totals containers kilograms) }
 {
     write_label(out, 14, 24, b"h")?;
-    out.extend(Buffer::new().format(containers).as_bytes())?;
+    write_number(out, containers)?;
     put(out, b" containers, ", kilograms)?;
     write_raw(out, b" kg</text>\n")
 }
@@ -150,18 +148,81 @@ fn write_entry(
 ) -> Result<(), NoMemory>
     ensures { OnOk result (out.new ≡ out.old ++ entry i port.now containers kilograms) }
 {
-    let left = 14 + 206 * (i as u64 % 6);
-    let top = 40 + 22 * ((i as u64).min(4_294_967_296) / 6);
+    write_entry_at(
+        out,
+        entry_left(i),
+        entry_top(i),
+        i,
+        port,
+        containers,
+        kilograms,
+    )
+}
+
+fn entry_left(i: usize) -> u64
+    ensures value { result ≡ entry_left i }
+    ensures small { result < 2000 }
+{
+    14 + 206 * (i as u64 % 6)
+}
+
+fn entry_top(i: usize) -> u64
+    ensures value { result ≡ entry_top i }
+    ensures small { result < 2 ^ 40 }
+{
+    40 + 22 * ((i as u64).min(4_294_967_296) / 6)
+}
+
+fn write_entry_at(
+    out: &mut Bytes,
+    left: u64,
+    top: u64,
+    i: usize,
+    port: &Name,
+    containers: u64,
+    kilograms: u64,
+) -> Result<(), NoMemory>
+    requires left { left < 2000 }
+    requires top { top < 2 ^ 40 }
+    ensures { OnOk result (out.new ≡ out.old ++ entry_at left top i port.now containers kilograms) }
+{
     write_swatch(out, left, top, 26, 16, i)?;
     write_label(out, left + 32, top + 13, b"l")?;
-    escape(out, port.bytes())?;
+    write_counts(out, port, containers, kilograms)
+}
+
+fn write_entry_of(
+    out: &mut Bytes,
+    ports: &NameList,
+    groups: &[CellGroup],
+    i: usize,
+) -> Result<(), NoMemory>
+    requires port { i < length ports.now }
+    requires groups { length groups.now < 2 ^ 32 }
+    ensures { OnOk result (out.new ≡ out.old ++ entry_of ports.now groups.now i) }
+{
+    let port = ports.at(i);
+    let containers = containers_for(port, groups);
+    let kilograms = kilograms_for(port, groups);
+    write_entry(out, i, port, containers, kilograms)
+}
+
+fn write_counts(
+    out: &mut Bytes,
+    port: &Name,
+    containers: u64,
+    kilograms: u64,
+) -> Result<(), NoMemory>
+    ensures { OnOk result (out.new ≡ out.old ++ counts port.now containers kilograms) }
+{
+    write_name(out, port)?;
     put(out, b": ", containers)?;
     put(out, b", ", kilograms)?;
     write_raw(out, b" kg</text>\n")
 }
 
 /// Appends the totals, and then each port with its counts.
-#[tactic(auto, using(crate::proofs::Uptos::uptos))]
+#[tactic(auto, using(crate::proofs::Uptos::upto_more))]
 pub(crate) fn write_legend(
     out: &mut Bytes,
     ports: &NameList,
@@ -172,14 +233,7 @@ pub(crate) fn write_legend(
 {
     write_totals(out, containers_in(groups), kilograms_in(groups))?;
     for i in 0..ports.len() {
-        let port = ports.at(i);
-        write_entry(
-            out,
-            i,
-            port,
-            containers_for(port, groups),
-            kilograms_for(port, groups),
-        )?;
+        write_entry_of(out, ports, groups, i)?;
     }
     Ok(())
 }

@@ -3,7 +3,7 @@ ghost use Rattle.std.specs.Prelude.{◌≡◌, ◌<◌, ◌≤◌, ◌^◌, ◌+
 ghost use Rattle.std.specs.Fmt.{decimal};
 ghost use Rattle.stow_report.specs.Listings.{length_text};
 ghost use Rattle.bay_views.specs.Escapes.{escaped};
-ghost use Rattle.bay_views.specs.Marks.{raw, when, only_if, rect, swatch, label, classes, class_text, title, letters, marks, filled_text, vacant_text};
+ghost use Rattle.bay_views.specs.Marks.{raw, when, only_if, rect, swatch, label, classes, class_text, weight, told, title, letters, marks, filled_text, vacant_text};
 
 use crate::cells::Cell;
 use crate::escaping::escape;
@@ -24,7 +24,21 @@ pub(crate) fn put(out: &mut Bytes, text: &[u8], number: u64) -> Result<(), NoMem
     ensures { OnOk result (out.new ≡ out.old ++ raw text.now ++ decimal number) }
 {
     write_raw(out, text)?;
+    write_number(out, number)
+}
+
+/// Appends a number.
+pub(crate) fn write_number(out: &mut Bytes, number: u64) -> Result<(), NoMemory>
+    ensures { OnOk result (out.new ≡ out.old ++ decimal number) }
+{
     out.extend(Buffer::new().format(number).as_bytes())
+}
+
+/// Appends a name of the file.
+pub(crate) fn write_name(out: &mut Bytes, name: &Name) -> Result<(), NoMemory>
+    ensures { OnOk result (out.new ≡ out.old ++ escaped name.now) }
+{
+    escape(out, name.bytes())
 }
 
 /// Appends a text where it is to stand.
@@ -112,7 +126,7 @@ fn write_class(out: &mut Bytes, class: &Option<Name>) -> Result<(), NoMemory>
     ensures { OnOk result (out.new ≡ out.old ++ class_text class.now) }
 {
     match class {
-        Some(class) => escape(out, class.bytes()),
+        Some(class) => write_name(out, class),
         None => Ok(()),
     }
 }
@@ -127,20 +141,44 @@ fn length_text(long: Length) -> &'static [u8]
     }
 }
 
-fn write_title(out: &mut Bytes, cell: &Cell, facts: &Facts) -> Result<(), NoMemory>
-    ensures { OnOk result (out.new ≡ out.old ++ title cell.now facts.now) }
+fn write_length(out: &mut Bytes, long: Length) -> Result<(), NoMemory>
+    ensures { OnOk result (out.new ≡ out.old ++ length_text long) }
 {
-    out.extend(&cell.number)?;
-    write_raw(out, b" ")?;
-    escape(out, facts.id.bytes())?;
-    out.extend(length_text(facts.long))?;
-    escape(out, facts.dest.bytes())?;
+    out.extend(length_text(long))
+}
+
+fn write_weight(out: &mut Bytes, facts: &Facts) -> Result<(), NoMemory>
+    ensures { OnOk result (out.new ≡ out.old ++ weight facts.now) }
+{
     put(out, b" ", u64::from(facts.kg))?;
-    write_raw(out, b" kg")?;
+    write_raw(out, b" kg")
+}
+
+fn write_told(out: &mut Bytes, facts: &Facts) -> Result<(), NoMemory>
+    ensures { OnOk result (out.new ≡ out.old ++ told facts.now) }
+{
     put_if(out, facts.reefer, b", reefer")?;
     put_if(out, facts.empty, b", empty")?;
     put_if(out, facts.class.is_some(), b", class ")?;
     write_class(out, &facts.class)
+}
+
+fn write_cell_number(out: &mut Bytes, cell: &Cell) -> Result<(), NoMemory>
+    ensures { OnOk result (out.new ≡ out.old ++ cell.now.number) }
+{
+    out.extend(&cell.number)
+}
+
+fn write_title(out: &mut Bytes, cell: &Cell, facts: &Facts) -> Result<(), NoMemory>
+    ensures { OnOk result (out.new ≡ out.old ++ title cell.now facts.now) }
+{
+    write_cell_number(out, cell)?;
+    write_raw(out, b" ")?;
+    write_name(out, &facts.id)?;
+    write_length(out, facts.long)?;
+    write_name(out, &facts.dest)?;
+    write_weight(out, facts)?;
+    write_told(out, facts)
 }
 
 fn write_letters(out: &mut Bytes, cell: &Cell, dest: &Name) -> Result<(), NoMemory>

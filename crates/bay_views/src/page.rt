@@ -56,10 +56,10 @@ fn write_step(out: &mut Bytes, i: u64, word: &[u8]) -> Result<(), NoMemory>
 fn write_previous(out: &mut Bytes, i: u64) -> Result<(), NoMemory>
     ensures { OnOk result (out.new ≡ out.old ++ when (nat_lt 0 i) (step (i - 1) (codes "&lt; Previous"))) }
 {
-    if i == 0 {
-        return Ok(());
+    if i > 0 {
+        return write_step(out, i - 1, b"&lt; Previous");
     }
-    write_step(out, i - 1, b"&lt; Previous")
+    Ok(())
 }
 
 fn write_next(out: &mut Bytes, i: u64, many: u64) -> Result<(), NoMemory>
@@ -86,6 +86,15 @@ fn write_section(out: &mut Bytes, i: u64, many: u64, name: &str) -> Result<(), N
     write_links(out, name)
 }
 
+fn write_section_of(out: &mut Bytes, names: &WordList, i: usize) -> Result<(), NoMemory>
+    requires { i < length names.now }
+    ensures { OnOk result (out.new ≡ out.old ++ section_of names.now i) }
+{
+    let name = names.at(i).as_str();
+    let many = names.len() as u64;
+    write_section(out, i as u64, many, name)
+}
+
 fn write_links(out: &mut Bytes, name: &str) -> Result<(), NoMemory>
     ensures { OnOk result (out.new ≡ out.old ++ links name.now) }
 {
@@ -106,19 +115,14 @@ fn page_front() -> &'static [u8]
 
 /// The page of these files, of which each has its picture beside it under its name and `.svg`: a section
 /// for each with its picture, and plain links to the one before and the one behind.
-#[tactic(auto, using(crate::proofs::Uptos::uptos))]
+#[tactic(auto, using(crate::proofs::Uptos::upto_more))]
 pub fn index_page(alloc: Global, names: &WordList) -> Result<Bytes, NoMemory>
     ensures { IfOk result (λ text. text ≡ index_page names.now) }
 {
     let mut out = Bytes::new(alloc);
     write_raw(&mut out, page_front())?;
     for i in 0..names.len() {
-        write_section(
-            &mut out,
-            i as u64,
-            names.len() as u64,
-            names.at(i).as_str(),
-        )?;
+        write_section_of(&mut out, names, i)?;
     }
     write_raw(&mut out, b"</body></html>\n")?;
     Ok(out)

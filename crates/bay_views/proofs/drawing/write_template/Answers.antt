@@ -1,0 +1,12 @@
+use Rattle.std.proofs.Common.{append_assoc}
+use Rattle.bay_views.proofs.drawing.write_template.Goals as goal
+
+pub returns : goal.returns
+returns c =
+    let e0 = c.in_ok-write_raw.ensures in
+    let e1 = c.in_ok-write_ground.ensures in
+    let e2 = c.in_ok-write_rows.ensures in
+    let e3 = c.in_ok-write_low_rows.ensures in
+    let e4 = c.in_ok-write_deck_tiers.ensures in
+    let e5 = c.in_ok-write_hold_tiers.ensures in
+    simp append_assoc (simp append_assoc at (rw (e5, e4, e3, e2, e1, e0) at c.write_raw-2.ensures))

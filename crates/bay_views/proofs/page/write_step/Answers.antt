@@ -1,0 +1,9 @@
+use Rattle.std.proofs.Common.{append_assoc}
+use Rattle.bay_views.proofs.page.write_step.Goals as goal
+
+pub returns : goal.returns
+returns c =
+    let e0 = c.in_ok-put.ensures in
+    let e1 = c.in_ok-write_raw.ensures in
+    let e2 = c.in_ok-write_raw-2.ensures in
+    simp append_assoc (simp append_assoc at (rw (e2, e1, e0) at c.write_raw-3.ensures))
