@@ -16,7 +16,7 @@ use Rattle.bay_views.specs.Marks.{raw, label, rect, swatch, shape_text}
 
 -- ## The legend
 
-abbrev pub totals : ℕ → ℕ → List ℕ
+unfoldable pub totals : ℕ → ℕ → List ℕ
 totals containers kg = label 14 24 (codes "h") ++ decimal containers ++ raw (codes " containers, ") ++ decimal kg ++ raw (codes " kg</text>\n")
 
 abbrev pub entry_left : ℕ → ℕ
@@ -39,7 +39,7 @@ abbrev pub entry_in : List CellGroup → ℕ → Option (List ℕ) → List ℕ
 entry_in groups i None = []
 entry_in groups i (Some port) = entry i port (count_by (is_for port) groups) (sum_by (kg_for port) groups)
 
-abbrev pub entry_of : List (List ℕ) → List CellGroup → ℕ → List ℕ
+unfoldable pub entry_of : List (List ℕ) → List CellGroup → ℕ → List ℕ
 entry_of ports groups i = entry_in groups i (slice_get ports i)
 
 abbrev pub legend : List (List ℕ) → List CellGroup → List ℕ
@@ -53,7 +53,7 @@ two_digits n = digit (n / 10) ∷ digit n ∷ []
 abbrev pub row_label : Frame → ℕ → ℕ → List ℕ
 row_label f base n = label (62 + 56 * n) base (codes "n") ++ two_digits (row_of f n) ++ raw (codes "</text>")
 
-abbrev pub row_labels : Frame → ℕ → List ℕ
+unfoldable pub row_labels : Frame → ℕ → List ℕ
 row_labels f base = upto (row_label f base) (columns f)
 
 abbrev pub tier_label : Frame → ℕ → ℕ → List ℕ
@@ -63,22 +63,22 @@ abbrev pub tier_labels : Frame → ℕ → ℕ → List ℕ
 tier_labels f low height = upto (tier_label f low) (height / 24)
 
 -- the deck, the hatch line and the hold
-abbrev pub area : ℕ → ℕ → ℕ → List ℕ → List ℕ
+unfoldable pub area : ℕ → ℕ → ℕ → List ℕ → List ℕ
 area top width height class = rect 34 top width height ++ raw class
 
 abbrev pub areas : ℕ → ℕ → ℕ → ℕ → List ℕ
 areas width deck begin hold = area 40 width deck (codes "k'/>") ++ area (deck + 42) width 4 (codes "x'/>") ++ area begin width hold (codes "w'/>")
 
-abbrev pub ground : Frame → List ℕ
+unfoldable pub ground : Frame → List ℕ
 ground f = areas (56 * columns f) (deck_height f) (hold_begin f) (hold_height f)
 
-abbrev pub low_rows : Frame → List ℕ
+unfoldable pub low_rows : Frame → List ℕ
 low_rows f = row_labels f (hold_begin f + hold_height f + 14)
 
-abbrev pub deck_tiers : Frame → List ℕ
+unfoldable pub deck_tiers : Frame → List ℕ
 deck_tiers f = tier_labels f f.deck_low (deck_height f)
 
-abbrev pub hold_tiers : Frame → List ℕ
+unfoldable pub hold_tiers : Frame → List ℕ
 hold_tiers f = tier_labels f f.hold_low (hold_height f)
 
 abbrev pub template : Frame → List ℕ
@@ -128,8 +128,11 @@ abbrev pub front : ℕ → ℕ → List ℕ
 front width height = opening width height ++ raw texts ++ raw boxes ++ raw colours ++ raw pattern ++ raw key
 
 -- the shape of each cell group, in their order
+unfoldable pub drawn : Sheet → List (List ℕ) → CellGroup → List ℕ
+drawn s ports g = shape_text (shape_of s ports g)
+
 abbrev pub body : Sheet → List (List ℕ) → List CellGroup → List ℕ
-body s ports groups = flat_map (λ g. shape_text (shape_of s ports g)) groups
+body s ports groups = flat_map (λ g. drawn s ports g) groups
 
 abbrev pub drawing : Sheet → List (List ℕ) → List CellGroup → List ℕ
 drawing s ports groups = front (sheet_width s) (sheet_height s) ++ legend ports groups ++ template s.frame ++ bays s ++ body s ports groups ++ raw (codes "</svg>\n")

@@ -23,7 +23,7 @@ rect left top width height =
     raw (codes "<rect x='") ++ decimal left ++ raw (codes "' y='") ++ decimal top ++ raw (codes "' width='") ++ decimal width ++ raw (codes "' height='") ++ decimal height ++ raw (codes "' class='")
 
 -- a rectangle in the colour of a port; of fourteen ports the second seven have stripes over it
-abbrev pub swatch : ℕ → ℕ → ℕ → ℕ → ℕ → List ℕ
+unfoldable pub swatch : ℕ → ℕ → ℕ → ℕ → ℕ → List ℕ
 swatch left top width height port =
     rect left top width height ++ raw (codes "p") ++ decimal (port % 7) ++ raw (codes "'/>") ++ when (nat_le 7 (port % 14)) (rect left top width height ++ raw (codes "z'/>"))
 
@@ -33,7 +33,7 @@ label left base class = raw (codes "<text x='") ++ decimal left ++ raw (codes "'
 
 -- ## Of a container
 
-abbrev pub classes : Facts → List ℕ
+unfoldable pub classes : Facts → List ℕ
 classes f = only_if f.empty (codes "e ") ++ only_if f.reefer (codes "r ") ++ only_if (is_some f.class) (codes "d ")
 
 abbrev pub class_text : Option (List ℕ) → List ℕ
@@ -47,15 +47,15 @@ abbrev pub told : Facts → List ℕ
 told f = only_if f.reefer (codes ", reefer") ++ only_if f.empty (codes ", empty") ++ only_if (is_some f.class) (codes ", class ") ++ class_text f.class
 
 -- what hovering shows: the cell, the id, the length, the port of discharge, the kilograms and what else is told
-abbrev pub title : Cell → Facts → List ℕ
+unfoldable pub title : Cell → Facts → List ℕ
 title cell f = cell.number ++ raw (codes " ") ++ escaped f.id ++ length_text f.long ++ escaped f.dest ++ weight f ++ told f
 
 -- the last three characters of the port, in the middle of the cell
-abbrev pub letters : Cell → List ℕ → List ℕ
+unfoldable pub letters : Cell → List ℕ → List ℕ
 letters cell dest = label (cell.left + cell.width / 2) (cell.top + 20) (codes "t") ++ escaped (drop (length dest - 3) dest) ++ raw (codes "</text>")
 
 -- R for a reefer, E for an empty container, and the class of dangerous goods
-abbrev pub marks : Cell → Facts → List ℕ
+unfoldable pub marks : Cell → Facts → List ℕ
 marks cell f = label (cell.left + 2) (cell.top + 9) (codes "m") ++ only_if f.reefer (codes "R ") ++ only_if f.empty (codes "E ") ++ class_text f.class ++ raw (codes "</text>")
 
 abbrev pub filled_text : Cell → ℕ → Facts → List ℕ

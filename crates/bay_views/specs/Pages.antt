@@ -24,25 +24,36 @@ reference name = flat_map percent name
 -- ## The page
 
 -- a step to another section
-abbrev pub step : ℕ → List ℕ → List ℕ
+unfoldable pub step : ℕ → List ℕ → List ℕ
 step i word = raw (codes "<a href='#c") ++ decimal i ++ raw (codes "'>") ++ raw word ++ raw (codes "</a> ")
 
 -- the picture alone, and the picture
-abbrev pub links : List ℕ → List ℕ
+unfoldable pub links : List ℕ → List ℕ
 links name =
     raw (codes "<a href='") ++ reference name ++ raw (codes ".svg'>") ++ escaped_text name ++ raw (codes "</a></p>\n<object type='image/svg+xml' data='") ++ reference name ++ raw (codes ".svg'></object></section>\n")
+
+unfoldable pub section_front : ℕ → List ℕ
+section_front i = raw (codes "<section id='c") ++ decimal i ++ raw (codes "'><p>")
+
+unfoldable pub previous : ℕ → List ℕ
+previous i = when (nat_lt 0 i) (step (i - 1) (codes "&lt; Previous"))
+
+unfoldable pub counted : ℕ → ℕ → List ℕ
+counted i many = raw (codes "<b>") ++ decimal (i + 1) ++ raw (codes " of ") ++ decimal many ++ raw (codes "</b> ")
+
+unfoldable pub next : ℕ → ℕ → List ℕ
+next i many = when (nat_lt (i + 1) many) (step (i + 1) (codes "Next &gt;"))
 
 -- a section: its number, its name, the steps to the one before and the one behind, and the picture
 abbrev pub section : ℕ → ℕ → List ℕ → List ℕ
 section i many name =
-    raw (codes "<section id='c") ++ decimal i ++ raw (codes "'><p>") ++ when (nat_lt 0 i) (step (i - 1) (codes "&lt; Previous")) ++ raw (codes "<b>") ++ decimal (i + 1) ++ raw (codes " of ") ++ decimal many ++ raw (codes "</b> ")
-    ++ when (nat_lt (i + 1) many) (step (i + 1) (codes "Next &gt;")) ++ links name
+    section_front i ++ previous i ++ counted i many ++ next i many ++ links name
 
 abbrev pub section_in : ℕ → ℕ → Option (List ℕ) → List ℕ
 section_in i many None = []
 section_in i many (Some name) = section i many name
 
-abbrev pub section_of : List (List ℕ) → ℕ → List ℕ
+unfoldable pub section_of : List (List ℕ) → ℕ → List ℕ
 section_of names i = section_in i (length names) (slice_get names i)
 
 abbrev pub page_front : List ℕ

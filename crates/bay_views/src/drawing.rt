@@ -3,9 +3,7 @@ ghost use Rattle.std.specs.Prelude.{◌≡◌, ◌<◌, ◌≤◌, ◌^◌, ◌+
 ghost use Rattle.stow_report.specs.Listings.{IsCell, AreListable, digit};
 ghost use Rattle.bay_views.specs.Frames.{IsFrame, columns};
 ghost use Rattle.bay_views.specs.Sheets.{IsSheet, sheet_width, sheet_height};
-ghost use Rattle.bay_views.specs.Cells.{shape_of};
-ghost use Rattle.bay_views.specs.Marks.{shape_text};
-ghost use Rattle.bay_views.specs.Drawings.{two_digits, row_label, row_labels, tier_label, tier_labels, low_rows, deck_tiers, hold_tiers, area, areas, ground, template, bay_digits, use_at, bay, bay_of, bays, opening, texts, boxes, colours, pattern, key, front, body, drawing, picture};
+ghost use Rattle.bay_views.specs.Drawings.{two_digits, row_label, row_labels, tier_label, tier_labels, low_rows, deck_tiers, hold_tiers, area, areas, ground, template, bay_digits, use_at, bay, bay_of, bays, opening, texts, boxes, colours, pattern, key, front, drawn, body, drawing, picture};
 
 use crate::cells::cell_of;
 use crate::frames::Frame;
@@ -51,6 +49,7 @@ fn write_body(
     Ok(())
 }
 
+#[tactic(auto, unfolding(crate::specs::Drawings::drawn))]
 fn write_shape(
     out: &mut Bytes,
     sheet: &Sheet,
@@ -59,7 +58,7 @@ fn write_shape(
 ) -> Result<(), NoMemory>
     requires sheet { IsSheet sheet.now }
     requires cell { IsCell group.now }
-    ensures { OnOk result (out.new ≡ out.old ++ shape_text (shape_of sheet.now ports.now group.now)) }
+    ensures { OnOk result (out.new ≡ out.old ++ drawn sheet.now ports.now group.now) }
 {
     let cell = cell_of(sheet, group);
     match &group.facts {
@@ -141,7 +140,7 @@ fn write_row(out: &mut Bytes, frame: &Frame, base: u64, n: u32) -> Result<(), No
     write_raw(out, b"</text>")
 }
 
-#[tactic(auto, using(crate::proofs::Uptos::upto_more))]
+#[tactic(auto, using(crate::proofs::Uptos::upto_more), unfolding(crate::specs::Drawings::row_labels))]
 fn write_rows(out: &mut Bytes, frame: &Frame, base: u64) -> Result<(), NoMemory>
     requires { IsFrame frame.now }
     ensures { OnOk result (out.new ≡ out.old ++ row_labels frame.now base) }
@@ -177,36 +176,33 @@ fn write_tiers(out: &mut Bytes, frame: &Frame, low: u32, height: u32) -> Result<
     Ok(())
 }
 
+#[tactic(auto, unfolding(crate::specs::Drawings::ground))]
 fn write_ground(out: &mut Bytes, frame: &Frame) -> Result<(), NoMemory>
     requires { IsFrame frame.now }
     ensures { OnOk result (out.new ≡ out.old ++ ground frame.now) }
 {
-    let width = 56 * frame.columns();
-    write_areas(
-        out,
-        width,
-        frame.deck_height(),
-        frame.hold_begin(),
-        frame.hold_height(),
-    )
+    let width = 56 * u64::from(frame.columns());
+    let deck = u64::from(frame.deck_height());
+    let begin = u64::from(frame.hold_begin());
+    write_areas(out, width, deck, begin, u64::from(frame.hold_height()))
 }
 
 fn write_areas(
     out: &mut Bytes,
-    width: u32,
-    deck: u32,
-    begin: u32,
-    hold: u32,
+    width: u64,
+    deck: u64,
+    begin: u64,
+    hold: u64,
 ) -> Result<(), NoMemory>
     requires { deck ≤ 264 }
     ensures { OnOk result (out.new ≡ out.old ++ areas width deck begin hold) }
 {
-    let width = u64::from(width);
-    write_area(out, 40, width, u64::from(deck), b"k'/>")?;
-    write_area(out, u64::from(deck + 42), width, 4, b"x'/>")?;
-    write_area(out, u64::from(begin), width, u64::from(hold), b"w'/>")
+    write_area(out, 40, width, deck, b"k'/>")?;
+    write_area(out, deck + 42, width, 4, b"x'/>")?;
+    write_area(out, begin, width, hold, b"w'/>")
 }
 
+#[tactic(auto, unfolding(crate::specs::Drawings::area))]
 fn write_area(
     out: &mut Bytes,
     top: u64,
@@ -235,6 +231,7 @@ fn write_template(out: &mut Bytes, frame: &Frame) -> Result<(), NoMemory>
 }
 
 /// Appends the row numbers below the hold.
+#[tactic(auto, unfolding(crate::specs::Drawings::low_rows))]
 fn write_low_rows(out: &mut Bytes, frame: &Frame) -> Result<(), NoMemory>
     requires { IsFrame frame.now }
     ensures { OnOk result (out.new ≡ out.old ++ low_rows frame.now) }
@@ -243,6 +240,7 @@ fn write_low_rows(out: &mut Bytes, frame: &Frame) -> Result<(), NoMemory>
     write_rows(out, frame, u64::from(end))
 }
 
+#[tactic(auto, unfolding(crate::specs::Drawings::deck_tiers))]
 fn write_deck_tiers(out: &mut Bytes, frame: &Frame) -> Result<(), NoMemory>
     requires { IsFrame frame.now }
     ensures { OnOk result (out.new ≡ out.old ++ deck_tiers frame.now) }
@@ -250,6 +248,7 @@ fn write_deck_tiers(out: &mut Bytes, frame: &Frame) -> Result<(), NoMemory>
     write_tiers(out, frame, frame.deck_low, frame.deck_height())
 }
 
+#[tactic(auto, unfolding(crate::specs::Drawings::hold_tiers))]
 fn write_hold_tiers(out: &mut Bytes, frame: &Frame) -> Result<(), NoMemory>
     requires { IsFrame frame.now }
     ensures { OnOk result (out.new ≡ out.old ++ hold_tiers frame.now) }

@@ -82,6 +82,7 @@ fn write_stripes(
 }
 
 /// Appends a rectangle in the colour of a port.
+#[tactic(auto, unfolding(crate::specs::Marks::swatch))]
 pub(crate) fn write_swatch(
     out: &mut Bytes,
     left: u64,
@@ -114,6 +115,7 @@ pub(crate) fn write_label(
     write_raw(out, b"'>")
 }
 
+#[tactic(auto, unfolding(crate::specs::Marks::classes))]
 fn write_classes(out: &mut Bytes, facts: &Facts) -> Result<(), NoMemory>
     ensures { OnOk result (out.new ≡ out.old ++ classes facts.now) }
 {
@@ -181,6 +183,7 @@ fn write_title(out: &mut Bytes, cell: &Cell, facts: &Facts) -> Result<(), NoMemo
     write_told(out, facts)
 }
 
+#[tactic(auto, unfolding(crate::specs::Marks::letters))]
 fn write_letters(out: &mut Bytes, cell: &Cell, dest: &Name) -> Result<(), NoMemory>
     requires left { cell.now.left < 2 ^ 33 }
     requires top { cell.now.top < 2 ^ 42 }
@@ -193,6 +196,7 @@ fn write_letters(out: &mut Bytes, cell: &Cell, dest: &Name) -> Result<(), NoMemo
     write_raw(out, b"</text>")
 }
 
+#[tactic(auto, unfolding(crate::specs::Marks::marks))]
 fn write_marks(out: &mut Bytes, cell: &Cell, facts: &Facts) -> Result<(), NoMemory>
     requires left { cell.now.left < 2 ^ 33 }
     requires top { cell.now.top < 2 ^ 42 }

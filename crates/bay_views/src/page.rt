@@ -1,7 +1,6 @@
 //! The page that steps through several pictures.
-ghost use Rattle.std.specs.Prelude.{◌≡◌, ◌<◌, ◌≤◌, ◌+◌, ◌-◌, ◌++◌, nat_lt, codes, length, IfOk, OnOk};
-ghost use Rattle.bay_views.specs.Marks.{when};
-ghost use Rattle.bay_views.specs.Pages.{is_unreserved, hex_digit, percent, reference, step, links, section, section_of, page_front, index_page};
+ghost use Rattle.std.specs.Prelude.{◌≡◌, ◌<◌, ◌≤◌, ◌+◌, ◌++◌, length, IfOk, OnOk};
+ghost use Rattle.bay_views.specs.Pages.{is_unreserved, hex_digit, percent, reference, step, section_front, previous, counted, next, links, section, section_of, page_front, index_page};
 
 use crate::escaping::escape_text;
 use crate::marks::{put, write_raw};
@@ -53,8 +52,9 @@ fn write_step(out: &mut Bytes, i: u64, word: &[u8]) -> Result<(), NoMemory>
     write_raw(out, b"</a> ")
 }
 
+#[tactic(auto, unfolding(crate::specs::Pages::previous))]
 fn write_previous(out: &mut Bytes, i: u64) -> Result<(), NoMemory>
-    ensures { OnOk result (out.new ≡ out.old ++ when (nat_lt 0 i) (step (i - 1) (codes "&lt; Previous"))) }
+    ensures { OnOk result (out.new ≡ out.old ++ previous i) }
 {
     if i > 0 {
         return write_step(out, i - 1, b"&lt; Previous");
@@ -62,9 +62,10 @@ fn write_previous(out: &mut Bytes, i: u64) -> Result<(), NoMemory>
     Ok(())
 }
 
+#[tactic(auto, unfolding(crate::specs::Pages::next))]
 fn write_next(out: &mut Bytes, i: u64, many: u64) -> Result<(), NoMemory>
     requires { i < many }
-    ensures { OnOk result (out.new ≡ out.old ++ when (nat_lt (i + 1) many) (step (i + 1) (codes "Next &gt;"))) }
+    ensures { OnOk result (out.new ≡ out.old ++ next i many) }
 {
     if i + 1 >= many {
         return Ok(());
@@ -76,14 +77,29 @@ fn write_section(out: &mut Bytes, i: u64, many: u64, name: &str) -> Result<(), N
     requires { i < many }
     ensures { OnOk result (out.new ≡ out.old ++ section i many name.now) }
 {
-    put(out, b"<section id='c", i)?;
-    write_raw(out, b"'><p>")?;
+    write_section_front(out, i)?;
     write_previous(out, i)?;
-    put(out, b"<b>", i + 1)?;
-    put(out, b" of ", many)?;
-    write_raw(out, b"</b> ")?;
+    write_counted(out, i, many)?;
     write_next(out, i, many)?;
     write_links(out, name)
+}
+
+#[tactic(auto, unfolding(crate::specs::Pages::section_front))]
+fn write_section_front(out: &mut Bytes, i: u64) -> Result<(), NoMemory>
+    ensures { OnOk result (out.new ≡ out.old ++ section_front i) }
+{
+    put(out, b"<section id='c", i)?;
+    write_raw(out, b"'><p>")
+}
+
+#[tactic(auto, unfolding(crate::specs::Pages::counted))]
+fn write_counted(out: &mut Bytes, i: u64, many: u64) -> Result<(), NoMemory>
+    requires { i < many }
+    ensures { OnOk result (out.new ≡ out.old ++ counted i many) }
+{
+    put(out, b"<b>", i + 1)?;
+    put(out, b" of ", many)?;
+    write_raw(out, b"</b> ")
 }
 
 fn write_section_of(out: &mut Bytes, names: &WordList, i: usize) -> Result<(), NoMemory>

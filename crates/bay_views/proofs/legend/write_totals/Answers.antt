@@ -1,7 +1,9 @@
 use Rattle.std.proofs.Common.{append_assoc}
+use Rattle.bay_views.specs.Drawings.{totals}
 use Rattle.bay_views.proofs.legend.write_totals.Goals as goal
 
 pub returns : goal.returns
+unfolding totals
 returns c =
     let e0 = c.in_ok-write_label.ensures in
     let e1 = c.in_ok-write_number.ensures in

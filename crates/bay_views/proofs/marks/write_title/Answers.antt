@@ -1,7 +1,9 @@
 use Rattle.std.proofs.Common.{append_assoc}
+use Rattle.bay_views.specs.Marks.{title}
 use Rattle.bay_views.proofs.marks.write_title.Goals as goal
 
 pub returns : goal.returns
+unfolding title
 returns c =
     let e0 = c.in_ok-write_cell_number.ensures in
     let e1 = c.in_ok-write_raw.ensures in

@@ -1,7 +1,9 @@
 use Rattle.std.proofs.Common.{append_assoc}
+use Rattle.bay_views.specs.Pages.{links}
 use Rattle.bay_views.proofs.page.write_links.Goals as goal
 
 pub returns : goal.returns
+unfolding links
 returns c =
     let e0 = c.in_ok-write_raw.ensures in
     let e1 = c.in_ok-write_reference.ensures in

@@ -1,7 +1,9 @@
 use Rattle.std.proofs.Common.{append_assoc}
+use Rattle.bay_views.specs.Pages.{step}
 use Rattle.bay_views.proofs.page.write_step.Goals as goal
 
 pub returns : goal.returns
+unfolding step
 returns c =
     let e0 = c.in_ok-put.ensures in
     let e1 = c.in_ok-write_raw.ensures in
