@@ -8,7 +8,9 @@ ghost use Rattle.bay_views.specs.Drawings.{two_digits, row_label, row_labels, ti
 use crate::cells::cell_of;
 use crate::frames::Frame;
 use crate::legend::{number_of, write_legend};
-use crate::marks::{put, write_filled, write_label, write_number, write_raw, write_rect, write_vacant};
+use crate::marks::{
+    put, write_filled, write_label, write_number, write_raw, write_rect, write_vacant,
+};
 use crate::sheets::{Sheet, sheet_of};
 use baplie_model::CellGroup;
 use std::alloc::Global;

@@ -27,11 +27,7 @@ pub struct Sheet {
 }
 
 /// The sheet of these cells, below a legend of so many ports.
-pub(crate) fn sheet_of(
-    alloc: Global,
-    ports: usize,
-    groups: &[CellGroup],
-) -> Result<Sheet, NoMemory>
+pub(crate) fn sheet_of(alloc: Global, ports: usize, groups: &[CellGroup]) -> Result<Sheet, NoMemory>
     requires { All IsCell groups.now }
     ensures value { IfOk result (λ s. s ≡ sheet_of ports groups.now) }
     ensures bounded { IfOk result IsSheet }

@@ -63,7 +63,8 @@ fn escapes_texts(rt: HostRuntime) -> Result<(), Fail> {
 #[test]
 fn draws_cells(rt: HostRuntime) -> Result<(), Fail> {
     let text = drawn(rt.alloc())?;
-    let title: &[u8] = b"<title>0020102 A&lt;B1 40 DE&gt;AM 22000 kg, reefer, empty, class 3&amp;&quot;</title>";
+    let title: &[u8] =
+        b"<title>0020102 A&lt;B1 40 DE&gt;AM 22000 kg, reefer, empty, class 3&amp;&quot;</title>";
     assert_eq!(rt; has(&text, title), true);
     assert_eq!(rt; has(&text, b"<title>0030182 empty</title>"), true);
     assert_eq!(rt; has(&text, b">1 containers, 22000 kg</text>"), true);
@@ -85,7 +86,10 @@ fn steps_through_pictures(rt: HostRuntime) -> Result<(), Fail> {
     names.push(Word::of(alloc, "a b<.edi")?)?;
     names.push(Word::of(alloc, "c.edi")?)?;
     let page = index_page(alloc, &names)?;
-    assert_eq!(rt; has(&page, b"<a href='a%20b%3C.edi.svg'>a b&lt;.edi</a>"), true);
+    assert_eq!(rt;
+        has(&page, b"<a href='a%20b%3C.edi.svg'>a b&lt;.edi</a>"),
+        true
+    );
     assert_eq!(rt; has(&page, b"<a href='#c1'>Next &gt;</a>"), true);
     assert_eq!(rt; has(&page, b"<a href='#c0'>&lt; Previous</a>"), true);
     Ok(())

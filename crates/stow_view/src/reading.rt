@@ -50,7 +50,7 @@ pub enum Told {
 }
 
 /// What a text tells.
-fn told(alloc: Global, bytes: &[u8]) -> Result<Told, NoMemory>
+fn told_by(alloc: Global, bytes: &[u8]) -> Result<Told, NoMemory>
     requires { length bytes.now ≤ 2 ^ 29 }
     ensures { IfOk result (TellsOf bytes.now) }
 {
@@ -78,7 +78,7 @@ fn read_view<'a, F: Folder>(
         Err(FolderNo::Failed) => return Err(Stop::Failed(name)),
         Err(FolderNo::NoMemory) => return Err(Stop::NoMemory),
     };
-    match told(alloc, bytes.as_slice()) {
+    match told_by(alloc, bytes.as_slice()) {
         Ok(Told::Message(message)) => match Word::of(alloc, name) {
             Ok(name) => Ok(View { name, message }),
             Err(NoMemory) => Err(Stop::NoMemory),
