@@ -62,11 +62,7 @@ fn told_by(alloc: Global, bytes: &[u8]) -> Result<Told, NoMemory>
 }
 
 /// The bay plan of a file.
-fn read_view<'a, F: Folder>(
-    alloc: Global,
-    folder: &mut F,
-    name: &'a str,
-) -> Result<View, Stop<'a>>
+fn read_view<'a, F: Folder>(alloc: Global, folder: &mut F, name: &'a str) -> Result<View, Stop<'a>>
     ensures stays { F.files folder.new ≡ F.files folder.old }
     ensures named { IfOk result (λ v. v.name ≡ name.now) }
     ensures gives { IfOk result (IsViewOf (F.files folder.old)) }

@@ -6,7 +6,8 @@ use std::test::Fail;
 use stow_data::{NoMemory, NumberList, Word, WordList};
 use stow_io::{MemFolder, MemSink};
 
-const PLAN: &str = "UNB+UNOA:2+LINE+SHIP+260131:0900+77'UNH+1+BAPLIE:D:95B:UN:SMDG22'LOC+147+0020102::5'MEA+WT++KGM:18400'LOC+11+SEGOT:139:6'EQD+CN+ABCU7654321+42G1+++5'UNT+6+1'UNZ+1+77'";
+const PLAN: &str =
+    "UNB+UNOA:2+LINE+SHIP+260131:0900+77'UNH+1+BAPLIE:D:95B:UN:SMDG22'LOC+147+0020102::5'MEA+WT++KGM:18400'LOC+11+SEGOT:139:6'EQD+CN+ABCU7654321+42G1+++5'UNT+6+1'UNZ+1+77'";
 
 fn words_of(alloc: Global, first: &str, second: &str) -> Result<WordList, NoMemory> {
     let mut words = WordList::new(alloc);

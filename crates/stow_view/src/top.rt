@@ -13,11 +13,7 @@ use stow_data::{NoMemory, Word, WordList};
 use stow_io::{Folder, Sink};
 
 /// What is written and printed for the files of these names, all of which are read first.
-fn answer<'a, F: Folder>(
-    alloc: Global,
-    folder: &mut F,
-    names: &'a [Word],
-) -> Result<Work, Stop<'a>>
+fn answer<'a, F: Folder>(alloc: Global, folder: &mut F, names: &'a [Word]) -> Result<Work, Stop<'a>>
     ensures stays { F.files folder.new ≡ F.files folder.old }
     ensures answered { IsAnswer (F.files folder.old) (Rose (F.faults folder.old) (F.faults folder.new)) names.now result }
     ensures later { F.faults folder.old ≤ F.faults folder.new }
