@@ -91,21 +91,11 @@ fn cell_group(
             empty: booking.empty,
             kg: container.kg,
             reefer: booking.temperature.is_some(),
-            class: class_of(booking),
+            class: Name::copied(&booking.class),
             dest: port_of(cargo, container.dest.0),
         }),
         segments: group_segments(alloc, ship, cargo, booking, p, container)?,
     })
-}
-
-/// The class of a booking's dangerous goods.
-fn class_of(booking: &Booking) -> Option<Name>
-    ensures { result ≡ booking.now.class }
-{
-    match &booking.class {
-        Some(class) => Some(class.copy()),
-        None => None,
-    }
 }
 
 /// The segments of a container of this booking in its cell.
