@@ -20,14 +20,14 @@ work_of_plans-requires-clause-plans c =
     let plans : load c.args.v.now.ship c.args.v.now.cargo ≡ Some c.in-Some.plans = sym c.in_ok-load.ensures.rule ∙ c.in-Some.is in
     subst (ArePlans c.args.v.now) (sym c.as_slice.ensures) (are_plans c.args.v.now c.in-Some.plans c.requires plans)
 
-pub returns-clause-work : goal.returns-clause-work
-returns-clause-work c =
+pub returns-in_ok-work_of_plans-in-Some-clause-work : goal.returns-in_ok-work_of_plans-in-Some-clause-work
+returns-in_ok-work_of_plans-in-Some-clause-work c =
     let plans : load c.args.v.now.ship c.args.v.now.cargo ≡ Some c.in-Some.plans = sym c.in_ok-load.ensures.rule ∙ c.in-Some.is in
-    ap (λ (w : Work). Some w) (c.in_ok-work_of_plans.ensures ∙ ap (work_of_plans c.args.base.now c.args.v.now) c.as_slice.ensures)
+    ap (λ (w : Work). Some w) (c.in_ok-work_of_plans-in-Some.ensures ∙ ap (work_of_plans c.args.base.now c.args.v.now) c.as_slice.ensures)
     ∙ sym (work_from c.args.base.now c.args.v.now c.in-Some.plans plans)
 
-pub returns-clause-sails : goal.returns-clause-sails
-returns-clause-sails c =
+pub returns-in_ok-work_of_plans-in-Some-clause-sails : goal.returns-in_ok-work_of_plans-in-Some-clause-sails
+returns-in_ok-work_of_plans-in-Some-clause-sails c =
     let plans : load c.args.v.now.ship c.args.v.now.cargo ≡ Some c.in-Some.plans = sym c.in_ok-load.ensures.rule ∙ c.in-Some.is in
-    subst (Sails c.args.base.now c.args.v.now) (sym (c.in_ok-work_of_plans.ensures ∙ ap (work_of_plans c.args.base.now c.args.v.now) c.as_slice.ensures))
+    subst (Sails c.args.base.now c.args.v.now) (sym (c.in_ok-work_of_plans-in-Some.ensures ∙ ap (work_of_plans c.args.base.now c.args.v.now) c.as_slice.ensures))
     (sails_from c.args.base.now c.args.v.now c.in-Some.plans c.requires plans)
