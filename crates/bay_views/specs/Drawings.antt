@@ -137,5 +137,5 @@ body s ports groups = flat_map (λ g. drawn s ports g) groups
 abbrev pub drawing : Sheet → List (List ℕ) → List CellGroup → List ℕ
 drawing s ports groups = front (sheet_width s) (sheet_height s) ++ legend ports groups ++ template s.frame ++ bays s ++ body s ports groups ++ raw (codes "</svg>\n")
 
-abbrev pub picture : List (List ℕ) → List CellGroup → List ℕ
+unfoldable pub picture : List (List ℕ) → List CellGroup → List ℕ
 picture ports groups = drawing (sheet_of (length ports) groups) ports groups

@@ -19,6 +19,7 @@ use stow_data::{Bytes, NameList, NoMemory};
 /// The picture of these cell groups: a legend of the ports with their counts, and the bays from fore to
 /// aft, with a shape for each cell. A port has the colour of its number among the ports; that of a
 /// container which goes to none of them is one of no port.
+#[tactic(auto, unfolding(crate::specs::Drawings::picture))]
 pub fn picture(alloc: Global, ports: &NameList, groups: &[CellGroup]) -> Result<Bytes, NoMemory>
     requires { AreListable groups.now }
     ensures { IfOk result (λ text. text ≡ picture ports.now groups.now) }
