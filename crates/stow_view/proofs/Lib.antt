@@ -1,2 +1,4 @@
+pub mod PicturesAndPage
+pub mod ReadViews
 pub mod Steps
 pub mod Texts

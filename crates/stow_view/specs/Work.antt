@@ -32,9 +32,13 @@ report_of files = flat_map line_of files
 abbrev pub pages_for : ℕ → ℕ
 pages_for pictures = if nat_lt 1 pictures then 1 else 0
 
+-- these files, then the page where there are several pictures
+pub record HasPages (views : List View) (before now : List NamedFile) : Type 0 where
+  pub pages : List NamedFile
+  pub files : now ≡ before ++ pages
+  pub one_page : length pages ≡ pages_for (length views)
+
 -- the pictures, then the page, and a line for each of them
 pub record IsWorkOf (views : List View) (work : Work) : Type 0 where
-  pub pages : List NamedFile
-  pub files : work.files ≡ files_of (ports_of views) views ++ pages
-  pub one_page : length pages ≡ pages_for (length views)
+  pub files : HasPages views (files_of (ports_of views) views) work.files
   pub report : work.report ≡ report_of work.files

@@ -62,6 +62,7 @@ fn told_by(alloc: Global, bytes: &[u8]) -> Result<Told, NoMemory>
 }
 
 /// The bay plan of a file.
+#[tactic(auto, using(crate::proofs::ReadViews::view_of))]
 fn read_view<'a, F: Folder>(alloc: Global, folder: &mut F, name: &'a str) -> Result<View, Stop<'a>>
     ensures stays { F.files folder.new ≡ F.files folder.old }
     ensures named { IfOk result (λ v. v.name ≡ name.now) }
@@ -99,8 +100,9 @@ pub fn read_views<'a, F: Folder>(
     let mut views = ViewList::new(alloc);
     for name in names {
         let view = read_view(alloc, folder, name.as_str())?;
-        if views.push(view).is_err() {
-            return Err(Stop::NoMemory);
+        match views.push(view) {
+            Ok(()) => {}
+            Err(NoMemory) => return Err(Stop::NoMemory),
         }
     }
     Ok(views)

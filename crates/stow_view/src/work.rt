@@ -1,7 +1,7 @@
 //! What is written and printed for the bay plans.
 ghost use Rattle.std.specs.Prelude.{◌≡◌, ◌++◌, [], map, flat_map, All, IfOk, OnOk};
 ghost use Rattle.stow_report.specs.Listings.{AreListable};
-ghost use Rattle.stow_view.specs.Work.{ports_of, file_of, files_of, line_of, report_of, IsWorkOf, AreDrawable};
+ghost use Rattle.stow_view.specs.Work.{ports_of, file_of, files_of, line_of, report_of, HasPages, IsWorkOf, AreDrawable};
 
 use crate::naming::{base_of, page_name, picture_name};
 use crate::reading::{View, ViewList};
@@ -62,6 +62,17 @@ fn page_of(alloc: Global, first: &str, views: &[View]) -> Result<NamedFile, NoMe
     })
 }
 
+/// The page behind the pictures, where there are several.
+#[tactic(auto, using(crate::proofs::PicturesAndPage::with_page, crate::proofs::PicturesAndPage::without_page))]
+fn add_page(alloc: Global, files: &mut FileList, views: &[View]) -> Result<(), NoMemory>
+    ensures { OnOk result (HasPages views.now files.old files.new) }
+{
+    match views {
+        [first, _, ..] => files.push(page_of(alloc, first.name.as_str(), views)?),
+        _ => Ok(()),
+    }
+}
+
 /// A line for each file.
 fn report_of(alloc: Global, files: &FileList) -> Result<Bytes, NoMemory>
     ensures { IfOk result (λ text. text ≡ report_of files.now) }
@@ -88,9 +99,7 @@ pub fn work_of(alloc: Global, views: &ViewList) -> Result<Work, NoMemory>
 {
     let ports = ports_of(alloc, views.as_slice())?;
     let mut files = files_of(alloc, &ports, views.as_slice())?;
-    if let [first, _, ..] = views.as_slice() {
-        files.push(page_of(alloc, first.name.as_str(), views.as_slice())?)?;
-    }
+    add_page(alloc, &mut files, views.as_slice())?;
     let report = report_of(alloc, &files)?;
     Ok(Work { files, report })
 }
