@@ -21,7 +21,7 @@ fn folder_of(alloc: Global) -> Result<MemFolder, NoMemory> {
     let mut folder = MemFolder::new(alloc, NumberList::new(alloc));
     folder.lay("a/one.edi", PLAN.as_bytes())?;
     folder.lay("a/two.edi", PLAN.as_bytes())?;
-    folder.lay("a/bad.edi", b"x")?;
+    folder.lay("a/cut.edi", b"UNB")?;
     Ok(folder)
 }
 
@@ -43,13 +43,13 @@ fn draws_two_calls(rt: HostRuntime) -> Result<(), Fail> {
 }
 
 #[test]
-fn writes_nothing_for_a_bad_file(rt: HostRuntime) -> Result<(), Fail> {
+fn writes_nothing_for_a_cut_file(rt: HostRuntime) -> Result<(), Fail> {
     let alloc = rt.alloc();
     let mut folder = folder_of(alloc)?;
     let mut out = sink_of(alloc)?;
-    let words = words_of(alloc, "a/one.edi", "a/bad.edi")?;
+    let words = words_of(alloc, "a/one.edi", "a/cut.edi")?;
     assert_eq!(rt; view(alloc, &words, &mut folder, &mut out), Status::Input);
-    assert_eq!(rt; out.text().as_slice(), b"refused edifact 1\n".as_slice());
+    assert_eq!(rt; out.text().as_slice(), b"refused edifact 3 0\n".as_slice());
     assert_eq!(rt; folder.file("a/one.edi.svg").is_none(), true);
     Ok(())
 }
