@@ -1,4 +1,7 @@
 //! Each public call once.
+ghost use Rattle.std.specs.Prelude.{◌<◌};
+ghost use Rattle.stow_report.specs.Listings.{IsCell};
+
 use crate::{add_ports, escape, escape_text, index_page, picture};
 use baplie_model::{CellGroup, Facts};
 use edifact_segments::SegmentList;
@@ -16,7 +19,11 @@ fn has(text: &Bytes, part: &[u8]) -> bool {
     false
 }
 
-fn group(alloc: Global, bay: u32, tier: u32, facts: Option<Facts>) -> CellGroup {
+fn group(alloc: Global, bay: u32, tier: u32, facts: Option<Facts>) -> CellGroup
+    requires bay { bay < 1000 }
+    requires tier { tier < 100 }
+    ensures { IsCell result }
+{
     CellGroup {
         bay,
         row: 1,
