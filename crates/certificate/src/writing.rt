@@ -231,7 +231,7 @@ fn write_row(out: &mut Bytes, row: &Row) -> Result<(), NoMemory>
             chain,
         } => {
             write_family(out, b"cross", &[*length, *price])?;
-            write_family(out, b"", chain.numbers())
+            write_family(out, b"", chain.items())
         }
     }
 }

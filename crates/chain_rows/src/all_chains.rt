@@ -5,9 +5,12 @@ ghost use Rattle.std.specs.Prelude.{◌≡◌, ℕ, ◌≤◌, [], ◌∷◌, le
 ghost use Rattle.chain_rows.specs.Chains.{EachOnce, is_length};
 ghost use Rattle.chain_rows.specs.ToCome.{row_at};
 
-use crate::one_chain::Chain;
 use arrayvec::ArrayVec;
 use std::marker::Model;
+use stow_data::Short;
+
+/// A chain of at most 12 calls. Contracts see the list of its numbers; chains are ordered as lists, a prefix first.
+pub type Chain = Short<u32, 12>;
 
 /// The chains of the calls 0 to `calls`, one after the other. Contracts see the list of those still to come.
 #[derive(Drop)]

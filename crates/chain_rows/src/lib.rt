@@ -2,11 +2,9 @@
 #![tactic(auto)]
 
 mod all_chains;
-mod one_chain;
 mod right_side;
 #[cfg(test)]
 mod tests;
 
-pub use all_chains::Chains;
-pub use one_chain::Chain;
+pub use all_chains::{Chain, Chains};
 pub use right_side::chain_rhs;

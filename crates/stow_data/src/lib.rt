@@ -13,6 +13,7 @@ mod names;
 mod numbers;
 mod plans;
 mod ships;
+mod short;
 mod tables;
 #[cfg(test)]
 mod tests;
@@ -31,4 +32,5 @@ pub use names::{Name, NameList};
 pub use numbers::{CallNo, ContainerNo, CoverNo, HalfNo, KindNo, PlaceNo, StackNo, VarNo};
 pub use plans::{Plan, PlanList};
 pub use ships::Ship;
+pub use short::Short;
 pub use words::{Word, WordList};
