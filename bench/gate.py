@@ -2,6 +2,7 @@
 """Measures what each crate costs at the gate, in processor minutes: its proof, the proof of its tests, its must-fail edits.
 
     bench/gate.py [--at-once N] [--into FILE] [NAME..]
+    bench/gate.py --watch [--into FILE] [NAME..]
 
 NAME is a crate as crates.txt has it; with none, all crates are measured. Every figure is user and system time of a run of `rt`
 with one job and from nothing, as the gate proves: `rt check`, `rt check --test`, `rt must-fail --anew`. All is done on copies in a
@@ -9,6 +10,9 @@ temporary folder, so no out/ of the checkout is read or changed; the libraries b
 The table is sorted by the whole cost of a crate; below it stand the sums and the chain of crates whose proofs, one after the
 other, take longest.
 
+--watch       runs the gate itself, `rt ci` (with names, `rt ci NAME..`), and takes the figures from its processes as it goes, looking
+              twice a second: nothing is proved twice for the measure. What an earlier run on this machine kept isn't measured
+              again, and keeps its figure in FILE
 --at-once N   measures N crates side by side (1 where it is missing): processor time hardly changes by it
 --into FILE   writes the table between the two lines '<!-- gate table .. -->' of FILE; crates that aren't named keep their rows
 """
@@ -19,6 +23,7 @@ import shutil
 import subprocess
 import sys
 import tempfile
+import time
 
 ROOT = os.path.dirname(os.path.dirname(os.path.realpath(__file__)))
 BUDGET = {"proof": 5.0, "tests": 3.0, "edits": 5.0}
@@ -134,6 +139,55 @@ def measure(base, name, deps):
     return row
 
 
+def of_process(pid):
+    """Returns the crate and the part that a process of the prover works on, and its processor minutes so far; None of any other process."""
+    try:
+        with open(f"/proc/{pid}/cmdline", "rb") as file:
+            words = file.read().decode(errors="replace").split("\0")
+        if not words[0].endswith("/rattle") or "--crate-name" not in words or words[1] not in ("check", "build"):
+            return None
+        with open(f"/proc/{pid}/stat", encoding="utf-8") as file:
+            numbers = file.read().rpartition(")")[2].split()
+        part = "edits" if "/rt-edit-" in os.readlink(f"/proc/{pid}/cwd") else "tests" if "--test" in words else "proof"
+    except OSError:
+        return None
+    return words[words.index("--crate-name") + 1], part, (int(numbers[11]) + int(numbers[12])) / os.sysconf("SC_CLK_TCK") / 60
+
+
+def descendants(root):
+    """Returns the processes that a process started, and those that they started."""
+    parents = {}
+    for pid in filter(str.isdigit, os.listdir("/proc")):
+        try:
+            with open(f"/proc/{pid}/stat", encoding="utf-8") as file:
+                parents.setdefault(int(file.read().rpartition(")")[2].split()[1]), []).append(int(pid))
+        except OSError:
+            pass
+    found = list(parents.get(root, []))
+    for pid in found:
+        found += parents.get(pid, [])
+    return found
+
+
+def watch(names, deps):
+    """Runs the gate, and returns the costs of each crate on which it worked."""
+    used, begun = {}, time.monotonic()
+    gate = subprocess.Popen(["rt", "ci", *names], cwd=ROOT, stdin=subprocess.DEVNULL)
+    while gate.poll() is None:
+        for pid in descendants(gate.pid):
+            if (at := of_process(pid)) and at[0] in deps:
+                used[pid, at[0], at[1]] = at[2]
+        time.sleep(0.5)
+    print(f"gate: rt ci ended with {gate.returncode} after {(time.monotonic() - begun) / 60:.0f} minutes", file=sys.stderr)
+    rows = {}
+    for (_, name, part), minutes in used.items():
+        folder = f"{ROOT}/crates/{name}"
+        edits = len(os.listdir(f"{folder}/must-fail")) if os.path.isdir(f"{folder}/must-fail") else 0
+        row = rows.setdefault(name, {"lines": lines_of(folder), "edits tried": edits})
+        row[part] = row.get(part, 0.0) + minutes
+    return rows
+
+
 def chain_of(deps, rows):
     """Returns the chain of crates whose proofs take longest one after the other, and their minutes."""
     best = {}
@@ -168,18 +222,8 @@ def rows_in(text):
     return found
 
 
-def main():
-    words, at_once, into = sys.argv[1:], 1, None
-    while words and words[0].startswith("--"):
-        if words[0] not in ("--at-once", "--into") or len(words) < 2:
-            sys.exit(__doc__)
-        at_once, into = (int(words[1]), into) if words[0] == "--at-once" else (at_once, os.path.abspath(words[1]))
-        words = words[2:]
-    deps = crates_of(ROOT)
-    lacking = [it for it in words if it not in deps]
-    if lacking:
-        sys.exit(f"gate: crates.txt has no {lacking[0]}")
-    names = words or [*deps]
+def measured(names, deps, at_once):
+    """Measures crates by runs of their own, and returns their rows."""
     with tempfile.TemporaryDirectory(prefix="gate-") as room:
         base = f"{room}/base"
         begin(base)
@@ -195,13 +239,32 @@ def main():
             if status:
                 sys.exit(open(f"{room}/log", encoding="utf-8", errors="replace").read())
         with concurrent.futures.ThreadPoolExecutor(at_once) as pool:
-            rows = dict(zip(names, pool.map(lambda name: measure(base, name, deps), names)))
+            return dict(zip(names, pool.map(lambda name: measure(base, name, deps), names)))
+
+
+def main():
+    words, at_once, into = sys.argv[1:], 1, None
+    watched = words[:1] == ["--watch"]
+    words = words[watched:]
+    while words and words[0].startswith("--"):
+        if words[0] not in ("--at-once", "--into") or len(words) < 2:
+            sys.exit(__doc__)
+        at_once, into = (int(words[1]), into) if words[0] == "--at-once" else (at_once, os.path.abspath(words[1]))
+        words = words[2:]
+    deps = crates_of(ROOT)
+    lacking = [it for it in words if it not in deps]
+    if lacking:
+        sys.exit(f"gate: crates.txt has no {lacking[0]}")
+    rows = watch(words, deps) if watched else measured(words or [*deps], deps, at_once)
+    before, old, after = "", "", ""
+    if into:
+        with open(into, encoding="utf-8") as file:
+            before, _, rest = file.read().partition(BEGIN)
+        old, _, after = rest.partition(END)
+    said = rows_in(old)
+    rows = {name: {**dict.fromkeys(BUDGET, 0.0), **said.get(name, {}), **rows.get(name, {})} for name in deps if name in said or name in rows}
     if not into:
         return print(*table(deps, rows), sep="\n")
-    with open(into, encoding="utf-8") as file:
-        before, _, rest = file.read().partition(BEGIN)
-    old, _, after = rest.partition(END)
-    rows = {**{name: row for name, row in rows_in(old).items() if name in deps}, **rows}
     with open(into, "w", encoding="utf-8") as file:
         file.write(f"{before}{BEGIN}\n{chr(10).join(table(deps, rows))}\n{END}{after}")
 
