@@ -13,7 +13,7 @@ for crate in stow_data edifact_segments baplie_model baplie_read; do
 done
 cat >crates.txt <<'TXT'
 stow_data: arrayvec
-edifact_segments: stow_data smallvec
+edifact_segments: stow_data
 baplie_model: stow_data edifact_segments
 baplie_read: stow_data edifact_segments baplie_model
 fill_bench: stow_data

@@ -12,7 +12,7 @@ mkdir -p crates/read_bench/src crates/fill_bench/src
 cp -r "$root/crates/stow_data" "$root/crates/edifact_segments" crates/
 cat >crates.txt <<'TXT'
 stow_data: arrayvec
-edifact_segments: stow_data smallvec
+edifact_segments: stow_data
 fill_bench: stow_data
 read_bench: edifact_segments stow_data
 TXT

@@ -1,12 +1,12 @@
 //! Reading a bay plan message (SMDG BAPLIE 2.2).
 #![tactic(auto)]
 
+mod cell_groups;
 mod endings;
 mod faults;
 mod groups;
 mod reading;
 mod roles;
-mod telling;
 
 pub use baplie_model::{Cause, CellGroup, Facts, GroupList, Message};
 pub use faults::BaplieFault;

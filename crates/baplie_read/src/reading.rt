@@ -6,11 +6,11 @@ ghost use Rattle.baplie_model.specs.Groups.{cell_group};
 ghost use Rattle.baplie_model.specs.Messages.{IsMessage, IsMessageOf};
 ghost use Rattle.baplie_read.specs.Reading.{IsBaplieFault, IsFaultOf, IsFound};
 
+use crate::cell_groups::{cell_group, copy_all};
 use crate::endings::end_fault;
 use crate::faults::BaplieFault;
 use crate::groups::group_fault;
 use crate::roles::{Role, is_title};
-use crate::telling::{cell_group, copy_all};
 use baplie_model::{Cause, GroupList, Message};
 use edifact_segments::{SegFault, Segment, read_interchange};
 use std::alloc::Global;
@@ -96,7 +96,7 @@ fn copy_at(alloc: Global, segments: &[Segment], place: usize) -> Result<Segment,
     requires { place < length segments.now }
     ensures { IfOk result (λ s. slice_get segments.now place ≡ Some s) }
 {
-    segments[place].copy(alloc)
+    segments[place].copy()
 }
 
 /// Whether segment 2 is the UNH of a bay plan.

@@ -11,7 +11,7 @@ ghost use Rattle.baplie_model.specs.Segments.{element};
 ghost use Rattle.baplie_write.specs.Whole.{IsWhole, segments_of, trailer};
 
 use baplie_model::{GroupList, Message};
-use edifact_segments::{Segment, SegmentList, write_segment};
+use edifact_segments::{ElementBuffer, Segment, SegmentList, write_segment};
 use itoa::Buffer;
 use std::alloc::Global;
 use stow_data::{Bytes, NoMemory};
@@ -79,15 +79,12 @@ fn write_trailer(
 ) -> Result<(), NoMemory>
     ensures { OnOk result (out.new ≡ out.old ++ written (trailer tag count (element referred.now (n + 1)))) }
 {
-    let mut segment = Segment::new(alloc, tag);
-    segment
-        .elements
-        .push(Buffer::new().format(count).as_bytes())?;
-    segment.elements.start_element()?;
+    let mut elements = ElementBuffer::new(alloc);
+    elements.push(Buffer::new().format(count).as_bytes())?;
+    elements.start_element()?;
     for k in 0..referred.elements.components(n) {
-        segment
-            .elements
-            .add_component(referred.elements.component(n, k))?;
+        elements.add_component(referred.elements.component(n, k))?;
     }
+    let segment = Segment::of(alloc, tag, elements)?;
     write_segment(alloc, out, &segment)
 }

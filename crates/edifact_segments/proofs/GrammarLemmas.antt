@@ -234,3 +234,8 @@ module _ (bytes : List ℕ) (s : Service) (start at : ℕ) (segments : List Segm
 
         pub few-more : (all : List Segment) → all ≡ segments ++ x ∷ [] → length segments ≤ at → next ≤ at' → length all ≤ at'
         few-more all ea few le = omega (arith, ap length ea, length_push segments x, found.4)
+
+-- the number of the first segment is 1
+pub first-of : (segments : List Segment) (n : ℕ) → n ≡ length segments → n + 1 ≡ 1 → segments ≡ []
+first-of [] n e h = refl
+first-of (s ∷ segments) n e h = absurd (omega (arith, e, h))

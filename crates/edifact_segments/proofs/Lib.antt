@@ -10,3 +10,4 @@ pub mod OneReading
 pub mod EachText
 pub mod ReadBackLemmas
 pub mod Lengths
+pub mod GatheredLemmas

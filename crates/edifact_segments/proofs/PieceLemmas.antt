@@ -5,12 +5,12 @@ use Rattle.std.proofs.lemmas.List.Edits.{length-between}
 use Rattle.edifact_segments.specs.Pieces.{first_or, IsAscending, pieces, on_last}
 
 -- a piece that ends within xs is the same in a longer list
-range-append : {A : Type 0} (xs ys : List A) (s t : ℕ) → s ≤ t → t ≤ length xs → slice_range (xs ++ ys) s t ≡ slice_range xs s t
+pub range-append : {A : Type 0} (xs ys : List A) (s t : ℕ) → s ≤ t → t ≤ length xs → slice_range (xs ++ ys) s t ≡ slice_range xs s t
 range-append xs ys s t st tn =
     ap (take (t - s)) (drop-append-le s xs ys (omega arith)) ∙ take-append-le (t - s) (drop s xs) ys (omega (arith, length-drop s xs))
 
 -- the last piece takes what is added
-range-append_last : {A : Type 0} (xs ys : List A) (s : ℕ) → s ≤ length xs → slice_range (xs ++ ys) s (length (xs ++ ys)) ≡ slice_range xs s (length xs) ++ ys
+pub range-append_last : {A : Type 0} (xs ys : List A) (s : ℕ) → s ≤ length xs → slice_range (xs ++ ys) s (length (xs ++ ys)) ≡ slice_range xs s (length xs) ++ ys
 range-append_last xs ys s sn =
     take_rest (xs ++ ys) s ∙ drop-append-le s xs ys sn ∙ ap (λ p. p ++ ys) (sym (take_rest xs s))
 
@@ -71,7 +71,7 @@ pub pieces-at : {A : Type 0} (ss : List ℕ) (xs : List A) (i : ℕ) (d : List A
 pieces-at ss xs i d h = at_suc ss xs i d h ∙ ap (λ k. slice_range xs (get_or ss i 0) (get_or ss k (length xs))) (sym (add-one i))
 
 -- an item of a piece
-get_or-range : {A : Type 0} (xs : List A) (s t j : ℕ) (d : A) → j < t - s → get_or (slice_range xs s t) j d ≡ get_or xs (s + j) d
+pub get_or-range : {A : Type 0} (xs : List A) (s t j : ℕ) (d : A) → j < t - s → get_or (slice_range xs s t) j d ≡ get_or xs (s + j) d
 get_or-range xs s t j d h = get_or-take (t - s) (drop s xs) j d h ∙ get_or-drop s xs j d
 
 -- how many items a piece has that begins at s and ends at t

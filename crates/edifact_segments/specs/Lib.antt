@@ -6,4 +6,5 @@ pub mod Characters
 pub mod Grammar
 pub mod Scanning
 pub mod Drafts
+pub mod Gathered
 pub mod ReadBack

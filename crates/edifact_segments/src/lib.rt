@@ -5,11 +5,13 @@ mod buffer;
 mod draft;
 mod elements;
 mod faults;
+mod gathered;
 mod reading;
 mod segments;
 mod service;
 mod writing;
 
+pub use buffer::ElementBuffer;
 pub use elements::ElementList;
 pub use faults::SegFault;
 pub use reading::{each_text, one_reading, read_interchange, reads_back};

@@ -1,6 +1,7 @@
 //! Interchanges as they are read.
 ghost use Rattle.std.specs.Prelude.{◌≡◌, ◌≢◌, ◌⊎◌, ℕ, ◌+◌, ◌<◌, ◌≤◌, ◌^◌, ◌==◌, ◌||◌, true, false, List, [], ◌∷◌, ◌++◌, length, drop, slice_range, slice_index, IfErr, IfOk, IsTrue, OnOk};
 ghost use Rattle.edifact_segments.specs.Characters.{Character, Plain};
+ghost use Rattle.edifact_segments.specs.Gathered.{with_elements};
 ghost use Rattle.edifact_segments.specs.Drafts.{Drafts, DraftsWith, Finds, Reads};
 ghost use Rattle.edifact_segments.specs.Grammar.{HasFault, HasUna, IsHeaded, IsInterchange, Starts, unb, unz};
 ghost use Rattle.edifact_segments.specs.ReadBack.{AreWritable, IsWritable};
@@ -12,7 +13,8 @@ ghost use Rattle.edifact_segments.specs.declared.segments.Segment.{Segment};
 
 use crate::draft::Draft;
 use crate::faults::SegFault;
-use crate::segments::{Segment, SegmentList};
+use crate::gathered::GatheredSegments;
+use crate::segments::SegmentList;
 use crate::service::{Scanner, Service, default_characters, is_control_byte, is_line_end};
 use std::alloc::Global;
 use stow_data::NoMemory;
@@ -25,47 +27,47 @@ pub fn read_interchange(alloc: Global, bytes: &[u8]) -> Result<SegmentList, SegF
     ensures fault { IfErr result (λ e. (e ≡ SegFault.NoMemory) ⊎ HasFault bytes.now e) }
 {
     let (scanner, start) = read_advice(bytes)?;
-    let mut segments = SegmentList::new(alloc);
+    let mut segments = GatheredSegments::new(alloc);
     let mut draft = Draft::new(alloc);
     let mut at = skip_gap(bytes, start);
     while at < bytes.len() {
         let number = segments.len() as u32 + 1;
-        let (segment, next) = next_segment(alloc, &mut draft, &scanner, bytes, at, number)?;
-        if !is_headed(&segments, &segment) {
+        let (tag, next) = next_segment(&mut draft, &scanner, bytes, at, number)?;
+        if !is_headed(number, tag) {
             return Err(SegFault::NoHeader);
         }
-        let closes = is_trailer(&segment);
-        segments.push(segment)?;
+        segments.push(tag, &mut draft.elements)?;
         at = skip_gap(bytes, next);
-        if closes {
+        if is_trailer(tag) {
             if at < bytes.len() {
                 return Err(SegFault::Trailing { at: at as u64 });
             }
-            return Ok(segments);
+            return Ok(segments.finish()?);
         }
     }
-    if segments.is_empty() {
-        return Err(SegFault::NoHeader);
+    match segments.len() {
+        0 => Err(SegFault::NoHeader),
+        count => Err(SegFault::NoTrailer {
+            segments: count as u32,
+        }),
     }
-    Err(SegFault::NoTrailer {
-        segments: segments.len() as u32,
-    })
 }
 
-/// Whether the first segment is UNB, once this one is read.
-fn is_headed(segments: &SegmentList, segment: &Segment) -> bool
-    ensures yes { IsTrue result → segments.now ≡ [] → segment.now.tag ≡ unb }
-    ensures no { result ≡ false → (segments.now ≡ []) × (segment.now.tag ≢ unb) }
+/// Whether the first segment is UNB, once the one with this number, from 1, and tag is read.
+fn is_headed(number: u32, tag: [u8; 3]) -> bool
+    requires { 0 < number }
+    ensures yes { IsTrue result → number ≡ 1 → tag ≡ unb }
+    ensures no { result ≡ false → (number ≡ 1) × (tag ≢ unb) }
 {
-    !segments.is_empty() || segment.tag == *b"UNB"
+    number > 1 || tag == *b"UNB"
 }
 
-/// Whether the segment is UNZ.
-fn is_trailer(segment: &Segment) -> bool
-    ensures yes { IsTrue result → segment.now.tag ≡ unz }
-    ensures no { result ≡ false → segment.now.tag ≢ unz }
+/// Whether a segment with this tag is UNZ.
+fn is_trailer(tag: [u8; 3]) -> bool
+    ensures yes { IsTrue result → tag ≡ unz }
+    ensures no { result ≡ false → tag ≢ unz }
 {
-    segment.tag == *b"UNZ"
+    tag == *b"UNZ"
 }
 
 /// The service characters, and where the text begins.
@@ -101,27 +103,25 @@ fn has_una(bytes: &[u8]) -> bool
     bytes.len() >= 3 && bytes[0] == b'U' && bytes[1] == b'N' && bytes[2] == b'A'
 }
 
-/// The segment that begins at a place, which has this number, and the place behind its terminator.
+/// The tag of the segment that begins at a place, which has this number, and the place behind its
+/// terminator. The draft has its elements.
 fn next_segment(
-    alloc: Global,
     draft: &mut Draft,
     scanner: &Scanner,
     bytes: &[u8],
     from: usize,
     number: u32,
-) -> Result<(Segment, usize), SegFault>
+) -> Result<([u8; 3], usize), SegFault>
     requires table { IsTable scanner.now.service scanner.now.ordinary }
     requires within { from ≤ length bytes.now }
     requires small { length bytes.now ≤ 2 ^ 29 }
-    ensures { Finds scanner.now.service bytes.now from number result }
+    ensures { Finds scanner.now.service bytes.now from number (with_elements draft.new.elements result) }
 {
     let next = read_segment(draft, scanner, bytes, from)?;
-    let tag = match draft.tag {
-        Some(tag) => tag,
-        None => return Err(SegFault::BadTag { segment: number }),
-    };
-    let elements = draft.elements.give(alloc)?;
-    Ok((Segment { tag, elements }, next))
+    match draft.tag {
+        Some(tag) => Ok((tag, next)),
+        None => Err(SegFault::BadTag { segment: number }),
+    }
 }
 
 /// Where the next byte other than CR and LF stands, or the end.

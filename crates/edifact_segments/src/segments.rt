@@ -1,6 +1,8 @@
 //! Segments.
-ghost use Rattle.std.specs.Prelude.{◌≡◌, [], IfOk};
+ghost use Rattle.std.specs.Prelude.{◌≡◌, IfOk};
+ghost use Rattle.edifact_segments.specs.Elements.{segment};
 
+use crate::buffer::ElementBuffer;
 use crate::elements::ElementList;
 use std::alloc::Global;
 use stow_data::{NoMemory, Seq};
@@ -13,24 +15,23 @@ pub struct Segment {
 }
 
 impl Segment {
-    /// A segment with this tag and no element. It takes no memory.
-    pub fn new(alloc: Global, tag: [u8; 3]) -> Self
-        ensures tag { result.tag ≡ tag }
-        ensures elements { result.elements ≡ [] }
+    /// A segment with this tag and these elements.
+    pub fn of(alloc: Global, tag: [u8; 3], elements: ElementBuffer) -> Result<Segment, NoMemory>
+        ensures { IfOk result (λ s. s ≡ segment tag elements) }
     {
-        Segment {
+        Ok(Segment {
             tag,
-            elements: ElementList::new(alloc),
-        }
+            elements: ElementList::of(alloc, elements)?,
+        })
     }
 
-    /// A copy of the segment.
-    pub fn copy(&self, alloc: Global) -> Result<Segment, NoMemory>
+    /// A copy of the segment, which shares its elements.
+    pub fn copy(&self) -> Result<Segment, NoMemory>
         ensures { IfOk result (λ s. s ≡ self.now) }
     {
         Ok(Segment {
             tag: self.tag,
-            elements: self.elements.copy(alloc)?,
+            elements: self.elements.copy()?,
         })
     }
 }

@@ -3,13 +3,13 @@ ghost use Rattle.std.specs.Prelude.{◌≡◌, ◌++◌, ◌∷◌, [], IfOk, On
 ghost use Rattle.plan_files.specs.DepartureSegments.{unb, unh, bgm, dtm, tdt, loc, cell_segment, weight_code, mea, tmp, temperature_segments, rff, fullness, eqd, dgs, goods_segments, digit};
 
 use bookings::Bookings;
-use edifact_segments::{ElementList, Segment, SegmentList};
+use edifact_segments::{ElementBuffer, Segment, SegmentList};
 use itoa::Buffer;
 use std::alloc::Global;
 use stow_data::{Name, NoMemory};
 
 /// Appends an element of these components.
-fn compose(elements: &mut ElementList, components: &[&[u8]]) -> Result<(), NoMemory>
+fn compose(elements: &mut ElementBuffer, components: &[&[u8]]) -> Result<(), NoMemory>
     ensures { OnOk result (elements.new ≡ elements.old ++ map (λ c. c.now) components.now ∷ []) }
 {
     elements.start_element()?;
@@ -26,15 +26,13 @@ pub fn unb(alloc: Global, bookings: &Bookings, call: u32) -> Result<Segment, NoM
     ensures { IfOk result (λ s. s ≡ unb bookings.now call) }
 {
     let date = bookings.date.bytes();
-    let mut segment = Segment::new(alloc, *b"UNB");
-    compose(&mut segment.elements, &[b"UNOA", b"2"])?;
-    segment.elements.push(bookings.sender.bytes())?;
-    segment.elements.push(bookings.recipient.bytes())?;
-    compose(&mut segment.elements, &[&date[..6], &date[6..]])?;
-    segment
-        .elements
-        .push(Buffer::new().format(call).as_bytes())?;
-    Ok(segment)
+    let mut elements = ElementBuffer::new(alloc);
+    compose(&mut elements, &[b"UNOA", b"2"])?;
+    elements.push(bookings.sender.bytes())?;
+    elements.push(bookings.recipient.bytes())?;
+    compose(&mut elements, &[&date[..6], &date[6..]])?;
+    elements.push(Buffer::new().format(call).as_bytes())?;
+    Segment::of(alloc, *b"UNB", elements)
 }
 
 /// UNH+1+BAPLIE:D:95B:UN:SMDG22
@@ -42,13 +40,10 @@ pub fn unb(alloc: Global, bookings: &Bookings, call: u32) -> Result<Segment, NoM
 pub fn unh(alloc: Global) -> Result<Segment, NoMemory>
     ensures { IfOk result (λ s. s ≡ unh) }
 {
-    let mut segment = Segment::new(alloc, *b"UNH");
-    segment.elements.push(b"1")?;
-    compose(
-        &mut segment.elements,
-        &[b"BAPLIE", b"D", b"95B", b"UN", b"SMDG22"],
-    )?;
-    Ok(segment)
+    let mut elements = ElementBuffer::new(alloc);
+    elements.push(b"1")?;
+    compose(&mut elements, &[b"BAPLIE", b"D", b"95B", b"UN", b"SMDG22"])?;
+    Segment::of(alloc, *b"UNH", elements)
 }
 
 /// BGM++call+9
@@ -56,13 +51,11 @@ pub fn unh(alloc: Global) -> Result<Segment, NoMemory>
 pub fn bgm(alloc: Global, call: u32) -> Result<Segment, NoMemory>
     ensures { IfOk result (λ s. s ≡ bgm call) }
 {
-    let mut segment = Segment::new(alloc, *b"BGM");
-    segment.elements.start_element()?;
-    segment
-        .elements
-        .push(Buffer::new().format(call).as_bytes())?;
-    segment.elements.push(b"9")?;
-    Ok(segment)
+    let mut elements = ElementBuffer::new(alloc);
+    elements.start_element()?;
+    elements.push(Buffer::new().format(call).as_bytes())?;
+    elements.push(b"9")?;
+    Segment::of(alloc, *b"BGM", elements)
 }
 
 /// DTM+qualifier:date:201
@@ -70,9 +63,9 @@ pub fn bgm(alloc: Global, call: u32) -> Result<Segment, NoMemory>
 pub fn dtm(alloc: Global, qualifier: &[u8], date: &[u8]) -> Result<Segment, NoMemory>
     ensures { IfOk result (λ s. s ≡ dtm qualifier.now date.now) }
 {
-    let mut segment = Segment::new(alloc, *b"DTM");
-    compose(&mut segment.elements, &[qualifier, date, b"201"])?;
-    Ok(segment)
+    let mut elements = ElementBuffer::new(alloc);
+    compose(&mut elements, &[qualifier, date, b"201"])?;
+    Segment::of(alloc, *b"DTM", elements)
 }
 
 /// TDT+20+voyage++++++:::vessel
@@ -80,16 +73,16 @@ pub fn dtm(alloc: Global, qualifier: &[u8], date: &[u8]) -> Result<Segment, NoMe
 pub fn tdt(alloc: Global, voyage: &[u8], vessel: &[u8]) -> Result<Segment, NoMemory>
     ensures { IfOk result (λ s. s ≡ tdt voyage.now vessel.now) }
 {
-    let mut segment = Segment::new(alloc, *b"TDT");
-    segment.elements.push(b"20")?;
-    segment.elements.push(voyage)?;
-    segment.elements.start_element()?;
-    segment.elements.start_element()?;
-    segment.elements.start_element()?;
-    segment.elements.start_element()?;
-    segment.elements.start_element()?;
-    compose(&mut segment.elements, &[b"", b"", b"", vessel])?;
-    Ok(segment)
+    let mut elements = ElementBuffer::new(alloc);
+    elements.push(b"20")?;
+    elements.push(voyage)?;
+    elements.start_element()?;
+    elements.start_element()?;
+    elements.start_element()?;
+    elements.start_element()?;
+    elements.start_element()?;
+    compose(&mut elements, &[b"", b"", b"", vessel])?;
+    Segment::of(alloc, *b"TDT", elements)
 }
 
 /// LOC+qualifier+port:139:6
@@ -97,10 +90,10 @@ pub fn tdt(alloc: Global, voyage: &[u8], vessel: &[u8]) -> Result<Segment, NoMem
 pub fn loc(alloc: Global, qualifier: &[u8], port: &[u8]) -> Result<Segment, NoMemory>
     ensures { IfOk result (λ s. s ≡ loc qualifier.now port.now) }
 {
-    let mut segment = Segment::new(alloc, *b"LOC");
-    segment.elements.push(qualifier)?;
-    compose(&mut segment.elements, &[port, b"139", b"6"])?;
-    Ok(segment)
+    let mut elements = ElementBuffer::new(alloc);
+    elements.push(qualifier)?;
+    compose(&mut elements, &[port, b"139", b"6"])?;
+    Segment::of(alloc, *b"LOC", elements)
 }
 
 /// The last decimal digit of a number.
@@ -124,10 +117,10 @@ pub fn cell_segment(alloc: Global, bay: u32, row: u32, tier: u32) -> Result<Segm
         digit(tier / 10),
         digit(tier),
     ];
-    let mut segment = Segment::new(alloc, *b"LOC");
-    segment.elements.push(b"147")?;
-    compose(&mut segment.elements, &[&cell, b"", b"5"])?;
-    Ok(segment)
+    let mut elements = ElementBuffer::new(alloc);
+    elements.push(b"147")?;
+    compose(&mut elements, &[&cell, b"", b"5"])?;
+    Segment::of(alloc, *b"LOC", elements)
 }
 
 /// What MEA says of a weight: that it is a verified gross mass, or another one.
@@ -142,14 +135,14 @@ fn weight_code(vgm: bool) -> &'static [u8]
 pub fn mea(alloc: Global, vgm: bool, kg: u32) -> Result<Segment, NoMemory>
     ensures { IfOk result (λ s. s ≡ mea vgm kg) }
 {
-    let mut segment = Segment::new(alloc, *b"MEA");
-    segment.elements.push(weight_code(vgm))?;
-    segment.elements.start_element()?;
+    let mut elements = ElementBuffer::new(alloc);
+    elements.push(weight_code(vgm))?;
+    elements.start_element()?;
     compose(
-        &mut segment.elements,
+        &mut elements,
         &[b"KGM", Buffer::new().format(kg).as_bytes()],
     )?;
-    Ok(segment)
+    Segment::of(alloc, *b"MEA", elements)
 }
 
 /// TMP+2+temperature:CEL, in degrees Celsius
@@ -157,13 +150,13 @@ pub fn mea(alloc: Global, vgm: bool, kg: u32) -> Result<Segment, NoMemory>
 fn tmp(alloc: Global, temperature: i32) -> Result<Segment, NoMemory>
     ensures { IfOk result (λ s. s ≡ tmp temperature) }
 {
-    let mut segment = Segment::new(alloc, *b"TMP");
-    segment.elements.push(b"2")?;
+    let mut elements = ElementBuffer::new(alloc);
+    elements.push(b"2")?;
     compose(
-        &mut segment.elements,
+        &mut elements,
         &[Buffer::new().format(temperature).as_bytes(), b"CEL"],
     )?;
-    Ok(segment)
+    Segment::of(alloc, *b"TMP", elements)
 }
 
 /// Appends the temperature of a reefer. The list stays as it was for other containers.
@@ -185,9 +178,9 @@ pub fn push_temperature(
 pub fn rff(alloc: Global) -> Result<Segment, NoMemory>
     ensures { IfOk result (λ s. s ≡ rff) }
 {
-    let mut segment = Segment::new(alloc, *b"RFF");
-    compose(&mut segment.elements, &[b"BM", b"1"])?;
-    Ok(segment)
+    let mut elements = ElementBuffer::new(alloc);
+    compose(&mut elements, &[b"BM", b"1"])?;
+    Segment::of(alloc, *b"RFF", elements)
 }
 
 /// What EQD says of a container: that it is empty, or full.
@@ -202,14 +195,14 @@ fn fullness(empty: bool) -> &'static [u8]
 pub fn eqd(alloc: Global, id: &[u8], iso: &[u8], empty: bool) -> Result<Segment, NoMemory>
     ensures { IfOk result (λ s. s ≡ eqd id.now iso.now empty) }
 {
-    let mut segment = Segment::new(alloc, *b"EQD");
-    segment.elements.push(b"CN")?;
-    segment.elements.push(id)?;
-    segment.elements.push(iso)?;
-    segment.elements.start_element()?;
-    segment.elements.start_element()?;
-    segment.elements.push(fullness(empty))?;
-    Ok(segment)
+    let mut elements = ElementBuffer::new(alloc);
+    elements.push(b"CN")?;
+    elements.push(id)?;
+    elements.push(iso)?;
+    elements.start_element()?;
+    elements.start_element()?;
+    elements.push(fullness(empty))?;
+    Segment::of(alloc, *b"EQD", elements)
 }
 
 /// DGS+IMD+class+unno, the number in four digits, or DGS+IMD+class where it is 0
@@ -217,11 +210,11 @@ pub fn eqd(alloc: Global, id: &[u8], iso: &[u8], empty: bool) -> Result<Segment,
 fn dgs(alloc: Global, class: &[u8], unno: u32) -> Result<Segment, NoMemory>
     ensures { IfOk result (λ s. s ≡ dgs class.now unno) }
 {
-    let mut segment = Segment::new(alloc, *b"DGS");
-    segment.elements.push(b"IMD")?;
-    segment.elements.push(class)?;
+    let mut elements = ElementBuffer::new(alloc);
+    elements.push(b"IMD")?;
+    elements.push(class)?;
     if unno == 0 {
-        return Ok(segment);
+        return Segment::of(alloc, *b"DGS", elements);
     }
     let number = [
         digit(unno / 1000),
@@ -229,8 +222,8 @@ fn dgs(alloc: Global, class: &[u8], unno: u32) -> Result<Segment, NoMemory>
         digit(unno / 10),
         digit(unno),
     ];
-    segment.elements.push(&number)?;
-    Ok(segment)
+    elements.push(&number)?;
+    Segment::of(alloc, *b"DGS", elements)
 }
 
 /// Appends the class and number of dangerous goods. The list stays as it was where there is no class.

@@ -3,6 +3,7 @@ use Rattle.std.specs.Prelude.{is_ok, OnOk}
 use Rattle.std.proofs.lemmas.List.{take_all}
 use Rattle.std.specs.Fmt.{decimal}
 use Rattle.edifact_segments.specs.Written.{written}
+use Rattle.edifact_segments.specs.declared.segments.Segment.{Segment}
 use Rattle.baplie_model.specs.Segments.{element}
 use Rattle.baplie_write.proofs.Trailers.{written-as_trailer}
 use Rattle.baplie_write.proofs.writing.write_trailer.Goals as goal
@@ -13,10 +14,10 @@ on_written (Err x) new old t u e f = tt
 
 pub returns : goal.returns
 returns c =
-    let s = c.loop-k.segment in
+    let s = c.in_ok-segment.segment in
     let e = get_or c.args.referred.now.elements c.args.n [] in
     let at : c.args.n + 1 - 1 ≡ c.args.n = omega arith in
     let end : length e ≤ c.loop-k.k = omega (arith, c.components-k-end.ensures, c.loop-k-test.false) in
-    let whole : s.elements ≡ (decimal c.args.count ∷ []) ∷ e ∷ [] = c.loop-k.invariant.elements ∙ ap (λ x. (decimal c.args.count ∷ []) ∷ x ∷ []) (take_all c.loop-k.k e end) in
+    let whole : s.elements ≡ (decimal c.args.count ∷ []) ∷ e ∷ [] = ap (λ (x : Segment). x.elements) c.in_ok-segment.ensures ∙ c.loop-k.invariant ∙ ap (λ x. (decimal c.args.count ∷ []) ∷ x ∷ []) (take_all c.loop-k.k e end) in
     on_written c.write_segment.result c.write_segment.new.out c.args.out.now (written s) _ c.write_segment.ensures
-    (written-as_trailer s c.args.tag c.args.count (element c.args.referred.now (c.args.n + 1)) c.loop-k.invariant.tag (rw at whole))
+    (written-as_trailer s c.args.tag c.args.count (element c.args.referred.now (c.args.n + 1)) (ap (λ (x : Segment). x.tag) c.in_ok-segment.ensures) (rw at whole))

@@ -3,7 +3,4 @@ use Rattle.std.specs.Fmt.{decimal}
 use Rattle.baplie_write.proofs.writing.write_trailer.Given as goal
 
 abbrev pub invariant-loop-k : goal.invariant-loop-k
-invariant-loop-k l = record {
-  tag : l.segment.tag ≡ l.fn.tag;
-  elements : l.segment.elements ≡ (decimal l.count ∷ []) ∷ take l.k (get_or l.referred.elements l.n []) ∷ [];
-}
+invariant-loop-k l = l.elements ≡ (decimal l.count ∷ []) ∷ take l.k (get_or l.referred.elements l.n []) ∷ []

@@ -15,9 +15,9 @@ returns-in-None c =
     let t = tells-front c.args.scanner.now.service (drop c.args.from c.args.bytes.now) (Complete r.0 (drop c.in_ok-next.next c.args.bytes.now)) r.1 in
     (r.0, drop c.in_ok-next.next c.args.bytes.now, t.1, t.0, no_tag c.read_segment.new.draft _ r.2.0 r.2.1 r.2.2 c.in-None.is, refl)
 
-pub returns : goal.returns
-returns c =
+pub returns-in-Some : goal.returns-in-Some
+returns-in-Some c =
     let r = c.in_ok-next.ensures in
     let t = tells-front c.args.scanner.now.service (drop c.args.from c.args.bytes.now) (Complete r.0 (drop c.in_ok-next.next c.args.bytes.now)) r.1 in
     let h = has_tag c.read_segment.new.draft _ r.2.0 c.in-Some.tag r.2.1 r.2.2 c.in-Some.is in
-    (r.0, t.1, t.0, (h.0, h.1, h.2, c.in_ok-elements.ensures ∙ h.3), r.3, r.4)
+    (r.0, t.1, t.0, (h.0, h.1, h.2, h.3), r.3, r.4)

@@ -1,6 +1,6 @@
 use Rattle.std.proofs.Common.{◌≡◌, ◌+◌, get_or, rules}
 use Rattle.edifact_segments.proofs.PieceLemmas.{ordered, bounded}
-use Rattle.edifact_segments.proofs.elements.piece.Goals as goal
+use Rattle.edifact_segments.proofs.buffer.piece.Goals as goal
 
 pub returns-in-Some-clause-ordered : goal.returns-in-Some-clause-ordered
 returns-in-Some-clause-ordered c =

@@ -29,8 +29,9 @@ pub(crate) fn copy_all(alloc: Global, segments: &[Segment]) -> Result<SegmentLis
 {
     let mut list = SegmentList::new(alloc);
     for segment in segments {
-        list.push(segment.copy(alloc)?)?;
+        list.push(segment.copy()?)?;
     }
+    list.fit();
     Ok(list)
 }
 
