@@ -8,15 +8,6 @@ use crate::shipment::{Booking, Bookings};
 use std::alloc::Global;
 use stow_data::{Cargo, Container, ContainerList, Name, NameList, NoMemory, Origin, Plan, Ship};
 
-fn copy_class(class: &Option<Name>) -> Option<Name>
-    ensures { result ≡ class.now }
-{
-    match class {
-        Some(name) => Some(name.copy()),
-        None => None,
-    }
-}
-
 fn container_of(index: u32, booking: &Booking) -> Container
     ensures { result ≡ container_of (index, booking.now) }
 {
@@ -27,7 +18,7 @@ fn container_of(index: u32, booking: &Booking) -> Container
         long: booking.long,
         kg: booking.kg,
         reefer: booking.temperature.is_some(),
-        class: copy_class(&booking.class),
+        class: Name::copied(&booking.class),
         origin: Origin::Booked(index),
     }
 }
