@@ -8,3 +8,6 @@ mod laws;
 
 pub use departure_file::{departure_message, departure_text};
 pub use laws::departure_reads;
+
+#[cfg(test)]
+mod segment_tests;
