@@ -1,7 +1,7 @@
 #!/usr/bin/env bash
 # Times the interchange reader on a text of 64 MB of short segments, with its peak memory, in a small
 # program over the proved crates that makes the text and reads it.
-# Aims: at most 1 s, and at most ten times the text.
+# Aims: at most 1 s, and at most six times the text.
 set -eu
 root=$(cd "$(dirname "$(readlink -f "${BASH_SOURCE[0]}")")/.." && pwd)
 folder=$(mktemp -d)
