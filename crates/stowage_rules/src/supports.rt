@@ -22,8 +22,8 @@ fn half_below(half: &Half) -> Half
     }
 }
 
-/// Whether something fills a half-cell.
-fn is_filled(ship: &Ship, plan: &Plan, near: u32, half: &Half) -> bool
+/// Whether something fills a half-cell, looked for from a place near it.
+pub fn is_filled(ship: &Ship, plan: &Plan, near: u32, half: &Half) -> bool
     requires each_place { length plan.now ≡ length (places ship.now) }
     requires inside { near ≤ length (places ship.now) }
     ensures { IsTrue result ↔ IsTaken ship.now plan.now half.now }

@@ -1,4 +1,11 @@
-pub mod Bearers
-pub mod MovesHold
+pub mod HalvesRise
+pub mod Finding
+pub mod TierSides
+pub mod CoversHold
+pub mod OnStacks
+pub mod Judged
+pub mod Fairness
+pub mod Loading
+pub mod Stepping
 pub mod RunsHold
 pub mod Rows

@@ -1,20 +1,22 @@
 -- A run of moves, one move longer.
-use Rattle.std.specs.Prelude.{◌≡◌, ℕ, ◌<◌, ◌≤◌, ◌+◌, suc, zero, Bool, true, false, cond, List, [], ◌∷◌, length, take, Option, Some, None, slice_get, slice_set, ◌==◌}
+use Rattle.std.specs.Prelude.{◌≡◌, ℕ, ◌<◌, ◌≤◌, ◌+◌, suc, zero, Bool, true, false, List, [], ◌∷◌, length, take, Option, Some, MatchOption, slice_get}
 use Rattle.std.proofs.Common.{refl, sym, ◌∙◌, ap, subst, arith, ⊎_elim}
 use Rattle.std.proofs.lemmas.Bool.{both_ways, cases_lt, false_from_ne_true}
-use Rattle.std.proofs.lemmas.List.{length-set, length-map}
 use Rattle.std.proofs.lemmas.Option.{slice_get_within, slice_get_past, same_Some, none-some}
-use Rattle.stow_data.specs.Ship.{Ship, places}
+use Rattle.stow_data.specs.Ship.{Ship}
 use Rattle.stow_data.specs.Shipment.{Cargo}
 use Rattle.voyage_meaning.specs.declared.moves.Move.{Move}
-use Rattle.voyage_meaning.specs.declared.moves.Move.TheVariants.{OffCover, OnCover, Lift, Put}
 use Rattle.stow_data.specs.Plans.{Plan}
-use Rattle.voyage_meaning.specs.Moves.{State, Allowed, AllAllowed, after, end_of, leaves, quay_with, rehandles, rehandles_of}
-use Rattle.voyage_meaning.specs.Places.{BelongsTo, IsInRange, NoneSet, EndsAt, Runs, StopsAt}
+use Rattle.voyage_meaning.specs.Moves.{State, Allowed, AllAllowed, after, end_of, rehandles, rehandles_of}
+use Rattle.voyage_meaning.specs.declared.berth.Unfinished.{Unfinished}
+use Rattle.voyage_meaning.specs.declared.berth.Unfinished.TheVariants.{Quay, Off}
+use Rattle.voyage_meaning.specs.Berths.{Berth, BelongsTo, IsFirstUnfinished, NoneSet}
+use Rattle.voyage_meaning.specs.Runs.{EndsAt, LeadsBy, Runs, StopsAt}
+use Rattle.voyage_meaning.proofs.Loading.{berth_of}
+use Rattle.voyage_meaning.proofs.Stepping.{belongs_after}
 use Rattle.voyage_meaning.specs.Voyage.{AllOn, start, LeadsTo}
+use Rattle.stowage_rules.specs.Plan.{IsWellFormed}
 use Rattle.stowage_rules.specs.Departure.{IsDeparture}
-use Rattle.stow_data.specs.declared.geometry.Cover.{Cover}
-use Rattle.stow_data.specs.declared.cargoes.Container.{Container}
 use Rattle.stowage_rules.proofs.Items.{same_reads, slice_get_in}
 
 next : {X : Type 0} (f : List Move → X) (moves : List Move) (i : ℕ) → f (take (i + 1) moves) ≡ f (take (suc i) moves)
@@ -35,29 +37,6 @@ sum_more cargo call [] s i m is = absurd (none-some m is)
 sum_more cargo call (x ∷ xs) s zero m is = let e = ap (rehandles_of cargo call s) (same_Some x m is) in omega (arith, e)
 sum_more cargo call (x ∷ xs) s (suc i) m is = omega (arith, sum_more cargo call xs (after cargo call s x) i m is)
 
-length_quay : (cargo : Cargo) (call : ℕ) (quay : List Bool) (o : Option (Option ℕ)) → length (quay_with cargo call quay o) ≡ length quay
-length_quay cargo call quay None = refl
-length_quay cargo call quay (Some None) = refl
-length_quay cargo call quay (Some (Some c)) = by_test (leaves cargo call c)
-  where
-    by_test : (b : Bool) → length (cond b quay (slice_set quay c true)) ≡ length quay
-    by_test true = refl
-    by_test false = length-set quay c true
-
--- a move keeps the lengths of the lists
-pub belongs_after : (ship : Ship) (cargo : Cargo) (call : ℕ) (s : State) (m : Move) → BelongsTo ship cargo s → BelongsTo ship cargo (after cargo call s m)
-belongs_after ship cargo call s (Lift p) b = record { each_place = length-set s.plan p None ∙ b.each_place; each_container = length_quay cargo call s.quay (slice_get s.plan p) ∙ b.each_container; each_cover = b.each_cover }
-belongs_after ship cargo call s (Put c p) b = record { each_place = length-set s.plan p (Some c) ∙ b.each_place; each_container = length-set s.quay c false ∙ b.each_container; each_cover = b.each_cover }
-belongs_after ship cargo call s (OffCover k) b = record { each_place = b.each_place; each_container = b.each_container; each_cover = length-set s.off k true ∙ b.each_cover }
-belongs_after ship cargo call s (OnCover k) b = record { each_place = b.each_place; each_container = b.each_container; each_cover = length-set s.off k false ∙ b.each_cover }
-
--- an allowed move is in range
-pub in_range : (ship : Ship) (cargo : Cargo) (s : State) (m : Move) → BelongsTo ship cargo s → Allowed ship cargo s m → IsInRange s m
-in_range ship cargo s (Lift p) b can = slice_get_within s.plan p (Some can.container) can.filled
-in_range ship cargo s (Put c p) b can = (let i : p < length (places ship) = slice_get_within (places ship) p can.place can.is_place in omega (arith, b.each_place), slice_get_within s.quay c true can.on_quay)
-in_range ship cargo s (OffCover k) b can = slice_get_within s.off k false can.0
-in_range ship cargo s (OnCover k) b can = slice_get_within s.off k true can
-
 -- the run so far
 pub record RunsTo (ship : Ship) (cargo : Cargo) (call : ℕ) (s : State) (moves : List Move) (i : ℕ) (t : State) (count : ℕ) : Type 0 where
   pub allowed : AllAllowed ship cargo call s (take i moves)
@@ -75,7 +54,7 @@ run_more ship cargo call s moves i t u count more m r is can done counted low =
       leads = done ∙ (ap (λ (x : State). after cargo call x m) r.leads ∙ (sym (end_more cargo call moves s i m is) ∙ ap (λ (n : ℕ). end_of cargo call s (take n moves)) (sym e)));
       counts = (let a = sum_more cargo call moves s i m is in let b = r.counts in let d : count + more ≡ rehandles cargo call s (take (suc i) moves) = omega (arith, a, b, here) in d) ∙ ap (λ (n : ℕ). rehandles cargo call s (take n moves)) (sym e);
       small = omega (arith, r.small, low);
-      belongs = subst (λ (x : State). BelongsTo ship cargo x) (sym done) (belongs_after ship cargo call t m r.belongs);
+      belongs = subst (λ (x : State). BelongsTo ship cargo x) (sym done) (belongs_after ship cargo call t m r.belongs can);
     }
 
 -- the end of a run
@@ -106,14 +85,6 @@ stuck ship cargo call (x ∷ xs) s (suc i) m is all = stuck ship cargo call xs (
 pub stops_not : (ship : Ship) (cargo : Cargo) (call : ℕ) (moves : List Move) (s t : State) (n : ℕ) → StopsAt ship cargo call s moves t n → AllAllowed ship cargo call s moves → ⊥
 stops_not ship cargo call moves s t n stops all = stops.refused (subst (λ (x : State). Allowed ship cargo x stops.move) (sym stops.leads) (stuck ship cargo call moves s n stops.move stops.is_move all))
 
--- a call begins with lists of the ship's and the cargo's lengths
-pub start_belongs : (ship : Ship) (cargo : Cargo) (call : ℕ) (plan : Plan) → length plan ≡ length (places ship) → BelongsTo ship cargo (start ship cargo call plan)
-start_belongs ship cargo call plan e = record { each_place = e; each_container = length-map cargo.containers (λ (c : Container). c.load == call); each_cover = length-map ship.covers (λ (_ : Cover). false) }
-
-pub end_belongs : (ship : Ship) (cargo : Cargo) (call : ℕ) (moves : List Move) (s : State) → BelongsTo ship cargo s → BelongsTo ship cargo (end_of cargo call s moves)
-end_belongs ship cargo call [] s b = b
-end_belongs ship cargo call (m ∷ ms) s b = end_belongs ship cargo call ms (after cargo call s m) (belongs_after ship cargo call s m b)
-
 pub leads_from : (ship : Ship) (cargo : Cargo) (call : ℕ) (before : Plan) (moves : List Move) (new : Plan) (s t : State) (n : ℕ) → s ≡ start ship cargo call before → Runs ship cargo call s moves t n → EndsAt ship t new → IsDeparture ship cargo call new → LeadsTo ship cargo call before moves new × (n ≡ rehandles cargo call (start ship cargo call before) moves)
 leads_from ship cargo call before moves new s t n is runs ends departs =
     let at : t ≡ end_of cargo call (start ship cargo call before) moves = runs.leads ∙ ap (λ (x : State). end_of cargo call x moves) is in (
@@ -135,3 +106,27 @@ ends_from ship cargo call before moves new s t n is runs leads =
       quay_empty = λ c h. leads.quay_empty c (sym (ap (λ (x : State). slice_get x.quay c) at) ∙ h);
       covers_on = λ k cover known. ap (λ (x : State). slice_get x.off k) at ∙ leads.covers_on k cover known;
     }
+
+-- what is unfinished isn't finished
+pub not_unfinished : (s : State) (u : Unfinished) → IsFirstUnfinished s u → NoneSet s.quay → NoneSet s.off → ⊥
+not_unfinished s (Quay c) x quay off = quay c x.holds
+not_unfinished s (Off k) x quay off = off k x.1.holds
+
+-- a call's moves, begun at a berth
+pub stops_at_berth : (ship : Ship) (cargo : Cargo) (call : ℕ) (before after : Plan) (moves : List Move) (b : Berth) (t : State) (n : ℕ) → b ≡ berth_of call (start ship cargo call before) → StopsAt ship cargo b.call b.state moves t n → LeadsTo ship cargo call before moves after → ⊥
+stops_at_berth ship cargo call before after moves b t n is stops leads = stops_not ship cargo b.call moves b.state t n stops (subst (λ (x : Berth). AllAllowed ship cargo x.call x.state moves) (sym is) leads.allowed)
+
+runs_at_berth : (ship : Ship) (cargo : Cargo) (call : ℕ) (before : Plan) (moves : List Move) (b : Berth) (t : State) (n : ℕ) → b ≡ berth_of call (start ship cargo call before) → Runs ship cargo b.call b.state moves t n → Runs ship cargo call (start ship cargo call before) moves t n
+runs_at_berth ship cargo call before moves b t n is runs = subst (λ (x : Berth). Runs ship cargo x.call x.state moves t n) is runs
+
+pub leads_at_berth : (ship : Ship) (cargo : Cargo) (call : ℕ) (before new : Plan) (moves : List Move) (b : Berth) (t : State) (n : ℕ) → b ≡ berth_of call (start ship cargo call before) → Runs ship cargo b.call b.state moves t n → EndsAt ship t new → IsDeparture ship cargo call new → LeadsBy ship cargo call before moves new n
+leads_at_berth ship cargo call before new moves b t n is runs ends departs =
+    let r = leads_from ship cargo call before moves new (start ship cargo call before) t n refl (runs_at_berth ship cargo call before moves b t n is runs) ends departs in
+    record { leads = r.0; counts = r.1 }
+
+pub ends_at_berth : (ship : Ship) (cargo : Cargo) (call : ℕ) (before new : Plan) (moves : List Move) (b : Berth) (t : State) (n : ℕ) → b ≡ berth_of call (start ship cargo call before) → Runs ship cargo b.call b.state moves t n → LeadsTo ship cargo call before moves new → EndsAt ship t new
+ends_at_berth ship cargo call before new moves b t n is runs leads = ends_from ship cargo call before moves new (start ship cargo call before) t n refl (runs_at_berth ship cargo call before moves b t n is runs) leads
+
+-- the departure of a call that is counted is well formed
+pub departs_well : (ship : Ship) (cargo : Cargo) (call : ℕ) (before : Plan) (moves : List Move) (new : Plan) (o : Option ℕ) (here : ℕ) → o ≡ Some here → MatchOption o (LeadsTo ship cargo call before moves new → ⊥) (λ n. LeadsBy ship cargo call before moves new n) → IsWellFormed ship cargo new
+departs_well ship cargo call before moves new o here is told = (subst (λ (z : Option ℕ). MatchOption z (LeadsTo ship cargo call before moves new → ⊥) (λ n. LeadsBy ship cargo call before moves new n)) is told).leads.departure.stowed.well_formed

@@ -1,3 +1,7 @@
 pub mod Moves
 pub mod Voyage
-pub mod Places
+pub mod Berths
+pub mod Refusals
+pub mod Numbering
+pub mod Stacks
+pub mod Runs

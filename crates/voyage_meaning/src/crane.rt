@@ -1,35 +1,87 @@
 //! Lists of crane moves at a call: plain, slow programs.
-ghost use Rattle.std.specs.Prelude.{◌≡◌, IfOk, MatchOption, MatchResult, All, length};
+ghost use Rattle.std.specs.Prelude.{◌≡◌, ◌↔◌, ◌<◌, ◌≤◌, IfOk, IsTrue, MatchOption, MatchResult, All, length, slice_get};
 ghost use Rattle.stow_data.specs.Ship.{places};
+ghost use Rattle.stowage_rules.specs.Plan.{IsWellFormed};
+ghost use Rattle.voyage_meaning.specs.Moves.{Allowed, after, rehandles_of};
 ghost use Rattle.voyage_meaning.specs.Voyage.{IsVoyage, LeadsTo};
-ghost use Rattle.voyage_meaning.specs.Places.{BelongsTo, LeadsBy, Runs, SailsBy, StopsAt};
+ghost use Rattle.voyage_meaning.specs.Berths.{BelongsTo};
+ghost use Rattle.voyage_meaning.specs.Runs.{EndsAt, LeadsBy, Runs, SailsBy, StopsAt};
 
+use crate::berth::Berth;
 use crate::moves::Move;
-use crate::states::State;
 use std::alloc::Global;
-use stow_data::{CallNo, Cargo, NoMemory, Plan, Seq, Ship};
+use stow_data::{CallNo, Cargo, NoMemory, PlaceNo, Plan, Seq, Ship};
 use stowage_rules::is_departure;
 
-/// Runs a list of moves. Ok has the number of rehandles, the lifts of containers at a call other than their destination; Err has the index of the first move that isn't allowed, and the state is the one before it.
-pub fn run(
-    state: &mut State,
-    ship: &Ship,
-    cargo: &Cargo,
-    call: CallNo,
-    moves: &[Move],
-) -> Result<u64, usize>
-    requires { BelongsTo ship.now cargo.now state.old }
-    ensures { MatchResult result (λ n. Runs ship.now cargo.now call state.old moves.now state.new n) (λ i. StopsAt ship.now cargo.now call state.old moves.now state.new i) }
+/// Does a move where it is allowed, and counts its rehandles; where it isn't, nothing changes.
+fn try_move(berth: &mut Berth, ship: &Ship, cargo: &Cargo, m: &Move) -> Option<u64>
+    requires { BelongsTo ship.now cargo.now berth.old.state }
+    ensures does { MatchOption result ((Allowed ship.now cargo.now berth.old.state m.now → ⊥) × (berth.new ≡ berth.old)) (λ n. Allowed ship.now cargo.now berth.old.state m.now × (berth.new ≡ record { call = berth.old.call; state = after cargo.now berth.old.call berth.old.state m.now }) × (n ≡ rehandles_of cargo.now berth.old.call berth.old.state m.now) × (n ≤ 1)) }
+    ensures belongs { BelongsTo ship.now cargo.now berth.new.state }
+{
+    if !berth.has(*m) {
+        return None;
+    }
+    let count = berth.rehandles_by(cargo, *m);
+    match berth.step(ship, cargo, *m) {
+        Ok(()) => Some(count),
+        Err(_) => None,
+    }
+}
+
+/// Runs a list of moves. Ok has the number of rehandles, the lifts of containers at a call other than their
+/// destination; Err has the index of the first move that isn't allowed, and the state is the one before it.
+pub fn run(berth: &mut Berth, ship: &Ship, cargo: &Cargo, moves: &[Move]) -> Result<u64, usize>
+    requires { BelongsTo ship.now cargo.now berth.old.state }
+    ensures does { MatchResult result (λ n. Runs ship.now cargo.now berth.old.call berth.old.state moves.now berth.new.state n) (λ i. StopsAt ship.now cargo.now berth.old.call berth.old.state moves.now berth.new.state i) }
+    ensures belongs { BelongsTo ship.now cargo.now berth.new.state }
 {
     let mut count: u64 = 0;
     for (i, m) in moves.iter().enumerate() {
-        if !state.allows(ship, cargo, *m) {
-            return Err(i);
+        match try_move(berth, ship, cargo, m) {
+            None => return Err(i),
+            Some(more) => count += more,
         }
-        count += state.rehandles_by(cargo, call, *m);
-        state.apply(cargo, call, *m);
     }
     Ok(count)
+}
+
+/// Whether two plans hold the same at a place.
+fn is_same_at(a: &Plan, b: &Plan, p: PlaceNo) -> bool
+    requires a_in { p < length a.now }
+    requires b_in { p < length b.now }
+    ensures { IsTrue result ↔ (slice_get a.now p ≡ slice_get b.now p) }
+{
+    a.at(p) == b.at(p)
+}
+
+/// Whether two plans of a ship are the same.
+fn is_same(ship: &Ship, a: &Plan, b: &Plan) -> bool
+    requires first { length a.now ≡ length (places ship.now) }
+    requires second { length b.now ≡ length (places ship.now) }
+    ensures { IsTrue result ↔ (a.now ≡ b.now) }
+{
+    for p in 0..ship.places() {
+        if !is_same_at(a, b, PlaceNo(p)) {
+            return false;
+        }
+    }
+    true
+}
+
+/// Whether the plan is this one, the quay is empty and all covers are on.
+fn ends_at(berth: &Berth, ship: &Ship, cargo: &Cargo, plan: &Plan) -> bool
+    requires belongs { BelongsTo ship.now cargo.now berth.now.state }
+    requires each_place { length plan.now ≡ length (places ship.now) }
+    ensures { IsTrue result ↔ EndsAt ship.now berth.now.state plan.now }
+{
+    if !is_same(ship, berth.plan(), plan) {
+        return false;
+    }
+    match berth.unfinished() {
+        None => true,
+        Some(_) => false,
+    }
 }
 
 /// The rehandles of a call whose moves lead from one departure to the next, or none where they don't.
@@ -42,15 +94,15 @@ pub fn count_call(
     moves: &[Move],
     after: &Plan,
 ) -> Result<Option<u64>, NoMemory>
-    requires first { length before.now ≡ length (places ship.now) }
+    requires first { IsWellFormed ship.now cargo.now before.now }
     requires second { length after.now ≡ length (places ship.now) }
     ensures { IfOk result (λ o. MatchOption o (LeadsTo ship.now cargo.now call before.now moves.now after.now → ⊥) (λ n. LeadsBy ship.now cargo.now call before.now moves.now after.now n)) }
 {
-    let mut state = State::arrive(alloc, ship, cargo, before.copy(alloc)?, call)?;
-    match run(&mut state, ship, cargo, call, moves) {
+    let mut berth = Berth::arrive(alloc, ship, cargo, before.copy(alloc)?, call)?;
+    match run(&mut berth, ship, cargo, moves) {
         Err(_) => Ok(None),
         Ok(count) => {
-            if !state.ends_at(ship, after) {
+            if !ends_at(&berth, ship, cargo, after) {
                 return Ok(None);
             }
             if !is_departure(ship, cargo, after, call) {
@@ -74,7 +126,7 @@ pub fn count_voyage(
     moves: &[MoveList],
     departures: &[Plan],
 ) -> Result<Option<u64>, NoMemory>
-    requires first { length before.now ≡ length (places ship.now) }
+    requires first { IsWellFormed ship.now cargo.now before.now }
     requires each { All (λ p. length p ≡ length (places ship.now)) departures.now }
     ensures { IfOk result (λ o. MatchOption o (IsVoyage ship.now cargo.now call before.now moves.now departures.now → ⊥) (λ n. SailsBy ship.now cargo.now call before.now moves.now departures.now n)) }
 {
@@ -82,11 +134,12 @@ pub fn count_voyage(
     match (moves.split_first(), departures.split_first()) {
         (None, None) => Ok(Some(0)),
         (Some((first, rest)), Some((after, others))) => {
-            let here = count_call(alloc, ship, cargo, call, before, first.as_slice(), after)?;
-            let later = count_voyage(alloc, ship, cargo, next, after, rest, others)?;
-            match (here, later) {
-                (Some(here), Some(later)) => Ok(Some(here.checked_add(later).ok_or(NoMemory)?)),
-                _ => Ok(None),
+            match count_call(alloc, ship, cargo, call, before, first.as_slice(), after)? {
+                None => Ok(None),
+                Some(here) => match count_voyage(alloc, ship, cargo, next, after, rest, others)? {
+                    None => Ok(None),
+                    Some(later) => Ok(Some(here.checked_add(later).ok_or(NoMemory)?)),
+                },
             }
         }
         _ => Ok(None),

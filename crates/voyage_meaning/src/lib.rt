@@ -1,12 +1,18 @@
-//! Crane moves and legal voyages: the definitions, and plain programs beside them.
+//! Crane moves, the ship at a berth, and legal voyages: the definitions, and what does or refuses a move by them.
 #![tactic(auto)]
 
-mod bearing;
+mod berth;
+mod columns;
+mod covers;
 mod crane;
+mod laws;
 mod moves;
-mod states;
+mod numbering;
+mod refusals;
+mod standing;
 
-pub use bearing::is_bearing;
+pub use berth::{Berth, Unfinished};
 pub use crane::{MoveList, count_call, count_voyage, run};
+pub use laws::allowed_without_fault;
 pub use moves::Move;
-pub use states::State;
+pub use refusals::MoveFault;

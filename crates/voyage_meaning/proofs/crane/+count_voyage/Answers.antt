@@ -1,5 +1,6 @@
-use Rattle.std.proofs.Common.{arith, ap, sym, ◌∙◌, length, get_or, List, [], suc}
+use Rattle.std.proofs.Common.{arith, ap, sym, ◌∙◌, length, get_or, List, suc}
 use Rattle.stow_data.specs.Plans.{Plan}
+use Rattle.voyage_meaning.proofs.RunsHold.{departs_well}
 use Rattle.voyage_meaning.proofs.crane.+count_voyage.Goals as goal
 
 pub count_voyage-requires : goal.count_voyage-requires
@@ -9,7 +10,7 @@ count_voyage-requires t c =
     let falls = c.decreases in (
       omega (arith, shorter, falls),
       (
-        sym (ap (λ (ds : List Plan). length (get_or ds 0 [])) both.0) ∙ c.requires.each 0 [] (omega (arith, shorter)),
+        departs_well c.args.ship.now c.args.cargo.now c.args.call c.args.before.now c.as_slice.result.now c.in-Some-Some.after.now c.in_ok-count_call-in-Some-Some.field-0 c.in-Some.here c.in-Some.is c.in_ok-count_call-in-Some-Some.ensures,
         λ k d l. sym (ap (λ (ds : List Plan). length (get_or ds (suc k) d)) both.0) ∙ c.requires.each (suc k) d (omega (arith, shorter)),
       ),
     )

@@ -1,18 +1,26 @@
-use Rattle.std.proofs.Common.{ap, sym, ◌∙◌, subst}
-use Rattle.voyage_meaning.specs.Moves.{State, AllAllowed}
+use Rattle.std.proofs.Common.{ap, sym, ◌∙◌, subst, ◌≡◌}
+use Rattle.std.proofs.lemmas.Bool.{both_ways}
+use Rattle.stow_data.specs.Plans.{Plan}
+use Rattle.stowage_rules.specs.Plan.{IsWellFormed}
 use Rattle.voyage_meaning.specs.Voyage.{start}
-use Rattle.voyage_meaning.specs.Places.{BelongsTo}
-use Rattle.voyage_meaning.proofs.RunsHold.{start_belongs, end_belongs, stops_not}
+use Rattle.voyage_meaning.proofs.Loading.{berth_of}
+use Rattle.voyage_meaning.proofs.RunsHold.{stops_at_berth, leads_at_berth, ends_at_berth}
 use Rattle.voyage_meaning.proofs.crane.count_call.Goals as goal
 
-pub run-requires : goal.run-requires
-run-requires c = subst (λ (s : State). BelongsTo c.args.ship.now c.args.cargo.now s) (sym (c.in_ok-state.ensures.state ∙ ap (start c.args.ship.now c.args.cargo.now c.args.call) c.in_ok-copy.ensures)) (start_belongs c.args.ship.now c.args.cargo.now c.args.call c.args.before.now c.requires.first)
+pub arrive-requires : goal.arrive-requires
+arrive-requires c = subst (λ (p : Plan). IsWellFormed c.args.ship.now c.args.cargo.now p) (sym c.in_ok-copy.ensures) c.requires.first
 
 pub returns-in-Err : goal.returns-in-Err
-returns-in-Err c = λ leads. stops_not c.args.ship.now c.args.cargo.now c.args.call c.args.moves.now c.in_ok-state.state c.run.new.state c.in-Err.field-0 c.in-Err.ensures (subst (λ (s : State). AllAllowed c.args.ship.now c.args.cargo.now c.args.call s c.args.moves.now) (sym (c.in_ok-state.ensures.state ∙ ap (start c.args.ship.now c.args.cargo.now c.args.call) c.in_ok-copy.ensures)) leads.allowed)
+returns-in-Err c =
+    let is : c.in_ok-berth.berth ≡ berth_of c.args.call (start c.args.ship.now c.args.cargo.now c.args.call c.args.before.now) = c.in_ok-berth.ensures.state ∙ ap (λ (p : Plan). berth_of c.args.call (start c.args.ship.now c.args.cargo.now c.args.call p)) c.in_ok-copy.ensures in
+    stops_at_berth c.args.ship.now c.args.cargo.now c.args.call c.args.before.now c.args.after.now c.args.moves.now c.in_ok-berth.berth c.run.new.berth.state c.in-Err.field-0 is c.in-Err.ensures.does
 
-pub ends_at-requires-clause-each_place : goal.ends_at-requires-clause-each_place
-ends_at-requires-clause-each_place c = (subst (λ (s : State). BelongsTo c.args.ship.now c.args.cargo.now s) (sym c.in-Ok.ensures.leads) (end_belongs c.args.ship.now c.args.cargo.now c.args.call c.args.moves.now c.in_ok-state.state (subst (λ (s : State). BelongsTo c.args.ship.now c.args.cargo.now s) (sym (c.in_ok-state.ensures.state ∙ ap (start c.args.ship.now c.args.cargo.now c.args.call) c.in_ok-copy.ensures)) (start_belongs c.args.ship.now c.args.cargo.now c.args.call c.args.before.now c.requires.first)))).each_place
+pub returns-then-not-ends_at : goal.returns-then-not-ends_at
+returns-then-not-ends_at c = λ leads.
+    let is : c.in_ok-berth.berth ≡ berth_of c.args.call (start c.args.ship.now c.args.cargo.now c.args.call c.args.before.now) = c.in_ok-berth.ensures.state ∙ ap (λ (p : Plan). berth_of c.args.call (start c.args.ship.now c.args.cargo.now c.args.call p)) c.in_ok-copy.ensures in
+    both_ways c.ends_at.result c.if-not-ends_at.true (c.ends_at.ensures.1 (ends_at_berth c.args.ship.now c.args.cargo.now c.args.call c.args.before.now c.args.after.now c.args.moves.now c.in_ok-berth.berth c.run.new.berth.state c.in-Ok.count is c.in-Ok.ensures.does leads))
 
-pub ends_at-requires-clause-each_cover : goal.ends_at-requires-clause-each_cover
-ends_at-requires-clause-each_cover c = (subst (λ (s : State). BelongsTo c.args.ship.now c.args.cargo.now s) (sym c.in-Ok.ensures.leads) (end_belongs c.args.ship.now c.args.cargo.now c.args.call c.args.moves.now c.in_ok-state.state (subst (λ (s : State). BelongsTo c.args.ship.now c.args.cargo.now s) (sym (c.in_ok-state.ensures.state ∙ ap (start c.args.ship.now c.args.cargo.now c.args.call) c.in_ok-copy.ensures)) (start_belongs c.args.ship.now c.args.cargo.now c.args.call c.args.before.now c.requires.first)))).each_cover
+pub returns : goal.returns
+returns c =
+    let is : c.in_ok-berth.berth ≡ berth_of c.args.call (start c.args.ship.now c.args.cargo.now c.args.call c.args.before.now) = c.in_ok-berth.ensures.state ∙ ap (λ (p : Plan). berth_of c.args.call (start c.args.ship.now c.args.cargo.now c.args.call p)) c.in_ok-copy.ensures in
+    leads_at_berth c.args.ship.now c.args.cargo.now c.args.call c.args.before.now c.args.after.now c.args.moves.now c.in_ok-berth.berth c.run.new.berth.state c.in-Ok.count is c.in-Ok.ensures.does (c.ends_at.ensures.0 c.if-not-ends_at.false) (c.is_departure.ensures.0 c.if-not-is_departure.false)

@@ -1,5 +1,9 @@
+use Rattle.std.proofs.Common.{◌≡◌}
 use Rattle.voyage_meaning.proofs.RunsHold.{RunsTo}
 use Rattle.voyage_meaning.proofs.crane.run.Given as goal
 
 abbrev pub invariant-loop-i : goal.invariant-loop-i
-invariant-loop-i l = RunsTo l.ship l.cargo l.call l.initial.state l.moves l.i l.state l.count
+invariant-loop-i l = record {
+  runs : RunsTo l.ship l.cargo l.initial.berth.call l.initial.berth.state l.moves l.i l.berth.state l.count;
+  same_call : l.berth.call ≡ l.initial.berth.call;
+}
