@@ -44,12 +44,12 @@ same_cell_itself None = refl
 same_cell_itself (Some None) = refl
 same_cell_itself (Some (Some c)) = eq-eqb c c refl
 
-abbrev is_held : Option (Option ℕ) → Bool
+abbrev pub is_held : Option (Option ℕ) → Bool
 is_held (Some (Some c)) = true
 is_held (Some None) = false
 is_held None = false
 
-held_by : (a : Option (Option ℕ)) → is_held a ≡ true → (c : ℕ) × (a ≡ Some (Some c))
+pub held_by : (a : Option (Option ℕ)) → is_held a ≡ true → (c : ℕ) × (a ≡ Some (Some c))
 held_by (Some (Some c)) h = (c, refl)
 held_by (Some None) h = absurd (both_ways false refl h)
 held_by None h = absurd (both_ways false refl h)

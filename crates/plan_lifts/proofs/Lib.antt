@@ -9,3 +9,4 @@ pub mod Upper
 pub mod Exact
 pub mod Closed
 pub mod Whole
+pub mod Spreads

@@ -18,10 +18,14 @@ starts_on [] k cover h = absurd (none-some cover h)
 starts_on (c ∷ cs) zero cover h = refl
 starts_on (c ∷ cs) (suc k) cover h = starts_on cs k cover h
 
+-- what a call's moves lift from is a closed set
+pub leads_closed : (ship : Ship) (cargo : Cargo) (call : ℕ) (before after : Plan) (moves : List Move) → LeadsTo ship cargo call before moves after → IsClosed ship before after (is_lifted moves)
+leads_closed ship cargo call before after moves leads = subst (λ (x : Plan). IsClosed ship before x (is_lifted moves)) leads.plan (lifted_closed ship cargo call moves (start ship cargo call before) (starts_on ship.covers) leads.allowed)
+
 -- at one call
 pub call_counts : (ship : Ship) (cargo : Cargo) (call : ℕ) (before after : Plan) (moves : List Move) (least : ℕ → Bool) → IsLeastClosed ship before after least → LeadsTo ship cargo call before moves after → counted (lift_count cargo call) least before ≤ rehandles cargo call (start ship cargo call before) moves
 call_counts ship cargo call before after moves least is_least leads =
-    let closed : IsClosed ship before after (is_lifted moves) = subst (λ (x : Plan). IsClosed ship before x (is_lifted moves)) leads.plan (lifted_closed ship cargo call moves (start ship cargo call before) (starts_on ship.covers) leads.allowed) in
+    let closed : IsClosed ship before after (is_lifted moves) = leads_closed ship cargo call before after moves leads in
     omega (arith, counted_more (lift_count cargo call) least (is_lifted moves) before (λ p c held on. is_least.least (is_lifted moves) closed p on) refl, lifted_counts ship cargo call moves (start ship cargo call before) leads.allowed)
 
 -- over the whole voyage
