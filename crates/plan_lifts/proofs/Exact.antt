@@ -39,7 +39,7 @@ puts_free cargo call f new zero p s = refl
 puts_free cargo call f new (suc k) p s = put_free cargo call p (f p) (slice_get new p) (puts_from f new (suc p) k) (λ t. puts_free cargo call f new k (suc p) t) s
 
 -- what the places of the set below n count
-abbrev sum_down : (Option ℕ → ℕ) → (ℕ → Bool) → ℕ → Plan → ℕ
+abbrev pub sum_down : (Option ℕ → ℕ) → (ℕ → Bool) → ℕ → Plan → ℕ
 sum_down w f zero plan = 0
 sum_down w f (suc n) plan = cond (f n) (w (slice_index_or plan n None)) 0 + sum_down w f n plan
 
@@ -73,7 +73,7 @@ sum_front : (w : Option ℕ → ℕ) (f : ℕ → Bool) (n : ℕ) (o : Option �
 sum_front w f zero o os = refl
 sum_front w f (suc n) o os = omega (arith, sum_front w f n o os)
 
-sum_counted : (w : Option ℕ → ℕ) (f : ℕ → Bool) (plan : Plan) → sum_down w f (length plan) plan ≡ counted w f plan
+pub sum_counted : (w : Option ℕ → ℕ) (f : ℕ → Bool) (plan : Plan) → sum_down w f (length plan) plan ≡ counted w f plan
 sum_counted w f [] = refl
 sum_counted w f (o ∷ os) = omega (arith, sum_front w f (length os) o os, sum_counted w (λ p. f (suc p)) os)
 

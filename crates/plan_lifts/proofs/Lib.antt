@@ -10,3 +10,4 @@ pub mod Exact
 pub mod Closed
 pub mod Whole
 pub mod Spreads
+pub mod LiftsHold

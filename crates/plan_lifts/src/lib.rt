@@ -1,6 +1,10 @@
-//! What must be lifted: how a set of filled places spreads upward and onto hatch covers, closed sets of places, and the laws of both bounds on the lifts of legal voyages.
+//! What must be lifted: how a set of filled places spreads upward and onto hatch covers, the least lifts of given departures and their rehandle count, and the laws of both bounds on the lifts of legal voyages.
 #![tactic(auto)]
 
+mod lifting;
+mod listing;
 mod spreading;
 
+pub use lifting::{LiftLists, Lifted, LiftsFault, lifts};
+pub use listing::LiftList;
 pub use spreading::spread;
