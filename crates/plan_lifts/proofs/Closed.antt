@@ -23,13 +23,13 @@ use Rattle.plan_lifts.proofs.Upper.{Facts, moves, moves_reach}
 use Rattle.plan_lifts.proofs.Exact.{moves_count}
 
 -- tests of two cells, and of one
-abbrev same_cell : Option (Option ℕ) → Option (Option ℕ) → Bool
+abbrev pub same_cell : Option (Option ℕ) → Option (Option ℕ) → Bool
 same_cell None None = true
 same_cell (Some None) (Some None) = true
 same_cell (Some (Some c)) (Some (Some d)) = c == d
 same_cell _ _ = false
 
-same_cell_true : (a b : Option (Option ℕ)) → same_cell a b ≡ true → a ≡ b
+pub same_cell_true : (a b : Option (Option ℕ)) → same_cell a b ≡ true → a ≡ b
 same_cell_true None None h = refl
 same_cell_true (Some None) (Some None) h = refl
 same_cell_true (Some (Some c)) (Some (Some d)) h = ap (λ (x : ℕ). Some (Some x)) (eqb-true c d h)
@@ -39,7 +39,7 @@ same_cell_true (Some (Some c)) None h = absurd (both_ways false refl h)
 same_cell_true (Some None) (Some (Some d)) h = absurd (both_ways false refl h)
 same_cell_true (Some (Some c)) (Some None) h = absurd (both_ways false refl h)
 
-same_cell_itself : (a : Option (Option ℕ)) → same_cell a a ≡ true
+pub same_cell_itself : (a : Option (Option ℕ)) → same_cell a a ≡ true
 same_cell_itself None = refl
 same_cell_itself (Some None) = refl
 same_cell_itself (Some (Some c)) = eq-eqb c c refl

@@ -13,7 +13,7 @@ use Rattle.stow_data.specs.Plans.{Plan}
 use Rattle.voyage_meaning.specs.Moves.{State, after, end_of, lift_count, rehandles}
 use Rattle.voyage_meaning.specs.Voyage.{start}
 use Rattle.plan_lifts.specs.Least.{counted}
-use Rattle.plan_lifts.proofs.Runs.{lifts_down, puts_from, put_of, covers_down}
+use Rattle.plan_lifts.specs.Passes.{covers_down, lifts_down, put_of, puts_from}
 use Rattle.plan_lifts.proofs.Upper.{Facts, moves, pass_1, pass_2}
 
 rehandles_append : (cargo : Cargo) (call : ℕ) (xs ys : List Move) (s : State) → rehandles cargo call s (xs ++ ys) ≡ rehandles cargo call s xs + rehandles cargo call (end_of cargo call s xs) ys

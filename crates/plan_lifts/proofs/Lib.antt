@@ -11,3 +11,5 @@ pub mod Closed
 pub mod Whole
 pub mod Spreads
 pub mod LiftsHold
+pub mod Sailing
+pub mod Naming

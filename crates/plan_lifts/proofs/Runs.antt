@@ -14,6 +14,7 @@ use Rattle.stowage_rules.specs.Plan.{Holds, IsWellFormed}
 use Rattle.stowage_rules.specs.Departure.{IsStowed}
 use Rattle.voyage_meaning.specs.Moves.{State, Allowed, AllAllowed, after, end_of}
 use Rattle.plan_lifts.specs.Least.{IsOver, IsClosed}
+use Rattle.plan_lifts.specs.Passes.{covers_down, lifts_down, put_of, puts_from}
 use Rattle.stowage_rules.proofs.Items.{slice_get-set_other, slice_get-set_same}
 use Rattle.plan_lifts.proofs.Steps.{can_lift, can_put}
 use Rattle.plan_lifts.proofs.Phases.{LiftState, PutState, lift_step, put_step}
@@ -28,11 +29,6 @@ then ship cargo call [] ys s P Q x next = next s x.1
 then ship cargo call (m ∷ xs) ys s P Q x next =
     let rest = then ship cargo call xs ys (after cargo call s m) P Q (x.0.1, x.1) next in
     ((x.0.0, rest.0), rest.1)
-
--- lifts from the greatest number below n down
-abbrev pub lifts_down : (ℕ → Bool) → ℕ → List Move
-lifts_down f zero = []
-lifts_down f (suc n) = cond (f n) (Lift n ∷ lifts_down f n) (lifts_down f n)
 
 -- what the state is after lifts: the set f is gone too, and the covers are as they were
 pub record AfterLifts (cargo : Cargo) (call : ℕ) (old : Plan) (gone : ℕ → Bool) (off : List Bool) (s : State) : Type 0 where
@@ -97,17 +93,6 @@ lift_more ship cargo call old new lifted f n again gone s formed closed only lat
 pub lift_run : (ship : Ship) (cargo : Cargo) (call : ℕ) (old new : Plan) (lifted f : ℕ → Bool) (n : ℕ) → LiftRun ship cargo call old new lifted f n
 lift_run ship cargo call old new lifted f zero = lift_none ship cargo call old new lifted f
 lift_run ship cargo call old new lifted f (suc n) = lift_more ship cargo call old new lifted f n (lift_run ship cargo call old new lifted f n)
-
--- a put of what a place holds
-abbrev pub put_of : ℕ → Option (Option ℕ) → List Move
-put_of p (Some (Some c)) = Put c p ∷ []
-put_of p (Some None) = []
-put_of p None = []
-
--- puts from place p up, over so many places
-abbrev pub puts_from : (ℕ → Bool) → Plan → ℕ → ℕ → List Move
-puts_from f new p zero = []
-puts_from f new p (suc k) = cond (f p) (put_of p (slice_get new p)) [] ++ puts_from f new (suc p) k
 
 pub record AfterPuts (new : Plan) (waits : ℕ → Bool) (off : List Bool) (s : State) : Type 0 where
   pub state : PutState new waits s
@@ -186,11 +171,6 @@ put_run ship cargo call new f (suc k) = put_more ship cargo call new f k (put_ru
 -- the covers that are off
 abbrev pub OffIs : Ship → (ℕ → Bool) → List Bool → Type 0
 OffIs ship o off = (k : ℕ) (cover : Cover) → slice_get ship.covers k ≡ Some cover → slice_get off k ≡ Some (o k)
-
--- a cover move for each cover of the set below n
-abbrev pub covers_down : (ℕ → Move) → (ℕ → Bool) → ℕ → List Move
-covers_down make f zero = []
-covers_down make f (suc k) = cond (f k) (make k ∷ covers_down make f k) (covers_down make f k)
 
 -- what changes is the covers alone
 pub record AfterCovers (ship : Ship) (o : ℕ → Bool) (before s : State) : Type 0 where

@@ -21,7 +21,8 @@ use Rattle.plan_lifts.specs.Least.{IsOver, IsOnCoverOf, IsClosed}
 use Rattle.plan_lifts.proofs.Steps.{Lifting, Putting, still_held}
 use Rattle.stowage_rules.proofs.Items.{slice_get_in, same_reads}
 use Rattle.plan_lifts.proofs.Phases.{LiftState, PutState, Loads, WasLifted, IsDue}
-use Rattle.plan_lifts.proofs.Runs.{Reaches, then, lifts_down, lift_run, AfterLifts, puts_from, put_run, AfterPuts, OffIs, covers_down, cover_run, AfterCovers}
+use Rattle.plan_lifts.proofs.Runs.{Reaches, then, lift_run, AfterLifts, put_run, AfterPuts, OffIs, cover_run, AfterCovers}
+use Rattle.plan_lifts.specs.Passes.{covers_down, lifts_down, puts_from}
 
 -- what is known of a call: old and new plan, and the sets that the moves go by
 pub record Facts (ship : Ship) (cargo : Cargo) (call : ℕ) (old new : Plan) (lifted moved deck opened due : ℕ → Bool) : Type 0 where

@@ -1,3 +1,4 @@
 pub mod Least
 pub mod Spread
 pub mod Lifted
+pub mod Passes

@@ -88,7 +88,7 @@ fn is_held(plan: &Plan, set: &FlagList, p: PlaceNo) -> bool
 }
 
 /// The filled places of a set.
-fn held_of(
+pub fn held_of(
     alloc: Global,
     ship: &Ship,
     plan: &Plan,
@@ -174,6 +174,14 @@ pub fn lifts(
     let mut lists = Seq::new(alloc);
     ship.obeys_rules();
     let _calls = cargo.calls();
-    let count = lift_from(alloc, ship, cargo, CallNo(1), cargo.arrival(), plans.as_slice(), &mut lists)?;
+    let count = lift_from(
+        alloc,
+        ship,
+        cargo,
+        CallNo(1),
+        cargo.arrival(),
+        plans.as_slice(),
+        &mut lists,
+    )?;
     Ok(Lifted { lists, count })
 }

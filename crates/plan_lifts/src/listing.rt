@@ -116,7 +116,11 @@ fn count_where(cargo: &Cargo, call: CallNo, plan: &Plan, set: &FlagList, p: Plac
     ensures value { result ≡ cond (has set.now p) (lift_count cargo.now call (held plan.now p)) 0 }
     ensures small { result ≤ 1 }
 {
-    if *set.at(p.0 as usize) { count_at(cargo, call, plan, p) } else { 0 }
+    if *set.at(p.0 as usize) {
+        count_at(cargo, call, plan, p)
+    } else {
+        0
+    }
 }
 
 /// What the places of a set count.
