@@ -1,13 +1,12 @@
 -- What must be lifted, list by list.
-use Rattle.std.specs.Prelude.{Result, Ok, Err, IfOk, ◌≡◌, ◌↔◌, ◌⊎◌, ℕ, ◌+◌, ◌*◌, ◌<◌, ◌≤◌, Bool, true, false, List, [], ◌∷◌, ◌++◌, Option, Some, length, slice_get, slice_index_or, suc, zero, cond, AllPairs, Contains, if◌then◌else◌}
+use Rattle.std.specs.Prelude.{Result, Ok, Err, IfOk, ◌≡◌, ◌↔◌, ◌⊎◌, ℕ, ◌+◌, ◌<◌, ◌≤◌, Bool, true, false, List, [], ◌∷◌, ◌++◌, length, slice_get, suc, zero, AllPairs, Contains, if◌then◌else◌}
 use Rattle.std.proofs.Common.{refl, sym, ◌∙◌, ap, arith, subst, inl, inr, ⊎_elim, get_or, append_assoc}
 use Rattle.std.proofs.lemmas.List.{append-nil}
 use Rattle.std.proofs.lemmas.Bool.{both_ways, or_cases, eqb-true, cases_lt, cases_eq, cases_Bool}
 use Rattle.std.proofs.lemmas.List.Elements.{Contains-get_or, Contains-append_left, Contains-push, Contains-push_cases}
 use Rattle.std.proofs.lemmas.List.Quantifiers.{all_pairs_push}
-use Rattle.std.proofs.lemmas.Option.{same_Some, slice_get_within, slice_get_past, get_or_from_slice_get}
-use Rattle.stow_data.specs.declared.geometry.Place.{Place}
-use Rattle.stow_data.specs.Ship.{Ship, places}
+use Rattle.std.proofs.lemmas.Option.{slice_get_within, slice_get_past}
+use Rattle.stow_data.specs.Ship.{Ship}
 use Rattle.stow_data.specs.Shipment.{Cargo, IsCargo}
 use Rattle.stow_data.specs.Profile.{IsShip}
 use Rattle.stow_data.specs.Plans.{Plan, IsKnown}
@@ -21,7 +20,7 @@ use Rattle.voyage_meaning.specs.declared.moves.Move.{Move}
 use Rattle.voyage_meaning.specs.declared.moves.Move.TheVariants.{OffCover, OnCover, Lift, Put}
 use Rattle.voyage_meaning.specs.Moves.{State, AllAllowed, after, lift_count}
 use Rattle.voyage_meaning.specs.Voyage.{HasCount, IsLegalVoyage, IsVoyage, start}
-use Rattle.plan_lifts.specs.Least.{IsFilled, IsLeastClosed, AreLeast, counted, counted_all}
+use Rattle.plan_lifts.specs.Least.{IsFilled, IsLeastClosed, AreLeast, counted}
 use Rattle.plan_lifts.specs.Spread.{has, IsHeldIn, IsLeastSpread, IsOnOpened, IsOpened}
 use Rattle.plan_lifts.specs.Lifted.{ArePlans, AreLifted, AreListed, IsLifted, IsFirstIllegal, IsLiftsFault, IsListed, Lifts, LiftAll, LiftsFrom}
 use Rattle.plan_lifts.proofs.Lower.{lifts_from, is_lifted, step_keeps}

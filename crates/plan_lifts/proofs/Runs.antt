@@ -1,5 +1,5 @@
 -- Lists of lifts, of puts and of covers.
-use Rattle.std.specs.Prelude.{◌≡◌, ℕ, Bool, true, false, List, [], ◌∷◌, ◌++◌, Option, Some, None, slice_get, slice_set, ◌||◌, ◌&&◌, not, ◌==◌, ◌<◌, ◌≤◌, suc, zero, ◌+◌, cond}
+use Rattle.std.specs.Prelude.{◌≡◌, ℕ, Bool, true, false, List, [], ◌∷◌, ◌++◌, Option, Some, slice_get, slice_set, ◌||◌, ◌&&◌, not, ◌==◌, ◌<◌, ◌≤◌, suc, zero, ◌+◌, cond}
 use Rattle.std.proofs.Common.{refl, sym, ◌∙◌, ap, arith, subst, ⊎_elim}
 use mathlib.Core.Path.{fun_ext}
 use Rattle.std.proofs.lemmas.Bool.{cond-true, cond-false, false_from_ne_true, and_from, and_parts, and_right, and_left, both_ways, or_left, or_right, or_from, eq-eqb, cases_Bool, cases_eq, ne_eqb, not_from_false, not_from_true}

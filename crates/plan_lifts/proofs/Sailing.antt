@@ -1,16 +1,16 @@
 -- The sets that a call's moves go by, and what the moves come to.
-use Rattle.std.specs.Prelude.{Result, Ok, Err, IfOk, ◌≡◌, ◌↔◌, ◌⊎◌, ℕ, ◌+◌, ◌-◌, ◌≤◌, ◌<◌, Bool, true, false, not, List, [], ◌∷◌, ◌++◌, Option, Some, length, slice_get, suc, zero, cond, Contains, ◌&&◌, if◌then◌else◌}
+use Rattle.std.specs.Prelude.{Result, Ok, Err, IfOk, ◌≡◌, ◌↔◌, ◌⊎◌, ℕ, ◌+◌, ◌-◌, ◌≤◌, ◌<◌, Bool, true, false, List, [], ◌∷◌, ◌++◌, Option, length, slice_get, suc, cond, Contains, ◌&&◌, if◌then◌else◌}
 use Rattle.std.proofs.Common.{refl, sym, ◌∙◌, ap, arith, subst, inl, inr, ⊎_elim, append_assoc}
 use mathlib.Core.Path.{fun_ext}
 use Rattle.std.proofs.lemmas.Bool.{both_ways, false_from_ne_true, cases_Bool, and_from, and_parts}
 use Rattle.std.proofs.lemmas.List.{append-nil}
 use Rattle.std.proofs.lemmas.Option.{same_Some}
 use Rattle.stow_data.specs.declared.geometry.Place.{Place}
-use Rattle.stow_data.specs.Ship.{Ship, places, StandsOn}
+use Rattle.stow_data.specs.Ship.{Ship, StandsOn}
 use Rattle.stow_data.specs.Shipment.{Cargo, IsCargo}
 use Rattle.stow_data.specs.Profile.{IsShip}
 use Rattle.stow_data.specs.Plans.{Plan, IsKnown}
-use Rattle.stowage_rules.specs.Plan.{Holds, IsWellFormed}
+use Rattle.stowage_rules.specs.Plan.{IsWellFormed}
 use Rattle.stowage_rules.specs.Departure.{AreDepartures, IsStowed, IsDeparture}
 use Rattle.voyage_meaning.specs.declared.moves.Move.{Move}
 use Rattle.voyage_meaning.specs.Moves.{lift_count, rehandles}
@@ -18,7 +18,7 @@ use Rattle.voyage_meaning.specs.Voyage.{start, LeadsTo, IsVoyage, IsLegalVoyage,
 use Rattle.plan_lifts.specs.Least.{IsClosed, IsLeastClosed, IsFilled, IsDivided, AreLeast, counted}
 use Rattle.plan_lifts.specs.Spread.{IsHeldIn, IsOpened}
 use Rattle.plan_lifts.specs.Lifted.{AreLifted, AreListed, IsListed, SailsLeast}
-use Rattle.plan_lifts.specs.Passes.{IsCallMoves, IsOnCover, Sets, IsListedAt, covers_down, lifts_down, put_of, puts_from}
+use Rattle.plan_lifts.specs.Passes.{IsCallMoves, IsOnCover, Sets, IsListedAt, put_of, puts_from}
 use Rattle.plan_lifts.proofs.Order.{over_is_later}
 use Rattle.plan_lifts.proofs.Closed.{same_cell, same_cell_true, same_cell_itself, is_held, held_by}
 use Rattle.plan_lifts.proofs.Upper.{Facts, moves, moves_reach}

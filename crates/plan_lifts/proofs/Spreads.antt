@@ -1,18 +1,17 @@
 -- How a set spreads, pass by pass.
-use Rattle.std.specs.Prelude.{◌≡◌, ◌↔◌, ◌⊎◌, ℕ, ◌+◌, ◌-◌, ◌<◌, ◌≤◌, Bool, true, false, List, Option, Some, length, slice_get, slice_set, ◌||◌, ◌&&◌, IsTrue, replicate, suc, zero}
+use Rattle.std.specs.Prelude.{◌≡◌, ◌↔◌, ◌⊎◌, ℕ, ◌+◌, ◌<◌, ◌≤◌, Bool, true, false, List, Some, length, slice_get, slice_set, ◌||◌, ◌&&◌, IsTrue, replicate, suc, zero}
 use Rattle.std.proofs.Common.{refl, sym, ◌∙◌, ap, arith, subst, inl, inr, ⊎_elim}
 use Rattle.std.proofs.lemmas.Bool.{and_from, and_parts, both_ways, or_cases, or_left, or_right, cases_eq}
 use Rattle.std.proofs.lemmas.List.{get_or-set_other, get_or-set_same}
 use Rattle.std.proofs.lemmas.Option.{same_Some, slice_get_within, get_or_from_slice_get}
 use Rattle.stow_data.specs.declared.geometry.Place.{Place}
 use Rattle.stow_data.specs.Ship.{Ship, places, LiesUnder, StandsOn}
-use Rattle.stow_data.specs.Profile.{IsShip}
 use Rattle.stow_data.specs.Plans.{Plan}
 use Rattle.stow_data.proofs.InOrder.{higher_is_later}
 use Rattle.stowage_rules.specs.Plan.{Holds}
 use Rattle.stowage_rules.proofs.Rising.{rising}
-use Rattle.plan_lifts.specs.Least.{IsOver, IsOnCoverOf, IsFilled, IsDivided}
-use Rattle.plan_lifts.specs.Spread.{has, HasAll, IsAbove, IsAboveOne, IsFar, IsUpward, IsLeastUpward, IsSpread, IsLeastSpread, IsOnOpened, IsOpened, IsOpenedBy, OpensUnder}
+use Rattle.plan_lifts.specs.Least.{IsOver, IsFilled, IsDivided}
+use Rattle.plan_lifts.specs.Spread.{has, HasAll, IsAboveOne, IsFar, IsUpward, IsLeastUpward, IsLeastSpread, IsOnOpened, IsOpened, IsOpenedBy, OpensUnder}
 use Rattle.plan_lifts.proofs.Order.{over_is_later}
 use Rattle.plan_lifts.proofs.Closed.{is_held, held_by}
 

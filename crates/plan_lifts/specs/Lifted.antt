@@ -1,5 +1,5 @@
 -- What is lifted over a voyage, and the first departure that breaks a rule.
-use Rattle.std.specs.Prelude.{◌≡◌, ◌↔◌, ◌⊎◌, ℕ, ◌*◌, ◌<◌, ◌≤◌, ◌++◌, length, suc, Bool, true, List, [], ◌∷◌, Some, slice_get, AllPairs, Contains}
+use Rattle.std.specs.Prelude.{◌≡◌, ◌↔◌, ◌⊎◌, ℕ, ◌*◌, ◌<◌, ◌≤◌, ◌++◌, length, suc, Bool, true, List, [], ◌∷◌, AllPairs, Contains}
 use Rattle.stow_data.specs.Ship.{Ship}
 use Rattle.stow_data.specs.Shipment.{Cargo}
 use Rattle.stow_data.specs.Plans.{Plan}

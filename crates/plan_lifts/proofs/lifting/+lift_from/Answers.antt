@@ -1,4 +1,4 @@
-use Rattle.std.proofs.Common.{◌≡◌, ◌+◌, ap, arith, ◌∙◌, suc}
+use Rattle.std.proofs.Common.{◌≡◌, ◌+◌, arith}
 use Rattle.plan_lifts.specs.Spread.{has}
 use Rattle.plan_lifts.proofs.LiftsHold.{known_in, lift_more, lift_none, plan_parts}
 use Rattle.plan_lifts.proofs.lifting.+lift_from.Goals as goal

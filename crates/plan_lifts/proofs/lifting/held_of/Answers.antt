@@ -1,9 +1,8 @@
-use Rattle.std.proofs.Common.{◌≡◌, ◌<◌, ◌∙◌, length, ℕ, false, arith}
+use Rattle.std.proofs.Common.{◌<◌, ◌∙◌, length, ℕ, false, arith}
 use Rattle.std.specs.Prelude.{Some}
 use Rattle.std.proofs.lemmas.Option.{slice_get_within}
-use Rattle.stow_data.specs.Ship.{places}
 use Rattle.plan_lifts.specs.Spread.{has, IsHeldIn}
-use Rattle.plan_lifts.proofs.Spreads.{fresh_none, fresh_all, picked_more}
+use Rattle.plan_lifts.proofs.Spreads.{fresh_all, picked_more}
 use Rattle.plan_lifts.proofs.lifting.held_of.Goals as goal
 
 pub loop-p-preserved : goal.loop-p-preserved

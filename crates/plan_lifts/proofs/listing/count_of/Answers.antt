@@ -1,4 +1,4 @@
-use Rattle.std.proofs.Common.{◌≡◌, ℕ, ap, arith, sym, ◌∙◌, length}
+use Rattle.std.proofs.Common.{◌≡◌, ℕ, ap, arith, ◌∙◌, length}
 use Rattle.voyage_meaning.specs.Moves.{lift_count}
 use Rattle.plan_lifts.specs.Spread.{has}
 use Rattle.plan_lifts.proofs.Exact.{sum_down, sum_counted}

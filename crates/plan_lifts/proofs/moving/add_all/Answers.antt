@@ -1,6 +1,6 @@
-use Rattle.std.proofs.Common.{◌≡◌, ◌<◌, ◌∙◌, length, ℕ, true, arith}
+use Rattle.std.proofs.Common.{◌≡◌, ◌<◌, length, ℕ, true, arith}
 use Rattle.plan_lifts.specs.Spread.{has}
-use Rattle.plan_lifts.proofs.Spreads.{picked_none, picked_more, picked_all}
+use Rattle.plan_lifts.proofs.Spreads.{picked_none, picked_all}
 use Rattle.plan_lifts.proofs.LiftsHold.{has_inside}
 use Rattle.plan_lifts.proofs.moving.add_all.Goals as goal
 

@@ -1,5 +1,5 @@
-use Rattle.std.proofs.Common.{◌≡◌, ◌<◌, ◌∙◌, ◌++◌, ap, arith, length, ℕ, List, subst, length-set}
-use Rattle.std.specs.Prelude.{◌↔◌, Bool, Some, true, slice_get, slice_set}
+use Rattle.std.proofs.Common.{◌≡◌, ◌<◌, ◌∙◌, ap, arith, length, ℕ, length-set}
+use Rattle.std.specs.Prelude.{Some, true, slice_get, slice_set}
 use Rattle.std.proofs.lemmas.Option.{slice_get_within}
 use Rattle.plan_lifts.specs.Spread.{has}
 use Rattle.plan_lifts.proofs.Spreads.{gathered_more, gathered_all}

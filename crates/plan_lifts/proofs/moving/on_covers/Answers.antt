@@ -1,4 +1,4 @@
-use Rattle.std.proofs.Common.{◌≡◌, ◌<◌, ◌∙◌, length, ℕ, false, arith}
+use Rattle.std.proofs.Common.{◌<◌, ◌∙◌, length, ℕ, false, arith}
 use Rattle.std.proofs.lemmas.Option.{slice_get_within}
 use Rattle.stow_data.specs.Ship.{places}
 use Rattle.plan_lifts.specs.Spread.{has}

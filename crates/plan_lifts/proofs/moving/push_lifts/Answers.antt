@@ -1,4 +1,4 @@
-use Rattle.std.proofs.Common.{ℕ, ◌++◌, ◌-◌, ◌&&◌, not, cond, Bool, refl, arith, ap, ◌∙◌}
+use Rattle.std.proofs.Common.{ℕ, ◌++◌, ◌&&◌, not, cond, Bool, refl, arith, ap, ◌∙◌}
 use Rattle.voyage_meaning.specs.declared.moves.Move.TheVariants.{Lift}
 use Rattle.plan_lifts.specs.Spread.{has}
 use Rattle.plan_lifts.specs.Passes.{lifts_down}

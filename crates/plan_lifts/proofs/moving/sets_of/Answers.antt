@@ -1,5 +1,3 @@
-use Rattle.std.proofs.Common.{◌≡◌, ℕ, true, inl, inr, ⊎_elim}
-use Rattle.std.specs.Prelude.{slice_get}
 use Rattle.plan_lifts.specs.Spread.{has}
 use Rattle.plan_lifts.proofs.Sailing.{sets_made}
 use Rattle.plan_lifts.proofs.moving.sets_of.Goals as goal

@@ -1,8 +1,8 @@
-use Rattle.std.proofs.Common.{arith, ◌∙◌, ◌<◌, length}
+use Rattle.std.proofs.Common.{arith, ◌<◌, length}
 use Rattle.std.proofs.lemmas.Option.{slice_get_within}
 use Rattle.stow_data.specs.Ship.{places}
 use Rattle.plan_lifts.specs.Spread.{has, IsOpenedBy}
-use Rattle.plan_lifts.proofs.Spreads.{gathered_none, gathered_more, gathered_all}
+use Rattle.plan_lifts.proofs.Spreads.{gathered_more, gathered_all}
 use Rattle.plan_lifts.proofs.spreading.covers_opened.Goals as goal
 
 pub loop-p-preserved : goal.loop-p-preserved

@@ -1,4 +1,4 @@
-use Rattle.std.proofs.Common.{arith, refl, false, true, ◌-◌, ◌<◌, ◌≤◌, ◌+◌, ⊎_elim, ◌≡◌, ℕ, subst}
+use Rattle.std.proofs.Common.{arith, refl, false, ◌-◌, ◌<◌, ◌≤◌, ◌+◌, ⊎_elim, ◌≡◌, ℕ, subst}
 use Rattle.std.proofs.lemmas.Bool.{both_ways, cases_eq}
 use Rattle.plan_lifts.specs.Spread.{has, IsAbove}
 use Rattle.plan_lifts.proofs.Order.{over_is_later}
