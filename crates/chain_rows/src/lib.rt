@@ -2,9 +2,11 @@
 #![tactic(auto)]
 
 mod all_chains;
+mod membership;
 mod right_side;
 #[cfg(test)]
 mod tests;
 
 pub use all_chains::{Chain, Chains};
+pub use membership::{has_pair, is_chain_of, pair_at, pair_count};
 pub use right_side::chain_rhs;

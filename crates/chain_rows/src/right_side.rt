@@ -1,5 +1,5 @@
 //! The right side of a crossing row.
-ghost use Rattle.std.specs.Prelude.{◌≡◌, ◌≤◌, length, All};
+ghost use Rattle.std.specs.Prelude.{◌≡◌, ◌≤◌, ◌^◌, length, unsigned_abs};
 ghost use Rattle.chain_rows.specs.RightSide.{right_side};
 ghost use Rattle.chain_rows.specs.Gains.{gain, best_gain};
 
@@ -14,7 +14,6 @@ fn gain_of(load: u32, columns: u32, height: u32, price: u32) -> u32
 }
 
 fn best_gain_of(load: u32, columns: u32, height: u32, price: u32) -> u32
-    requires load { load ≤ 2000 }
     requires columns { columns ≤ 6000 }
     requires price { price ≤ 6000 }
     requires height { height ≤ 39 }
@@ -28,21 +27,21 @@ fn best_gain_of(load: u32, columns: u32, height: u32, price: u32) -> u32
     best
 }
 
-/// The right side of a crossing row: the loads of the pairs of its chain (containers, at most 6 loads of at most 2,000), less what the
+/// The right side of a crossing row: the loads of the pairs of its chain (containers, at most 6 loads), less what the
 /// columns (at most 6,000, of at most 39 tiers) can keep from being lifted early, each at a price of at most 6,000.
 pub fn chain_rhs(loads: &[u32], columns: u32, height: u32, price: u32) -> i64
     requires few { length loads.now ≤ 6 }
-    requires loads { All (λ t. t ≤ 2000) loads.now }
     requires columns { columns ≤ 6000 }
     requires price { price ≤ 6000 }
     requires height { height ≤ 39 }
-    ensures { result ≡ right_side loads.now columns height price }
+    ensures value { result ≡ right_side loads.now columns height price }
+    ensures size { unsigned_abs result ≤ 2 ^ 36 }
 {
-    let mut kept = price * columns;
-    let mut total: u32 = 0;
+    let mut kept = (price * columns) as u64;
+    let mut total: u64 = 0;
     for load in loads {
-        total += *load;
-        kept += best_gain_of(*load, columns, height, price);
+        total += *load as u64;
+        kept += best_gain_of(*load, columns, height, price) as u64;
     }
     total as i64 - kept as i64
 }

@@ -1,4 +1,4 @@
--- The base rows of the 0-1 program of a voyage: which there are, their coefficients and right sides.
+-- The rows of the 0-1 program of a voyage: which there are, their coefficients and right sides.
 use Rattle.std.specs.Prelude.{ℕ, zero, suc, ◌+◌, ◌-◌, Bool, true, false, not, List, [], Option, Some, None, cond, ◌==◌, ◌&&◌, slice_index_or, length, nat_lt, nat_le, ℤ, pos, ◌-ℤ◌, nat_eq}
 use Rattle.std.specs.List.{list_any}
 use Rattle.std.specs.Option.{option_eq}
@@ -22,6 +22,7 @@ use Rattle.zero_one_rows.specs.declared.program.Row.{Row}
 use Rattle.zero_one_rows.specs.declared.program.Row.TheVariants.{Flow, Start, Cell, Support, Twenty as TwentyOn, Block, Hatch, Weight, Apart, Cross}
 use Rattle.proof_trees.specs.Program.{Program, where_set, Solution}
 use Rattle.zero_one_rows.specs.Variables.{Voyage, calls, all_kinds, kind, place, variables, var, is_rehandled}
+use Rattle.zero_one_rows.specs.Crossing.{crosses, crossing_side, is_crossing}
 
 abbrev pub no_separation : Separation
 no_separation = record { a = []; b = []; level = 0 }
@@ -65,6 +66,19 @@ is_filled (Some c) = true
 abbrev pub is_twenty : Length → Bool
 is_twenty Twenty = true
 is_twenty Forty = false
+
+-- of the nine families of base rows; the tenth are the crossing rows
+abbrev pub is_base : Row → Bool
+is_base (Flow q i g) = true
+is_base (Start q p) = true
+is_base (Cell i h) = true
+is_base (Support i h) = true
+is_base (TwentyOn i h) = true
+is_base (Block j h) = true
+is_base (Hatch w j h d) = true
+is_base (Weight i k) = true
+is_base (Apart i e p q) = true
+is_base (Cross l p c) = false
 
 -- there after call i; passing call j; ending at call j
 abbrev pub active : ℕ → Var → Bool
@@ -110,7 +124,7 @@ module _ (m : Voyage) where
   abbrev pub moved : ℕ → ℕ → Half → Var → Bool
   moved w j h x = cond (w == 0) (out j h x) (into j h x)
 
-  -- coefficients of the base rows; a crossing row is none
+  -- coefficients
   abbrev pub coef : Row → Var → ℤ
   coef (Flow q i g) x = turned q (bit ((x.put == i) && (x.kind == g)) -ℤ bit ((x.lifted == i) && (x.kind == g)))
   coef (Start q p) x = turned q (bit ((x.put == 0) && (x.place == p)))
@@ -121,7 +135,7 @@ module _ (m : Voyage) where
   coef (Hatch w j h d) x = less (moved w j (half h) x) -ℤ bit (stay j (half d) x)
   coef (Weight i k) x = pos 0 -ℤ where_set (((place m x.place).stack == k) && active i x) (pos (kind m x.kind).kg)
   coef (Apart i e p q) x = less (occ_class i p (separation e).a x) -ℤ bit (occ_class i q (separation e).b x)
-  coef (Cross l p c) x = pos 0
+  coef (Cross l p c) x = bit (crosses m l c x)
 
   -- right sides
   abbrev pub rhs : Row → ℤ
@@ -134,7 +148,7 @@ module _ (m : Voyage) where
   rhs (Hatch w j h d) = less true
   rhs (Weight i k) = pos 0 -ℤ pos (stack k).limit_kg
   rhs (Apart i e p q) = less true
-  rhs (Cross l p c) = pos 0
+  rhs (Cross l p c) = crossing_side m l p c
 
   -- calls 1 to N - 1
   abbrev pub is_call : ℕ → Bool
@@ -146,7 +160,7 @@ module _ (m : Voyage) where
   abbrev pub is_place : ℕ → Bool
   is_place p = nat_lt p (length (places m.ship))
 
-  -- the base rows that there are
+  -- the rows that there are
   abbrev pub has : Row → Bool
   has (Flow q i g) = nat_lt q 2 && (is_call i && (nat_lt g (length (all_kinds m)) && (nat_le (kind m g).first i && nat_lt i (kind m g).dest)))
   has (Start q p) = nat_lt q 2 && is_filled (slice_index_or m.cargo.arrival p None)
@@ -157,11 +171,11 @@ module _ (m : Voyage) where
   has (Hatch w j h d) = nat_lt w 2 && (is_call j && (is_half h && (is_half d && (((half d).tier == 0) && cover_joins m.ship.covers (half h).stack (half d).stack))))
   has (Weight i k) = is_call i && nat_lt k (length m.ship.stacks)
   has (Apart i e p q) = is_call i && (nat_lt e (length m.ship.separations) && (is_place p && (is_place q && near m.ship (separation e).level (place m p) (place m q))))
-  has (Cross l p c) = false
+  has (Cross l p c) = is_crossing m l p c
 
-  -- the base rows as one program over the variables' numbers
-  abbrev pub base : Program Row
-  base = record {
+  -- all rows as one program over the variables' numbers
+  abbrev pub whole : Program Row
+  whole = record {
     vars = length (variables m);
     cost = λ v. bit (is_rehandled m (var m v));
     coef = λ r v. coef r (var m v);
@@ -169,6 +183,14 @@ module _ (m : Voyage) where
     has = has;
   }
 
+  -- the base rows as one program
+  abbrev pub base : Program Row
+  base = record whole { has = λ r. is_base r && has r }
+
   -- a 0-1 assignment that meets every base row
   abbrev pub IsSolution : (ℕ → Bool) → Type 0
   IsSolution x = Solution base x
+
+  -- each such assignment meets the crossing rows too
+  abbrev pub CrossingRowsHold : Type 0
+  CrossingRowsHold = (x : ℕ → Bool) → IsSolution x → Solution whole x
