@@ -1,3 +1,4 @@
 pub mod Places
 pub mod EachOnce
 pub mod Signed
+pub mod Pairs

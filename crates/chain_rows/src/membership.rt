@@ -1,5 +1,5 @@
 //! Which lists of numbers are chains, and which pairs of calls a chain has.
-ghost use Rattle.std.specs.Prelude.{◌≡◌, ◌<◌, ◌≤◌, length, slice_get, Some};
+ghost use Rattle.std.specs.Prelude.{◌≡◌, ◌/◌, ◌<◌, ◌≤◌, length, slice_get, Some};
 ghost use Rattle.chain_rows.specs.Chains.{rises, is_chain, is_pair, pairs_of};
 
 use crate::all_chains::Chain;
@@ -43,6 +43,7 @@ pub fn has_pair(chain: &Chain, load: u32, dest: u32) -> bool
 /// How many pairs a chain has.
 pub fn pair_count(chain: &Chain) -> usize
     ensures number { result ≡ length (pairs_of chain.now) }
+    ensures half { result ≡ length chain.now / 2 }
     ensures few { result ≤ 6 }
 {
     chain.items().len() / 2
@@ -53,7 +54,8 @@ pub fn pair_at(chain: &Chain, k: usize) -> (u32, u32)
     requires { k < length (pairs_of chain.now) }
     ensures { slice_get (pairs_of chain.now) k ≡ Some result }
 {
+    let half = pair_count(chain);
+    prove!(k < half);
     let numbers = chain.items();
-    let (loads, dests) = numbers.split_at(numbers.len() / 2);
-    (loads[k], dests[k])
+    (numbers[k], numbers[half + k])
 }
