@@ -161,7 +161,7 @@ impl<'a> Model<'a> {
         requires row { (early m).has r.now ≡ true }
         ensures { result ≡ (early m).rhs r.now }
     {
-        zero_one_rows::right_side(self.ship, &self.kinds, r)
+        zero_one_rows::right_side(self.ship, self.cargo, &self.kinds, r)
     }
 
     fn cost_of(&self, x: Var) -> u32

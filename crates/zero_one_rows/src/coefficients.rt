@@ -1,4 +1,4 @@
-//! Coefficients of the base rows.
+//! Parts of the coefficients of base rows.
 ghost use Rattle.std.specs.Prelude.{◌≡◌, ℕ, ◌+◌, ◌-◌, ◌<◌, ◌≤◌, ◌^◌, ◌&&◌, ◌==◌, nat_lt, nat_le, cond, Some, length, ℤ, pos, ◌-ℤ◌, unsigned_abs, nat_eq, slice_index_or};
 ghost use Rattle.std.specs.Option.{option_eq};
 ghost use Rattle.std.specs.Cmp.Lexicographic.{pointwise};

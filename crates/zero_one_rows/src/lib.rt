@@ -2,6 +2,7 @@
 #![tactic(auto)]
 
 mod coefficients;
+mod crossing;
 mod laws;
 mod lookups;
 mod program;
@@ -9,6 +10,7 @@ mod program;
 mod tests;
 
 pub use coefficients::{half_at, kind_at, place_at, stack_at, under};
+pub use crossing::{columns, is_crossing, tallest};
 pub use laws::variables_stand_once;
 pub use lookups::{coefficient, cost_at, right_side};
 pub use program::{Raise, RaiseList, Row, RowList, Var, VarList};

@@ -1,4 +1,4 @@
-//! The coefficient of a variable in a row.
+//! The coefficient of a variable in a row, right sides and costs.
 ghost use Rattle.std.specs.Prelude.{◌≡◌, ℕ, ◌+◌, ◌<◌, ◌^◌, ◌&&◌, ◌==◌, cond, length, ℤ, pos, ◌-ℤ◌, nat_eq, Some};
 ghost use Rattle.std.specs.Option.{option_eq};
 ghost use Rattle.std.specs.Cmp.Lexicographic.{pointwise};
@@ -13,8 +13,9 @@ use crate::coefficients::{
     as_one, half_at, has_half, heavy, is_active, is_class, is_end, is_past, is_short, kind_at,
     loads_at_call, over, place_at, separation_at, stack_at, turned_of, under,
 };
+use crate::crossing::{crossing_right, is_crossing_variable};
 use crate::program::{Row, Var};
-use stow_data::{Half, Kind, Kinds, Name, Place, Ship};
+use stow_data::{Cargo, Half, Kind, Kinds, Name, Place, Ship};
 
 fn is_both(a: u32, b: u32, c: u32, d: u32) -> bool
     ensures { result ≡ ((a == b) && (c == d)) }
@@ -40,7 +41,7 @@ fn is_class_at(call: u32, place: u32, class: &Name, kind: &Kind, x: Var) -> bool
     x.place.0 == place && is_class(kind, class) && is_active(call, x)
 }
 
-/// The coefficient of a variable in a base row.
+/// The coefficient of a variable in a row.
 pub fn coefficient(ship: &Ship, kinds: &Kinds, row: &Row, x: Var) -> i64
     ghost m: { Voyage }
     requires ship { ship.now ≡ m.ship }
@@ -102,14 +103,17 @@ pub fn coefficient(ship: &Ship, kinds: &Kinds, row: &Row, x: Var) -> i64
             0 - as_one(is_class_at(call.0, first.0, &e.a, k, x))
                 - as_one(is_class_at(call.0, second.0, &e.b, k, x))
         }
-        Row::Cross { .. } => 0,
+        Row::Cross { length, chain, .. } => {
+            as_one(is_crossing_variable(kinds, *length, chain, x))
+        }
     }
 }
 
-/// The right side of a base row.
-pub fn right_side(ship: &Ship, kinds: &Kinds, row: &Row) -> i64
+/// The right side of a row.
+pub fn right_side(ship: &Ship, cargo: &Cargo, kinds: &Kinds, row: &Row) -> i64
     ghost m: { Voyage }
     requires ship { ship.now ≡ m.ship }
+    requires cargo { cargo.now ≡ m.cargo }
     requires kinds { AreKinds m.ship.weight_step m.cargo.containers kinds.now }
     requires row { InRange m row.now }
     ensures { result ≡ rhs m row.now }
@@ -117,12 +121,17 @@ pub fn right_side(ship: &Ship, kinds: &Kinds, row: &Row) -> i64
     match row {
         Row::Flow { q, call, kind } => turned_of(*q, loads_at_call(kinds, *call, *kind) as i64),
         Row::Start { q, .. } => turned_of(*q, 1),
-        Row::Support { .. } | Row::Twenty { .. } | Row::Cross { .. } => 0,
+        Row::Support { .. } | Row::Twenty { .. } => 0,
         Row::Weight { stack, .. } => {
             let limit = stack_at(ship, *stack).limit_kg;
             0 - limit as i64
         }
         Row::Cell { .. } | Row::Block { .. } | Row::Hatch { .. } | Row::Apart { .. } => -1,
+        Row::Cross {
+            length,
+            price,
+            chain,
+        } => crossing_right(ship, cargo, *length, *price, chain),
     }
 }
 
