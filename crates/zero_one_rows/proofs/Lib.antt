@@ -1,3 +1,4 @@
 pub mod Listing
 pub mod FewColumns
 pub mod HalfStacks
+pub mod Sizes
