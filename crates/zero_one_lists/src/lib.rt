@@ -9,4 +9,4 @@ mod row_lists;
 pub use groups::{Groups, group};
 pub use listing::{Listing, list_variables};
 pub use offers::{Offers, gather_offers};
-pub use row_lists::{RowLists, is_running, is_under, list_rows};
+pub use row_lists::{RowLists, list_rows};

@@ -41,7 +41,7 @@ fn push_pair(pairs: &mut Seq<Pair>, pair: Pair, wanted: bool) -> Result<(), NoMe
 }
 
 /// Whether containers of the kind are on their way after the call.
-pub fn is_running(kinds: &Kinds, call: CallNo, g: KindNo) -> bool
+fn is_running(kinds: &Kinds, call: CallNo, g: KindNo) -> bool
     ghost m: { Voyage }
     requires kinds { kinds.now.list ≡ all_kinds m }
     requires kind { g < length (all_kinds m) }
@@ -89,7 +89,7 @@ fn list_pairs(alloc: Global, kinds: &Kinds, calls: u32) -> Result<Seq<Pair>, NoM
 }
 
 /// Whether the half-cell has one above.
-pub fn is_under(ship: &Ship, h: Half) -> bool
+fn is_under(ship: &Ship, h: Half) -> bool
     requires { h.stack < length ship.now.stacks }
     ensures { result ≡ nat_lt (h.tier + 1) (slice_index_or ship.now.stacks h.stack no_stack).tiers }
 {
