@@ -1,0 +1,7 @@
+mod Tests
+mod Names
+mod Numbering
+mod Greatest
+mod Rowed
+mod Most
+mod Tiers

@@ -1,0 +1,5 @@
+pub mod Sums
+pub mod Classes
+pub mod Built
+pub mod Values
+pub mod Laws
