@@ -1,7 +1,8 @@
-mod Tests
+mod Excluding
 mod Names
 mod Numbering
 mod Greatest
 mod Rowed
 mod Most
 mod Tiers
+mod Fixing

@@ -23,7 +23,7 @@ use Rattle.row_sums.specs.declared.sums.Sign.TheVariants.{Plus, Minus}
 use Rattle.row_sums.specs.Sums.{parts, holds, in_sum, in_part, class_named, class_number, moved_sum}
 use Rattle.row_sums.specs.Laws.{HasParts, AreSums, ShareNone, in_parts, in_second}
 use Rattle.row_sums.proofs.Names.{first_named, second_named}
-use Rattle.row_sums.proofs.Tests.{left_true, right_true, flow_apart, tiers_apart, twenty_apart, ends_apart, puts_apart, places_apart}
+use Rattle.row_sums.proofs.Excluding.{left_true, right_true, flow_apart, tiers_apart, twenty_apart, ends_apart, puts_apart, places_apart}
 
 -- a fact on the sums of a row, where it has any
 abbrev pub Each : (Parts → Type 0) → Option Parts → Type 0

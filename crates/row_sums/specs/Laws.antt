@@ -1,14 +1,15 @@
 -- Each base row is its one or two signed sums.
-use Rattle.std.specs.Prelude.{◌≡◌, ℕ, Bool, true, false, ◌&&◌, Option, Some, None, ℤ, pos, ◌+ℤ◌}
-use Rattle.proof_trees.specs.Boxes.{Box, most}
+use Rattle.std.specs.Prelude.{◌≡◌, ℕ, ◌<◌, Bool, true, false, ◌&&◌, Option, Some, None, length, ℤ, pos, ◌+ℤ◌, ◌-ℤ◌}
+use Rattle.proof_trees.specs.Boxes.{Box, at, fixed, most}
 use Rattle.zero_one_rows.specs.declared.program.Var.{Var}
 use Rattle.zero_one_rows.specs.declared.program.Row.{Row}
-use Rattle.zero_one_rows.specs.Variables.{Voyage, is_var}
+use Rattle.zero_one_rows.specs.Variables.{Voyage, variables, var, is_var}
 use Rattle.zero_one_rows.specs.Rows.{coef, has, base}
+use Rattle.row_sums.specs.declared.sums.Sum.{Sum}
 use Rattle.row_sums.specs.declared.sums.Part.{Part}
 use Rattle.row_sums.specs.declared.sums.Parts.{Parts}
-use Rattle.row_sums.specs.Sums.{parts, holds, in_part}
-use Rattle.row_sums.specs.Values.{most_of_parts}
+use Rattle.row_sums.specs.Sums.{parts, holds, in_sum, in_part}
+use Rattle.row_sums.specs.Values.{least_of, most_of, most_of_parts}
 
 abbrev pub in_second : Voyage → Option Part → Var → ℤ
 in_second m None x = pos 0
@@ -34,3 +35,13 @@ ShareNone = (m : Voyage) (r : Row) (ps : Parts) (second : Part) → has m r ≡ 
 -- so the greatest value of a row over a box is that of its sums
 abbrev pub MostBySums : Type 0
 MostBySums = (m : Voyage) (r : Row) (ps : Parts) (b : Box) → has m r ≡ true → parts m r ≡ Some ps → most (base m) b r ≡ most_of_parts m b ps
+
+-- fixing a free variable to 0 changes greatest values alone, and so only rows that have its sum with plus
+abbrev pub FixedToZero : Type 0
+FixedToZero = (m : Voyage) (b : Box) (a : Sum) (v : ℕ) → v < length (variables m) → v < length b → at b v ≡ None
+    → (least_of m (fixed b v false) a ≡ least_of m b a) × (most_of m (fixed b v false) a ≡ most_of m b a -ℤ in_sum m a (var m v))
+
+-- fixing it to 1 changes least values alone, and so only rows that have its sum with minus
+abbrev pub FixedToOne : Type 0
+FixedToOne = (m : Voyage) (b : Box) (a : Sum) (v : ℕ) → v < length (variables m) → v < length b → at b v ≡ None
+    → (most_of m (fixed b v true) a ≡ most_of m b a) × (least_of m (fixed b v true) a ≡ least_of m b a +ℤ in_sum m a (var m v))

@@ -8,9 +8,7 @@ mod families;
 mod laws;
 mod rows;
 mod sums;
-#[cfg(test)]
-mod tests;
 
-pub use laws::rows_are_sums;
+pub use laws::{a_fix_changes_one_side, rows_are_sums};
 pub use rows::RowSums;
 pub use sums::{ClassNo, Part, Parts, Sign, Sum};

@@ -23,8 +23,8 @@ use stow_data::{
 use zero_one_rows::{Row, Var, half_at, kind_at, place_at};
 
 /// Whether the half-cell is one of the place's.
-fn stands_in(p: Place, h: Half) -> bool
-    ensures { result ≡ covers p h }
+fn stands_in(p: Place, h: &Half) -> bool
+    ensures { result ≡ covers p h.now }
 {
     let takes_side = match p.span {
         Span::Fore => !h.aft,
@@ -135,41 +135,40 @@ impl<'a> RowSums<'a> {
     }
 
     /// Whether a variable is one of a sum's.
-    pub fn holds(&self, sum: Sum, x: Var) -> bool
+    pub fn holds(&self, sum: &Sum, x: Var) -> bool
         requires place { x.place < length (places self.now.ship) }
         requires kind { x.kind < length (all_kinds self.now) }
-        ensures { result ≡ holds self.now sum x }
+        ensures { result ≡ holds self.now sum.now x }
     {
         let p = place_at(self.ship, x.place);
+        let k = kind_at(&self.kinds, x.kind);
         match sum {
-            Sum::Put { call, kind } => x.put == call && x.kind == kind,
-            Sum::Lifted { call, kind } => x.lifted == call && x.kind == kind,
-            Sum::Start { place } => x.put.0 == 0 && x.place == place,
-            Sum::Occupied { call, half } => stands_in(p, half) && is_there(call, x),
+            Sum::Put { call, kind } => x.put == *call && x.kind == *kind,
+            Sum::Lifted { call, kind } => x.lifted == *call && x.kind == *kind,
+            Sum::Start { place } => x.put.0 == 0 && x.place == *place,
+            Sum::Occupied { call, half } => stands_in(p, half) && is_there(*call, x),
             Sum::OccupiedByTwenty { call, half } => {
-                let k = kind_at(&self.kinds, x.kind);
-                k.long == Length::Twenty && (stands_in(p, half) && is_there(call, x))
+                k.long == Length::Twenty && (stands_in(p, half) && is_there(*call, x))
             }
             Sum::OccupiedByClass { call, place, class } => {
-                let k = kind_at(&self.kinds, x.kind);
-                x.place == place
-                    && (is_of_class(k, class_bytes(self.ship, class)) && is_there(call, x))
+                x.place == *place
+                    && (is_of_class(k, class_bytes(self.ship, *class)) && is_there(*call, x))
             }
             Sum::Staying { call, half } => {
-                stands_in(p, half) && (x.put < call && call < x.lifted)
+                stands_in(p, half) && (x.put < *call && *call < x.lifted)
             }
             Sum::LiftedFrom { call, half } => {
-                stands_in(p, half) && (x.put < call && x.lifted == call)
+                stands_in(p, half) && (x.put < *call && x.lifted == *call)
             }
-            Sum::PutInto { call, half } => stands_in(p, half) && x.put == call,
-            Sum::Weight { call, stack } => p.stack == stack && is_there(call, x),
+            Sum::PutInto { call, half } => stands_in(p, half) && x.put == *call,
+            Sum::Weight { call, stack } => p.stack == *stack && is_there(*call, x),
         }
     }
 
     /// What a variable counts in a sum that holds it: its kind's rounded weight, or 1.
-    pub fn counts(&self, sum: Sum, x: Var) -> u32
+    pub fn counts(&self, sum: &Sum, x: Var) -> u32
         requires { x.kind < length (all_kinds self.now) }
-        ensures { result ≡ counts self.now sum x }
+        ensures { result ≡ counts self.now sum.now x }
     {
         match sum {
             Sum::Weight { .. } => kind_at(&self.kinds, x.kind).kg,

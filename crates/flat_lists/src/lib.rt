@@ -1,0 +1,8 @@
+//! Lists of lists whose items lie one after the other in one array.
+#![tactic(auto)]
+
+mod lists;
+#[cfg(test)]
+mod tests;
+
+pub use lists::FlatLists;
