@@ -88,11 +88,22 @@ fn expect_piled(
     Ok(())
 }
 
+fn covered() -> MoveFault {
+    MoveFault::CoverOver { cover: CoverNo(0) }
+}
+
+fn unsupported(half: u32) -> MoveFault {
+    MoveFault::Unsupported { half: HalfNo(half) }
+}
+
+fn already() -> MoveFault {
+    MoveFault::AlreadySo { cover: CoverNo(0) }
+}
+
 fn lifts(rt: &impl Abort, alloc: Global) -> Result<(), NoMemory> {
     let nothing_there = [FROM_DECK, OPEN, Move::Lift(PlaceNo(0))];
     expect(rt, alloc, &nothing_there, Err(MoveFault::NotThere))?;
-    let under_cover = MoveFault::CoverOver { cover: CoverNo(0) };
-    expect(rt, alloc, &[FROM_HOLD], Err(under_cover))?;
+    expect(rt, alloc, &[FROM_HOLD], Err(covered()))?;
     let under_plain = MoveFault::Blocked { half: HalfNo(2) };
     expect_piled(rt, alloc, &[OPEN, FROM_HOLD], under_plain)
 }
@@ -126,11 +137,10 @@ fn taken_and_weak(rt: &impl Abort, alloc: Global) -> Result<(), NoMemory> {
         &aft_of_reefer,
         Err(MoveFault::Taken { half: HalfNo(1) }),
     )?;
-    let fore_below = MoveFault::Unsupported { half: HalfNo(0) };
     let on_forty = [FROM_DECK, OPEN, Move::Put(TWENTY, PlaceNo(3))];
-    expect(rt, alloc, &on_forty, Err(fore_below))?;
+    expect(rt, alloc, &on_forty, Err(unsupported(0)))?;
     let over_nothing = [FROM_DECK, OPEN, FROM_HOLD, Move::Put(PLAIN, PlaceNo(5))];
-    expect(rt, alloc, &over_nothing, Err(fore_below))
+    expect(rt, alloc, &over_nothing, Err(unsupported(0)))
 }
 
 #[test]
@@ -142,9 +152,8 @@ fn a_put_has_no_room(rt: HostRuntime) -> Result<(), Fail> {
 fn covers(rt: &impl Abort, alloc: Global) -> Result<(), NoMemory> {
     let on_deck = MoveFault::Standing { half: HalfNo(4) };
     expect(rt, alloc, &[OPEN], Err(on_deck))?;
-    let already = MoveFault::AlreadySo { cover: CoverNo(0) };
-    expect(rt, alloc, &[CLOSE], Err(already))?;
-    expect(rt, alloc, &[FROM_DECK, OPEN, OPEN], Err(already))
+    expect(rt, alloc, &[CLOSE], Err(already()))?;
+    expect(rt, alloc, &[FROM_DECK, OPEN, OPEN], Err(already()))
 }
 
 #[test]
@@ -163,9 +172,8 @@ fn early_causes(rt: &impl Abort, alloc: Global) -> Result<(), NoMemory> {
 }
 
 fn late_causes(rt: &impl Abort, alloc: Global) -> Result<(), NoMemory> {
-    let over = MoveFault::CoverOver { cover: CoverNo(0) };
-    expect(rt, alloc, &[Move::Put(TWENTY, PlaceNo(1))], Err(over))?;
-    expect_piled(rt, alloc, &[FROM_HOLD], over)?;
+    expect(rt, alloc, &[Move::Put(TWENTY, PlaceNo(1))], Err(covered()))?;
+    expect_piled(rt, alloc, &[FROM_HOLD], covered())?;
     let taken = MoveFault::Taken { half: HalfNo(2) };
     expect_piled(rt, alloc, &[OPEN, Move::Put(TWENTY, PlaceNo(3))], taken)
 }
