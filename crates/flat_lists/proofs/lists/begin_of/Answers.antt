@@ -1,4 +1,4 @@
-use Rattle.std.proofs.Common.{◌≡◌, ◌<◌, zero, arith}
+use Rattle.std.proofs.Common.{arith}
 use Rattle.flat_lists.proofs.Cuts.{begins_there}
 use Rattle.flat_lists.proofs.lists.begin_of.Goals as goal
 

@@ -1,7 +1,7 @@
-use Rattle.std.proofs.Common.{◌≡◌, ℕ, ◌<◌, ◌≤◌, List, [], length, get_or, ◌∙◌, ap, sym, subst, arith}
+use Rattle.std.proofs.Common.{◌≡◌, ℕ, ◌<◌, List, [], length, get_or, ◌∙◌, ap, sym, arith}
 use Rattle.std.specs.Prelude.{slice_range, slice_index_or}
 use Rattle.std.proofs.lemmas.List.{get_or_past}
-use Rattle.flat_lists.specs.Cut.{lists_in, begins}
+use Rattle.flat_lists.specs.Cut.{begins}
 use Rattle.flat_lists.proofs.Cuts.{cut_length, cut_at, rises_at}
 use Rattle.flat_lists.proofs.lists.FlatLists.at.Goals as goal
 

@@ -1,4 +1,4 @@
-use Rattle.std.proofs.Common.{◌≡◌, List, [], ◌∷◌, ◌++◌, ◌∙◌, ap, if◌then◌else◌}
+use Rattle.std.proofs.Common.{List, [], ◌∷◌, ◌++◌, ◌∙◌, ap, if◌then◌else◌}
 use Rattle.std.specs.Prelude.{is_ok}
 use Rattle.flat_lists.proofs.Cuts.{pushed}
 use Rattle.flat_lists.proofs.lists.FlatLists.push.Goals as goal
