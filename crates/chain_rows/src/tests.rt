@@ -1,5 +1,5 @@
 //! Rows worked out by hand.
-use crate::{Chain, Chains, chain_rhs, has_pair, is_chain_of};
+use crate::{Chain, Chains, chain_rhs};
 
 // Of the numbers 0 to 4 there are five rising rows of four.
 #[test]
@@ -38,20 +38,4 @@ fn two_loads_in_one_column(rt: HostRuntime) {
 #[test]
 fn no_loads(rt: HostRuntime) {
     assert_eq!(rt; chain_rhs(&[0, 0], 3, 4, 1), -3);
-}
-
-// Four rising calls; the last may be the voyage's last.
-#[test]
-fn chains_rise_to_the_last_call(rt: HostRuntime) {
-    assert!(rt; is_chain_of(&Chain::of(&[0, 1, 3, 4]), 4));
-    assert!(rt; !is_chain_of(&Chain::of(&[0, 1, 3, 4]), 3));
-    assert!(rt; !is_chain_of(&Chain::of(&[0, 3, 1, 4]), 4));
-}
-
-// 1 goes with 3, and 2 with 4.
-#[test]
-fn pairs_of_four_calls(rt: HostRuntime) {
-    let chain = Chain::of(&[1, 2, 3, 4]);
-    assert!(rt; has_pair(&chain, 1, 3) && has_pair(&chain, 2, 4));
-    assert!(rt; !has_pair(&chain, 1, 4) && !has_pair(&chain, 2, 3));
 }
