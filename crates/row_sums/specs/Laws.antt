@@ -4,7 +4,7 @@ use Rattle.proof_trees.specs.Boxes.{Box, at, fixed, most}
 use Rattle.zero_one_rows.specs.declared.program.Var.{Var}
 use Rattle.zero_one_rows.specs.declared.program.Row.{Row}
 use Rattle.zero_one_rows.specs.Variables.{Voyage, variables, var, is_var}
-use Rattle.zero_one_rows.specs.Rows.{coef, has, base}
+use Rattle.zero_one_rows.specs.Rows.{coef, has, is_base, base}
 use Rattle.row_sums.specs.declared.sums.Sum.{Sum}
 use Rattle.row_sums.specs.declared.sums.Part.{Part}
 use Rattle.row_sums.specs.declared.sums.Parts.{Parts}
@@ -21,7 +21,7 @@ in_parts m ps x = in_part m ps.first x +ℤ in_second m ps.second x
 
 -- each base row has its sums
 abbrev pub HasParts : Type 0
-HasParts = (m : Voyage) (r : Row) → has m r ≡ true → (ps : Parts) × (parts m r ≡ Some ps)
+HasParts = (m : Voyage) (r : Row) → is_base r ≡ true → (ps : Parts) × (parts m r ≡ Some ps)
 
 -- a row's coefficient at a variable is the signed count of the variable in those of its sums that hold it
 abbrev pub AreSums : Type 0
