@@ -127,6 +127,7 @@ impl Folder for MemFolder {
         ensures stays { files_in self.new ≡ files_in self.old }
         ensures later { (calls_of self.old).faults ≤ (calls_of self.new).faults }
         ensures failed { IsErrOf result FolderNo.Failed → Rose (calls_of self.old).faults (calls_of self.new).faults }
+        ensures quiet { (IsErrOf result FolderNo.Failed → ⊥) → (calls_of self.new).faults ≡ (calls_of self.old).faults }
         ensures fails { IsErrOf result FolderNo.Failed ↔ (NextFails (calls_of self.old) ⊎ IsUnreadable (files_in self.old) name.now) }
         ensures fault { IsErrOf result FolderNo.Failed → calls_of self.new ≡ after_fault (calls_of self.old) }
         ensures counted { (IsErrOf result FolderNo.Failed → ⊥) → calls_of self.new ≡ after_call (calls_of self.old) }
@@ -150,6 +151,7 @@ impl Folder for MemFolder {
         ensures err { OnErr result (files_in self.new ≡ files_in self.old) }
         ensures later { (calls_of self.old).faults ≤ (calls_of self.new).faults }
         ensures failed { IsErrOf result FolderNo.Failed → Rose (calls_of self.old).faults (calls_of self.new).faults }
+        ensures quiet { (IsErrOf result FolderNo.Failed → ⊥) → (calls_of self.new).faults ≡ (calls_of self.old).faults }
         ensures fails { IsErrOf result FolderNo.Failed ↔ NextFails (calls_of self.old) }
         ensures fault { IsErrOf result FolderNo.Failed → calls_of self.new ≡ after_fault (calls_of self.old) }
         ensures counted { (IsErrOf result FolderNo.Failed → ⊥) → calls_of self.new ≡ after_call (calls_of self.old) }

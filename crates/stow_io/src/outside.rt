@@ -46,13 +46,15 @@ pub trait Folder {
         ensures small { IfOk result (λ bytes. length bytes ≤ 536870912) }
         ensures stays { files self.new ≡ files self.old }
         ensures later { faults self.old ≤ faults self.new }
-        ensures failed { IsErrOf result FolderNo.Failed → Rose (faults self.old) (faults self.new) };
+        ensures failed { IsErrOf result FolderNo.Failed → Rose (faults self.old) (faults self.new) }
+        ensures quiet { (IsErrOf result FolderNo.Failed → ⊥) → faults self.new ≡ faults self.old };
 
     /// Leaves the bytes under the name. A failed write leaves what was there or a prefix of them.
     fn write(&mut self, name: &str, bytes: &[u8]) -> Result<(), FolderNo>
         ensures writes { Writes name.now bytes.now result (files self.old) (files self.new) }
         ensures later { faults self.old ≤ faults self.new }
-        ensures failed { IsErrOf result FolderNo.Failed → Rose (faults self.old) (faults self.new) };
+        ensures failed { IsErrOf result FolderNo.Failed → Rose (faults self.old) (faults self.new) }
+        ensures quiet { (IsErrOf result FolderNo.Failed → ⊥) → faults self.new ≡ faults self.old };
 }
 
 /// What is printed goes here.
