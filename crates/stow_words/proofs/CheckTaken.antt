@@ -1,17 +1,18 @@
--- Words of the plain form of `check` are taken.
-use Rattle.std.proofs.Common.{◌≡◌, ℕ, Bool, true, false, ◌&&◌, List, [], ◌∷◌, ◌++◌, Option, Some, None, codes, refl, eqb, unwrap_or, ◌∙◌, ap, sym}
+-- Words of the plain form of `check` are taken, and order their own texts.
+use Rattle.std.proofs.Common.{◌≡◌, ℕ, Bool, true, false, ◌&&◌, List, [], ◌∷◌, Option, Some, None, codes, refl, eqb, unwrap_or, ◌∙◌, ap}
 use Rattle.std.specs.Prelude.{find}
 use Rattle.std.specs.List.{fold, list_all}
-use Rattle.std.proofs.lemmas.Bool.{and_from, both_ways, not-true}
-use Rattle.std.proofs.lemmas.List.{append-nil, append_assoc}
-use Rattle.clap.specs.Words.{Text, Rule, Shape, takes, is_simple, built}
-use Rattle.clap.specs.Faults.{is_simple_and_free}
-use Rattle.clap.specs.Simple.{names_of, label_of}
+use Rattle.std.proofs.lemmas.Bool.{both_ways, not-true}
+use Rattle.clap.specs.Words.{Text, Shape, takes, built, subcommand_of}
+use Rattle.clap.specs.Simple.{label_of, entered}
 use Rattle.clap.specs.Takes.{walk_passes, turn_passes, level_passes, settle_passes, default_passes, is_valid}
-use Rattle.clap.specs.Walk.{Walk, Held, Names, Waiting, walked, walk, walk_from, nothing_held, idle, option, answers_to, to_positional, arg_by_index, settled, finished, arg_by_id, after_step, plain_word, word_met}
+use Rattle.clap.specs.Walk.{Walk, Held, walked, walk, nothing_held, idle, option, answers_to, to_positional, arg_by_index, settled, finished}
 use Rattle.clap.proofs.OnLiterals.{clap_on_literals}
-use Rattle.stow_words.specs.Command.{stow_app, plan_app, check_app, show_app, make_app}
-use Rattle.stow_words.specs.Plain.{is_plain, Opt, Arrival, Workers, Budget, id_of, AreOnce, ArePlain, words_of, IsPlainPlan, arrival_words, IsPlainOption, IsPlainCheck, IsPlainShow, IsPlainMake, IsPlainForm}
+use Rattle.std.specs.Prelude.{Ok}
+use Rattle.stow_words.specs.declared.order.Order.TheVariants as order
+use Rattle.stow_words.specs.Command.{stow_app, check_app}
+use Rattle.stow_words.specs.Orders.{entered_order, check_order}
+use Rattle.stow_words.specs.Plain.{arrival_words, IsPlainOption, IsPlainCheck}
 use Rattle.stow_words.proofs.Walks.{halted, halted_walk, halted_passes, top, names, start, more, none, split_plain}
 
 abbrev leaf : Shape
@@ -146,3 +147,32 @@ check_taken words f =
     let sb = split_plain f.bookings f.bookings_plain in
     let sn = split_plain f.base f.base_plain in
     rw (f.words_are, sp.2, sb.2, sn.2) (takes_by_rest f.name _ (by_arrival f.arrival f.plain sp.0 sb.0 sn.0 sp.1 sb.1 sn.1 sp.3 sb.3 sn.3))
+
+-- ---- the values
+
+entered_by_rest : (name : Text) (rest : List Text) (w : Walk) → walk leaf.rules [] nothing_held rest ≡ w → entered_order (subcommand_of stow_app (name ∷ codes "check" ∷ rest)) ≡ check_order (finished leaf.rules w.held)
+entered_by_rest name rest w e = ap (λ (t : Walk). entered_order (entered (built stow_app) t.stopped)) (top_walk rest) ∙ ap (λ (u : Walk). check_order (finished leaf.rules u.held)) e
+
+own_without : (p b n : Text) → check_order (finished leaf.rules (at_three p b n).held) ≡ Ok (order.Check p b n None)
+own_without p b n = refl
+
+own_with : (p b n v : Text) → check_order (finished leaf.rules (filled v (at_three p b n).held)) ≡ Ok (order.Check p b n (Some v))
+own_with p b n v = refl
+
+own_by : (a : Option Text) → IsPlainOption a → (name : Text) (x y z : ℕ) (xs ys zs : Text) → eqb x 45 ≡ false → eqb y 45 ≡ false → eqb z 45 ≡ false
+    → entered_order (subcommand_of stow_app (name ∷ codes "check" ∷ (x ∷ xs) ∷ (y ∷ ys) ∷ (z ∷ zs) ∷ arrival_words a)) ≡ Ok (order.Check (x ∷ xs) (y ∷ ys) (z ∷ zs) a)
+own_by None o name x y z xs ys zs e f g =
+    entered_by_rest name ((x ∷ xs) ∷ (y ∷ ys) ∷ (z ∷ zs) ∷ []) (at_three (x ∷ xs) (y ∷ ys) (z ∷ zs)) (three_walk x y z xs ys zs [] e f g) ∙ own_without (x ∷ xs) (y ∷ ys) (z ∷ zs)
+own_by (Some []) o name x y z xs ys zs e f g = absurd (both_ways false refl o)
+own_by (Some (u ∷ us)) o name x y z xs ys zs e f g =
+    let h : Held = (at_three (x ∷ xs) (y ∷ ys) (z ∷ zs)).held in
+    let w : walk leaf.rules [] nothing_held ((x ∷ xs) ∷ (y ∷ ys) ∷ (z ∷ zs) ∷ codes "--arrival" ∷ (u ∷ us) ∷ []) ≡ idle_at (filled (u ∷ us) h) = three_walk x y z xs ys zs (codes "--arrival" ∷ (u ∷ us) ∷ []) e f g
+    ∙ ap (λ (w : Walk). walked leaf.rules [] w (u ∷ us)) (open_step h) ∙ fill_step h u us (not-true _ o) in
+    entered_by_rest name ((x ∷ xs) ∷ (y ∷ ys) ∷ (z ∷ zs) ∷ codes "--arrival" ∷ (u ∷ us) ∷ []) (idle_at (filled (u ∷ us) h)) w ∙ own_with (x ∷ xs) (y ∷ ys) (z ∷ zs) (u ∷ us)
+
+pub check_own : (words : List Text) (f : IsPlainCheck words) → entered_order (subcommand_of stow_app words) ≡ Ok (order.Check f.profile f.bookings f.base f.arrival)
+check_own words f =
+    let sp = split_plain f.profile f.profile_plain in
+    let sb = split_plain f.bookings f.bookings_plain in
+    let sn = split_plain f.base f.base_plain in
+    rw (f.words_are, sp.2, sb.2, sn.2) (own_by f.arrival f.plain f.name sp.0 sb.0 sn.0 sp.1 sb.1 sn.1 sp.3 sb.3 sn.3)

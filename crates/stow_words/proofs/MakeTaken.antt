@@ -1,17 +1,16 @@
--- Words of the plain form of `make` are taken.
-use Rattle.std.proofs.Common.{◌≡◌, ℕ, Bool, true, false, ◌&&◌, List, [], ◌∷◌, ◌++◌, Some, None, codes, refl, eqb, unwrap_or, ◌∙◌, ap, sym}
+-- Words of the plain form of `make` are taken, and order their own texts.
+use Rattle.std.proofs.Common.{◌≡◌, ℕ, true, false, List, [], ◌∷◌, codes, refl, eqb, unwrap_or, ◌∙◌, ap}
 use Rattle.std.specs.Prelude.{find}
-use Rattle.std.specs.List.{fold, list_all}
-use Rattle.std.proofs.lemmas.Bool.{and_from, both_ways, not-true}
-use Rattle.std.proofs.lemmas.List.{append-nil, append_assoc}
-use Rattle.clap.specs.Words.{Text, Rule, Shape, takes, is_simple, built}
-use Rattle.clap.specs.Faults.{is_simple_and_free}
-use Rattle.clap.specs.Simple.{names_of, label_of}
-use Rattle.clap.specs.Takes.{walk_passes, turn_passes, level_passes, settle_passes, default_passes, is_valid}
-use Rattle.clap.specs.Walk.{Walk, Held, Names, Waiting, walked, walk, walk_from, nothing_held, idle, option, answers_to, to_positional, arg_by_index, settled, finished}
+use Rattle.std.specs.List.{fold}
+use Rattle.clap.specs.Words.{Text, Shape, takes, built, subcommand_of}
+use Rattle.clap.specs.Simple.{label_of, entered}
+use Rattle.clap.specs.Takes.{walk_passes, turn_passes, level_passes}
+use Rattle.clap.specs.Walk.{Walk, walked, walk, nothing_held, idle, answers_to, to_positional, arg_by_index, finished}
 use Rattle.clap.proofs.OnLiterals.{clap_on_literals}
-use Rattle.stow_words.specs.Command.{stow_app, plan_app, check_app, show_app, make_app}
-use Rattle.stow_words.specs.Plain.{is_plain, Opt, Arrival, Workers, Budget, id_of, AreOnce, ArePlain, words_of, IsPlainPlan, arrival_words, IsPlainOption, IsPlainCheck, IsPlainShow, IsPlainMake, IsPlainForm}
+use Rattle.stow_words.specs.Command.{stow_app, make_app}
+use Rattle.stow_words.specs.Orders.{entered_order, make_order, made}
+use Rattle.stow_words.specs.Numbers.{number_in}
+use Rattle.stow_words.specs.Plain.{IsPlainMake}
 use Rattle.stow_words.proofs.Walks.{halted, halted_walk, halted_passes, top, names, start, more, none, split_plain}
 
 abbrev leaf : Shape
@@ -64,3 +63,16 @@ make_taken words f =
     let s = split_plain f.number f.number_plain in
     let t = split_plain f.base f.base_plain in
     rw (f.words_are, s.2, t.2) (takes_by_rest f.name _ (two_words s.0 t.0 s.1 t.1 s.3 t.3))
+
+-- ---- the values
+
+entered_by_rest : (name : Text) (rest : List Text) (w : Walk) → walk leaf.rules [] nothing_held rest ≡ w → entered_order (subcommand_of stow_app (name ∷ codes "make" ∷ rest)) ≡ make_order (finished leaf.rules w.held)
+entered_by_rest name rest w e = ap (λ (t : Walk). entered_order (entered (built stow_app) t.stopped)) (top_walk rest) ∙ ap (λ (u : Walk). make_order (finished leaf.rules u.held)) e
+
+pub make_own : (words : List Text) (f : IsPlainMake words) → entered_order (subcommand_of stow_app words) ≡ made f.base (number_in 0 2147483647 f.number)
+make_own words f =
+    let s = split_plain f.number f.number_plain in
+    let t = split_plain f.base f.base_plain in
+    let w : walk leaf.rules [] nothing_held ((s.0 ∷ s.1) ∷ (t.0 ∷ t.1) ∷ []) ≡ at_two (s.0 ∷ s.1) (t.0 ∷ t.1) =
+    ap (λ (w : Walk). walked leaf.rules [] w (t.0 ∷ t.1)) (step_one s.0 s.1 s.3) ∙ step_two (s.0 ∷ s.1) t.0 t.1 t.3 in
+    rw (f.words_are, s.2, t.2) (entered_by_rest f.name ((s.0 ∷ s.1) ∷ (t.0 ∷ t.1) ∷ []) (at_two (s.0 ∷ s.1) (t.0 ∷ t.1)) w)

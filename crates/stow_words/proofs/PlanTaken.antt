@@ -1,17 +1,17 @@
--- Words of the plain form of `plan` are taken.
-use Rattle.std.proofs.Common.{◌≡◌, ℕ, Bool, true, false, ◌&&◌, List, [], ◌∷◌, ◌++◌, Some, None, codes, refl, eqb, unwrap_or, ◌∙◌, ap, sym}
+-- Words of the plain form of `plan` are taken, and order their own texts.
+use Rattle.std.proofs.Common.{◌≡◌, ℕ, Bool, true, false, ◌&&◌, List, [], ◌∷◌, Some, None, codes, refl, eqb, unwrap_or, ◌∙◌, ap}
 use Rattle.std.specs.Prelude.{find}
 use Rattle.std.specs.List.{fold, list_all}
-use Rattle.std.proofs.lemmas.Bool.{and_from, both_ways, not-true}
-use Rattle.std.proofs.lemmas.List.{append-nil, append_assoc}
-use Rattle.clap.specs.Words.{Text, Rule, Shape, takes, is_simple, built}
-use Rattle.clap.specs.Faults.{is_simple_and_free}
-use Rattle.clap.specs.Simple.{names_of, label_of}
+use Rattle.std.proofs.lemmas.Bool.{both_ways, not-true}
+use Rattle.clap.specs.Words.{Text, Shape, takes, built, subcommand_of}
+use Rattle.clap.specs.Simple.{label_of, entered}
 use Rattle.clap.specs.Takes.{walk_passes, turn_passes, level_passes, settle_passes, default_passes, is_valid}
-use Rattle.clap.specs.Walk.{Walk, Held, Names, Waiting, walked, walk, walk_from, nothing_held, idle, option, answers_to, to_positional, arg_by_index, settled, finished}
+use Rattle.clap.specs.Walk.{Walk, Held, walked, walk, nothing_held, idle, option, answers_to, to_positional, arg_by_index, settled, finished}
 use Rattle.clap.proofs.OnLiterals.{clap_on_literals}
-use Rattle.stow_words.specs.Command.{stow_app, plan_app, check_app, show_app, make_app}
-use Rattle.stow_words.specs.Plain.{is_plain, Opt, Arrival, Workers, Budget, id_of, AreOnce, ArePlain, words_of, IsPlainPlan, arrival_words, IsPlainOption, IsPlainCheck, IsPlainShow, IsPlainMake, IsPlainForm}
+use Rattle.stow_words.specs.Command.{stow_app, plan_app}
+use Rattle.stow_words.specs.Orders.{entered_order, plan_order, number_or, planned}
+use Rattle.stow_words.specs.Own.{value_of}
+use Rattle.stow_words.specs.Plain.{is_plain, Opt, Arrival, Workers, Budget, id_of, AreOnce, ArePlain, words_of, IsPlainPlan}
 use Rattle.stow_words.proofs.Walks.{halted, halted_walk, halted_passes, top, names, start, more, none, split_plain}
 
 abbrev leaf : Shape
@@ -185,15 +185,18 @@ all_settle p b n ((Budget, v) ∷ (Budget, u) ∷ (Workers, t) ∷ []) o = absur
 all_settle p b n ((Budget, v) ∷ (Budget, u) ∷ (Budget, t) ∷ []) o = absurd (o.0 refl)
 all_settle p b n (a ∷ c ∷ d ∷ e ∷ rest) o = absurd o
 
+options_all : (x y z : ℕ) (xs ys zs : Text) (us : List (Opt × Text)) → eqb x 45 ≡ false → eqb y 45 ≡ false → eqb z 45 ≡ false → ArePlain us → walk leaf.rules [] nothing_held ((x ∷ xs) ∷ (y ∷ ys) ∷ (z ∷ zs) ∷ words_of us) ≡ idle_at (after_all us (at_three (x ∷ xs) (y ∷ ys) (z ∷ zs)).held)
+options_all x y z xs ys zs us e f g plain =
+    ap (λ (w : Walk). fold (walked leaf.rules []) (walked leaf.rules [] (walked leaf.rules [] w (y ∷ ys)) (z ∷ zs)) (words_of us)) (step_one x xs e)
+    ∙ ap (λ (w : Walk). fold (walked leaf.rules []) (walked leaf.rules [] w (z ∷ zs)) (words_of us)) (step_two (x ∷ xs) y ys f)
+    ∙ ap (λ (w : Walk). fold (walked leaf.rules []) w (words_of us)) (step_three (x ∷ xs) (y ∷ ys) z zs g)
+    ∙ options_walk us (at_three (x ∷ xs) (y ∷ ys) (z ∷ zs)).held plain
+
 by_options : (x y z : ℕ) (xs ys zs : Text) (us : List (Opt × Text)) → eqb x 45 ≡ false → eqb y 45 ≡ false → eqb z 45 ≡ false → AreOnce us → ArePlain us → level_passes leaf [] nothing_held ((x ∷ xs) ∷ (y ∷ ys) ∷ (z ∷ zs) ∷ words_of us) false ≡ true
 by_options x y z xs ys zs us e f g once plain =
     let h : Held = (at_three (x ∷ xs) (y ∷ ys) (z ∷ zs)).held in
     let s = all_settle (x ∷ xs) (y ∷ ys) (z ∷ zs) us once in
-    let w : walk leaf.rules [] nothing_held ((x ∷ xs) ∷ (y ∷ ys) ∷ (z ∷ zs) ∷ words_of us) ≡ idle_at (after_all us h) =
-    ap (λ (w : Walk). fold (walked leaf.rules []) (walked leaf.rules [] (walked leaf.rules [] w (y ∷ ys)) (z ∷ zs)) (words_of us)) (step_one x xs e)
-    ∙ ap (λ (w : Walk). fold (walked leaf.rules []) (walked leaf.rules [] w (z ∷ zs)) (words_of us)) (step_two (x ∷ xs) y ys f)
-    ∙ ap (λ (w : Walk). fold (walked leaf.rules []) w (words_of us)) (step_three (x ∷ xs) (y ∷ ys) z zs g)
-    ∙ options_walk us h plain in
+    let w = options_all x y z xs ys zs us e f g plain in
     let p : walk_passes leaf [] start ((x ∷ xs) ∷ (y ∷ ys) ∷ (z ∷ zs) ∷ words_of us) ≡ true =
     more leaf [] start (at_one (x ∷ xs)) (x ∷ xs) _ (pass_one x xs e) (step_one x xs e)
     (more leaf [] (at_one (x ∷ xs)) (at_two (x ∷ xs) (y ∷ ys)) (y ∷ ys) _ (pass_two (x ∷ xs) y ys f) (step_two (x ∷ xs) y ys f)
@@ -206,3 +209,61 @@ plan_taken words f =
     let sb = split_plain f.bookings f.bookings_plain in
     let sn = split_plain f.base f.base_plain in
     rw (f.words_are, sp.2, sb.2, sn.2) (takes_by_rest f.name _ (by_options sp.0 sb.0 sn.0 sp.1 sb.1 sn.1 f.options sp.3 sb.3 sn.3 f.once f.plain))
+
+-- ---- the values
+
+entered_by_rest : (name : Text) (rest : List Text) (w : Walk) → walk leaf.rules [] nothing_held rest ≡ w → entered_order (subcommand_of stow_app (name ∷ codes "plan" ∷ rest)) ≡ plan_order (finished leaf.rules w.held)
+entered_by_rest name rest w e = ap (λ (t : Walk). entered_order (entered (built stow_app) t.stopped)) (top_walk rest) ∙ ap (λ (u : Walk). plan_order (finished leaf.rules u.held)) e
+
+own_values : (p b n : Text) (us : List (Opt × Text)) → AreOnce us
+    → plan_order (finished leaf.rules (after_all us (at_three p b n).held)) ≡ planned p b n (value_of Arrival us) (number_or 1 1 16 (value_of Workers us)) (number_or 1000 1 100000 (value_of Budget us))
+own_values p b n [] o = refl
+own_values p b n ((Arrival, v) ∷ []) o = refl
+own_values p b n ((Workers, v) ∷ []) o = refl
+own_values p b n ((Budget, v) ∷ []) o = refl
+own_values p b n ((Arrival, v) ∷ (Arrival, u) ∷ []) o = absurd (o refl)
+own_values p b n ((Arrival, v) ∷ (Workers, u) ∷ []) o = refl
+own_values p b n ((Arrival, v) ∷ (Budget, u) ∷ []) o = refl
+own_values p b n ((Workers, v) ∷ (Arrival, u) ∷ []) o = refl
+own_values p b n ((Workers, v) ∷ (Workers, u) ∷ []) o = absurd (o refl)
+own_values p b n ((Workers, v) ∷ (Budget, u) ∷ []) o = refl
+own_values p b n ((Budget, v) ∷ (Arrival, u) ∷ []) o = refl
+own_values p b n ((Budget, v) ∷ (Workers, u) ∷ []) o = refl
+own_values p b n ((Budget, v) ∷ (Budget, u) ∷ []) o = absurd (o refl)
+own_values p b n ((Arrival, v) ∷ (Arrival, u) ∷ (Arrival, t) ∷ []) o = absurd (o.0 refl)
+own_values p b n ((Arrival, v) ∷ (Arrival, u) ∷ (Workers, t) ∷ []) o = absurd (o.0 refl)
+own_values p b n ((Arrival, v) ∷ (Arrival, u) ∷ (Budget, t) ∷ []) o = absurd (o.0 refl)
+own_values p b n ((Arrival, v) ∷ (Workers, u) ∷ (Arrival, t) ∷ []) o = absurd (o.1 refl)
+own_values p b n ((Arrival, v) ∷ (Workers, u) ∷ (Workers, t) ∷ []) o = absurd (o.2 refl)
+own_values p b n ((Arrival, v) ∷ (Workers, u) ∷ (Budget, t) ∷ []) o = refl
+own_values p b n ((Arrival, v) ∷ (Budget, u) ∷ (Arrival, t) ∷ []) o = absurd (o.1 refl)
+own_values p b n ((Arrival, v) ∷ (Budget, u) ∷ (Workers, t) ∷ []) o = refl
+own_values p b n ((Arrival, v) ∷ (Budget, u) ∷ (Budget, t) ∷ []) o = absurd (o.2 refl)
+own_values p b n ((Workers, v) ∷ (Arrival, u) ∷ (Arrival, t) ∷ []) o = absurd (o.2 refl)
+own_values p b n ((Workers, v) ∷ (Arrival, u) ∷ (Workers, t) ∷ []) o = absurd (o.1 refl)
+own_values p b n ((Workers, v) ∷ (Arrival, u) ∷ (Budget, t) ∷ []) o = refl
+own_values p b n ((Workers, v) ∷ (Workers, u) ∷ (Arrival, t) ∷ []) o = absurd (o.0 refl)
+own_values p b n ((Workers, v) ∷ (Workers, u) ∷ (Workers, t) ∷ []) o = absurd (o.0 refl)
+own_values p b n ((Workers, v) ∷ (Workers, u) ∷ (Budget, t) ∷ []) o = absurd (o.0 refl)
+own_values p b n ((Workers, v) ∷ (Budget, u) ∷ (Arrival, t) ∷ []) o = refl
+own_values p b n ((Workers, v) ∷ (Budget, u) ∷ (Workers, t) ∷ []) o = absurd (o.1 refl)
+own_values p b n ((Workers, v) ∷ (Budget, u) ∷ (Budget, t) ∷ []) o = absurd (o.2 refl)
+own_values p b n ((Budget, v) ∷ (Arrival, u) ∷ (Arrival, t) ∷ []) o = absurd (o.2 refl)
+own_values p b n ((Budget, v) ∷ (Arrival, u) ∷ (Workers, t) ∷ []) o = refl
+own_values p b n ((Budget, v) ∷ (Arrival, u) ∷ (Budget, t) ∷ []) o = absurd (o.1 refl)
+own_values p b n ((Budget, v) ∷ (Workers, u) ∷ (Arrival, t) ∷ []) o = refl
+own_values p b n ((Budget, v) ∷ (Workers, u) ∷ (Workers, t) ∷ []) o = absurd (o.2 refl)
+own_values p b n ((Budget, v) ∷ (Workers, u) ∷ (Budget, t) ∷ []) o = absurd (o.1 refl)
+own_values p b n ((Budget, v) ∷ (Budget, u) ∷ (Arrival, t) ∷ []) o = absurd (o.0 refl)
+own_values p b n ((Budget, v) ∷ (Budget, u) ∷ (Workers, t) ∷ []) o = absurd (o.0 refl)
+own_values p b n ((Budget, v) ∷ (Budget, u) ∷ (Budget, t) ∷ []) o = absurd (o.0 refl)
+own_values p b n (a ∷ c ∷ d ∷ e ∷ rest) o = absurd o
+
+pub plan_own : (words : List Text) (f : IsPlainPlan words)
+    → entered_order (subcommand_of stow_app words) ≡ planned f.profile f.bookings f.base (value_of Arrival f.options) (number_or 1 1 16 (value_of Workers f.options)) (number_or 1000 1 100000 (value_of Budget f.options))
+plan_own words f =
+    let sp = split_plain f.profile f.profile_plain in
+    let sb = split_plain f.bookings f.bookings_plain in
+    let sn = split_plain f.base f.base_plain in
+    let w = options_all sp.0 sb.0 sn.0 sp.1 sb.1 sn.1 f.options sp.3 sb.3 sn.3 f.plain in
+    rw (f.words_are, sp.2, sb.2, sn.2) (entered_by_rest f.name ((sp.0 ∷ sp.1) ∷ (sb.0 ∷ sb.1) ∷ (sn.0 ∷ sn.1) ∷ words_of f.options) _ w ∙ own_values (sp.0 ∷ sp.1) (sb.0 ∷ sb.1) (sn.0 ∷ sn.1) f.options f.once)

@@ -1,5 +1,5 @@
 -- What the answer of `clap` says of the order.
-use Rattle.std.proofs.Common.{◌≡◌, ◌≢◌, ◌⊎◌, ℕ, inl, inr, true, false, List, [], ◌∷◌, Option, Some, None, option_map, is_some, Result, Ok, Err, ap, ap₂, sym, ◌∙◌, subst, ⊎_elim, refl}
+use Rattle.std.proofs.Common.{◌≡◌, ◌≢◌, ◌⊎◌, ℕ, inl, inr, true, false, List, [], ◌∷◌, Option, Some, None, option_map, is_some, Result, Err, ap, ap₂, sym, ◌∙◌, subst, ⊎_elim, refl}
 use Rattle.std.proofs.lemmas.Option.{same_Some, none-some}
 use Rattle.clap.specs.Words.{App, Text, Row, Kinds, fault_of, kind_of, subcommand_of, HasKind, IsAmong}
 use Rattle.clap.specs.declared.error.Error.{Error}
@@ -25,6 +25,15 @@ faulty : (ks : Kinds) (rest : Result Order WordsNo) → ks ≢ [] → unless_fau
 faulty [] rest h = absurd (h refl)
 faulty (k ∷ ks) rest h = refl
 
+-- words that are not refused for their form give what is entered
+pub as_entered : (words : List Text) (r : Result Order WordsNo) → Gives r (ordered words) → r ≢ Err NotTaken → Gives r (entered_order (subcommand_of stow_app words))
+as_entered words r (inl m) other = inl m
+as_entered words r (inr is) other = go (fault_of stow_app words) is
+  where
+    go : (ks : Kinds) → r ≡ unless_faulty ks (entered_order (subcommand_of stow_app words)) → Gives r (entered_order (subcommand_of stow_app words))
+    go [] e = inr e
+    go (k ∷ ks) e = absurd (other e)
+
 pub refused : (ks : Kinds) (rest : Result Order WordsNo) (no : WordsNo) → (no ≡ NoMemory) ⊎ ((no ≡ NotTaken) × (ks ≢ [])) → Gives (Err no) (unless_faulty ks rest)
 refused ks rest n (inl m) = inl (ap (λ (w : WordsNo). Err w) m)
 refused ks rest n (inr h) = inr (ap (λ (w : WordsNo). Err w) h.0 ∙ sym (faulty ks rest h.1))
@@ -36,20 +45,20 @@ refused_not_taken ks n (inr h) e = h.1
 pub ordered_is : (ks : Kinds) (s : Option (Text × List Row)) (name : Text) (rows : List Row) (v : Verb) → ks ≡ [] → s ≡ Some (name, rows) → verb_named name ≡ Some v → unless_faulty ks (entered_order s) ≡ order_of (Some v) rows
 ordered_is ks s name rows v none entered named = ap (λ (k : Kinds). unless_faulty k (entered_order s)) none ∙ ap entered_order entered ∙ ap (λ (w : Option Verb). order_of w rows) named
 
-planned_taken : (rows : List Row) (w b : Option ℕ) → planned rows w b ≢ Err NotTaken
-planned_taken rows None b = λ e. cc
-planned_taken rows (Some w) None = λ e. cc
-planned_taken rows (Some w) (Some b) = λ e. cc
+planned_taken : (profile bookings base : Text) (arrival : Option Text) (w b : Option ℕ) → planned profile bookings base arrival w b ≢ Err NotTaken
+planned_taken profile bookings base arrival None b = λ e. cc
+planned_taken profile bookings base arrival (Some w) None = λ e. cc
+planned_taken profile bookings base arrival (Some w) (Some b) = λ e. cc
 
-made_taken : (rows : List Row) (n : Option ℕ) → made rows n ≢ Err NotTaken
-made_taken rows None = λ e. cc
-made_taken rows (Some n) = λ e. cc
+made_taken : (base : Text) (n : Option ℕ) → made base n ≢ Err NotTaken
+made_taken base None = λ e. cc
+made_taken base (Some n) = λ e. cc
 
 taken : (v : Verb) (rows : List Row) → order_of (Some v) rows ≢ Err NotTaken
-taken verb.Plan rows = planned_taken rows (workers_in rows) (budget_in rows)
+taken verb.Plan rows = planned_taken _ _ _ _ (workers_in rows) (budget_in rows)
 taken verb.Check rows = λ e. cc
 taken verb.Show rows = λ e. cc
-taken verb.Make rows = made_taken rows (number_at rows)
+taken verb.Make rows = made_taken _ (number_at rows)
 
 pub never_not_taken : (v : Verb) (rows : List Row) (r : Result Order WordsNo) → Gives r (order_of (Some v) rows) → r ≢ Err NotTaken
 never_not_taken v rows r (inl m) = λ e. cc

@@ -1,17 +1,17 @@
--- Words of the plain form of `show` are taken.
-use Rattle.std.proofs.Common.{◌≡◌, ℕ, Bool, true, false, ◌&&◌, List, [], ◌∷◌, ◌++◌, Some, None, codes, refl, eqb, unwrap_or, ◌∙◌, ap, sym}
+-- Words of the plain form of `show` are taken, and order their own texts.
+use Rattle.std.proofs.Common.{◌≡◌, ℕ, true, false, List, [], ◌∷◌, codes, refl, eqb, unwrap_or, ◌∙◌, ap}
 use Rattle.std.specs.Prelude.{find}
-use Rattle.std.specs.List.{fold, list_all}
-use Rattle.std.proofs.lemmas.Bool.{and_from, both_ways, not-true}
-use Rattle.std.proofs.lemmas.List.{append-nil, append_assoc}
-use Rattle.clap.specs.Words.{Text, Rule, Shape, takes, is_simple, built}
-use Rattle.clap.specs.Faults.{is_simple_and_free}
-use Rattle.clap.specs.Simple.{names_of, label_of}
-use Rattle.clap.specs.Takes.{walk_passes, turn_passes, level_passes, settle_passes, default_passes, is_valid}
-use Rattle.clap.specs.Walk.{Walk, Held, Names, Waiting, walked, walk, walk_from, nothing_held, idle, option, answers_to, to_positional, arg_by_index, settled, finished}
+use Rattle.std.specs.List.{fold}
+use Rattle.clap.specs.Words.{Text, Shape, takes, built, subcommand_of}
+use Rattle.clap.specs.Simple.{label_of, entered}
+use Rattle.clap.specs.Takes.{walk_passes, turn_passes, level_passes}
+use Rattle.clap.specs.Walk.{Walk, walked, walk, nothing_held, idle, answers_to, to_positional, arg_by_index, finished}
 use Rattle.clap.proofs.OnLiterals.{clap_on_literals}
-use Rattle.stow_words.specs.Command.{stow_app, plan_app, check_app, show_app, make_app}
-use Rattle.stow_words.specs.Plain.{is_plain, Opt, Arrival, Workers, Budget, id_of, AreOnce, ArePlain, words_of, IsPlainPlan, arrival_words, IsPlainOption, IsPlainCheck, IsPlainShow, IsPlainMake, IsPlainForm}
+use Rattle.std.specs.Prelude.{Ok}
+use Rattle.stow_words.specs.declared.order.Order.TheVariants as order
+use Rattle.stow_words.specs.Command.{stow_app, show_app}
+use Rattle.stow_words.specs.Orders.{entered_order, show_order}
+use Rattle.stow_words.specs.Plain.{IsPlainShow}
 use Rattle.stow_words.proofs.Walks.{halted, halted_walk, halted_passes, top, names, start, more, none, split_plain}
 
 abbrev leaf : Shape
@@ -52,3 +52,13 @@ pub show_taken : (words : List Text) → IsPlainShow words → takes stow_app wo
 show_taken words f =
     let s = split_plain f.file f.file_plain in
     rw (f.words_are, s.2) (takes_by_rest f.name _ (one_word s.0 s.1 s.3))
+
+-- ---- the values
+
+entered_by_rest : (name : Text) (rest : List Text) (w : Walk) → walk leaf.rules [] nothing_held rest ≡ w → entered_order (subcommand_of stow_app (name ∷ codes "show" ∷ rest)) ≡ show_order (finished leaf.rules w.held)
+entered_by_rest name rest w e = ap (λ (t : Walk). entered_order (entered (built stow_app) t.stopped)) (top_walk rest) ∙ ap (λ (u : Walk). show_order (finished leaf.rules u.held)) e
+
+pub show_own : (words : List Text) (f : IsPlainShow words) → entered_order (subcommand_of stow_app words) ≡ Ok (order.Show f.file)
+show_own words f =
+    let s = split_plain f.file f.file_plain in
+    rw (f.words_are, s.2) (entered_by_rest f.name ((s.0 ∷ s.1) ∷ []) (at_one (s.0 ∷ s.1)) (step_one s.0 s.1 s.3))

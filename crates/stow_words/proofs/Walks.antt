@@ -1,17 +1,14 @@
 -- Walks over words, one at a time.
-use Rattle.std.proofs.Common.{◌≡◌, ℕ, Bool, true, false, ◌&&◌, List, [], ◌∷◌, ◌++◌, Some, None, codes, refl, eqb, unwrap_or, ◌∙◌, ap, sym}
-use Rattle.std.specs.Prelude.{find}
-use Rattle.std.specs.List.{fold, list_all}
+use Rattle.std.proofs.Common.{◌≡◌, ℕ, Bool, true, false, List, [], ◌∷◌, ◌++◌, Some, refl, eqb, ◌∙◌, ap, sym}
+use Rattle.std.specs.List.{fold}
 use Rattle.std.proofs.lemmas.Bool.{and_from, both_ways, not-true}
 use Rattle.std.proofs.lemmas.List.{append-nil, append_assoc}
-use Rattle.clap.specs.Words.{Text, Rule, Shape, takes, is_simple, built}
-use Rattle.clap.specs.Faults.{is_simple_and_free}
-use Rattle.clap.specs.Simple.{names_of, label_of}
-use Rattle.clap.specs.Takes.{walk_passes, turn_passes, level_passes, settle_passes, default_passes, is_valid}
-use Rattle.clap.specs.Walk.{Walk, Held, Names, Waiting, walked, walk, walk_from, nothing_held, idle, option, answers_to, to_positional, arg_by_index, settled, finished}
-use Rattle.clap.proofs.OnLiterals.{clap_on_literals}
-use Rattle.stow_words.specs.Command.{stow_app, plan_app, check_app, show_app, make_app}
-use Rattle.stow_words.specs.Plain.{is_plain, Opt, Arrival, Workers, Budget, id_of, AreOnce, ArePlain, words_of, IsPlainPlan, arrival_words, IsPlainOption, IsPlainCheck, IsPlainShow, IsPlainMake, IsPlainForm}
+use Rattle.clap.specs.Words.{Text, Rule, Shape, built}
+use Rattle.clap.specs.Simple.{names_of}
+use Rattle.clap.specs.Takes.{walk_passes, turn_passes}
+use Rattle.clap.specs.Walk.{Walk, Held, Names, Waiting, walked, walk_from, nothing_held}
+use Rattle.stow_words.specs.Command.{stow_app}
+use Rattle.stow_words.specs.Plain.{is_plain}
 
 -- ---- after a subcommand all words are kept for it
 

@@ -1,5 +1,5 @@
 -- The command line that `clap` is asked to read.
-use Rattle.std.specs.Prelude.{true, List, Some, codes}
+use Rattle.std.specs.Prelude.{true, Some, codes}
 use Rattle.clap.specs.Words.{App, Rule, Text, new_app, new_rule, with_rule, with_subcommand}
 
 -- a positional argument that is needed, and an option with one value

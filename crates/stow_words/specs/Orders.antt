@@ -1,5 +1,5 @@
 -- What the words of a command line order, by what `clap` reads in them.
-use Rattle.std.specs.Prelude.{◌≡◌, ℕ, ◌⊎◌, cond, List, [], ◌∷◌, Option, Some, None, codes, unwrap_or, Result, Ok, Err}
+use Rattle.std.specs.Prelude.{◌≡◌, ◌≢◌, ℕ, ◌⊎◌, cond, List, [], ◌∷◌, Option, Some, None, codes, unwrap_or, Result, Ok, Err}
 use Rattle.std.specs.Str.{bytes_eq}
 use Rattle.clap.specs.Words.{Text, Row, Kinds, first_of, subcommand_of, fault_of}
 use Rattle.stow_words.specs.declared.order.Order.{Order}
@@ -31,13 +31,14 @@ budget_in rows = number_or 1000 1 100000 (first_of (codes "budget") rows)
 abbrev pub number_at : List Row → Option ℕ
 number_at rows = number_in 0 2147483647 (positional (codes "number") rows)
 
-abbrev pub planned : List Row → Option ℕ → Option ℕ → Result Order WordsNo
-planned rows None budget = Err Workers
-planned rows (Some workers) None = Err Budget
-planned rows (Some workers) (Some budget) = Ok (Plan (positional (codes "profile") rows) (positional (codes "bookings") rows) (positional (codes "name") rows) (first_of (codes "arrival") rows) workers budget)
+-- the order of a plan, where both numbers are in their ranges
+abbrev pub planned : Text → Text → Text → Option Text → Option ℕ → Option ℕ → Result Order WordsNo
+planned profile bookings base arrival None budget = Err Workers
+planned profile bookings base arrival (Some workers) None = Err Budget
+planned profile bookings base arrival (Some workers) (Some budget) = Ok (Plan profile bookings base arrival workers budget)
 
 abbrev pub plan_order : List Row → Result Order WordsNo
-plan_order rows = planned rows (workers_in rows) (budget_in rows)
+plan_order rows = planned (positional (codes "profile") rows) (positional (codes "bookings") rows) (positional (codes "name") rows) (first_of (codes "arrival") rows) (workers_in rows) (budget_in rows)
 
 abbrev pub check_order : List Row → Result Order WordsNo
 check_order rows = Ok (Check (positional (codes "profile") rows) (positional (codes "bookings") rows) (positional (codes "name") rows) (first_of (codes "arrival") rows))
@@ -45,12 +46,12 @@ check_order rows = Ok (Check (positional (codes "profile") rows) (positional (co
 abbrev pub show_order : List Row → Result Order WordsNo
 show_order rows = Ok (Show (positional (codes "file") rows))
 
-abbrev pub made : List Row → Option ℕ → Result Order WordsNo
-made rows None = Err Number
-made rows (Some number) = Ok (Make number (positional (codes "name") rows))
+abbrev pub made : Text → Option ℕ → Result Order WordsNo
+made base None = Err Number
+made base (Some number) = Ok (Make number base)
 
 abbrev pub make_order : List Row → Result Order WordsNo
-make_order rows = made rows (number_at rows)
+make_order rows = made (positional (codes "name") rows) (number_at rows)
 
 -- the subcommand of a name
 abbrev pub verb_named : Text → Option Verb
@@ -75,6 +76,10 @@ unless_faulty (kind ∷ kinds) order = Err NotTaken
 -- what words order: nothing where `clap` finds a fault in them
 abbrev pub ordered : List Text → Result Order WordsNo
 ordered words = unless_faulty (fault_of stow_app words) (entered_order (subcommand_of stow_app words))
+
+-- `clap` finds a fault in the words
+abbrev pub AreFaulty : List Text → Type 0
+AreFaulty words = fault_of stow_app words ≢ []
 
 -- an answer that is as wanted, or want of memory
 abbrev pub Gives : Result Order WordsNo → Result Order WordsNo → Type 0

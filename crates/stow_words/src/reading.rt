@@ -1,9 +1,9 @@
 //! What `clap` reads in the words, as an order.
-ghost use Rattle.std.specs.Prelude.{◌≡◌, ◌≢◌, ◌⊎◌, [], Some, IfOk, Err, map, option_map};
-ghost use Rattle.clap.specs.Words.{fault_of, kind_of, found_of, rows_of, first_of};
-ghost use Rattle.stow_words.specs.Command.{stow_app};
+ghost use Rattle.std.specs.Prelude.{◌≡◌, ◌≢◌, ◌⊎◌, Some, IfOk, Err, map, option_map};
+ghost use Rattle.clap.specs.Words.{kind_of, found_of, rows_of, first_of};
+ghost use Rattle.stow_words.specs.Own.{own_order};
 ghost use Rattle.stow_words.specs.Plain.{IsPlainForm};
-ghost use Rattle.stow_words.specs.Orders.{Gives, positional, workers_in, budget_in, number_at, number_or, plan_order, check_order, show_order, make_order, order_of, ordered};
+ghost use Rattle.stow_words.specs.Orders.{Gives, positional, workers_in, budget_in, number_at, number_or, plan_order, check_order, show_order, make_order, order_of, ordered, AreFaulty};
 
 use crate::commands::{Verb, stow_command, verb_of};
 use crate::numbers::read_number;
@@ -143,10 +143,10 @@ fn texts_of<'a>(alloc: Global, words: &'a WordList) -> Result<Vec<&'a str>, NoMe
     Ok(texts)
 }
 
-/// What the words order, the first of them being the program's name.
-pub fn read_words(alloc: Global, words: &WordList) -> Result<Order, WordsNo>
+// The order of the words as `clap` reads them.
+fn parse_words(alloc: Global, words: &WordList) -> Result<Order, WordsNo>
     ensures order { Gives result (ordered words.now) }
-    ensures not_taken { result ≡ Err WordsNo.NotTaken → fault_of stow_app words.now ≢ [] }
+    ensures not_taken { result ≡ Err WordsNo.NotTaken → AreFaulty words.now }
     ensures plain { IsPlainForm words.now → result ≢ Err WordsNo.NotTaken }
 {
     let texts = texts_of(alloc, words)?;
@@ -164,4 +164,15 @@ pub fn read_words(alloc: Global, words: &WordList) -> Result<Order, WordsNo>
         Some(verb) => order_of(alloc, verb, found),
         None => Err(WordsNo::NotTaken),
     }
+}
+
+/// What the words order, the first of them being the program's name. Words of the plain form order their own texts,
+/// and the numbers that they spell.
+pub fn read_words(alloc: Global, words: &WordList) -> Result<Order, WordsNo>
+    ensures order { Gives result (ordered words.now) }
+    ensures not_taken { result ≡ Err WordsNo.NotTaken → AreFaulty words.now }
+    ensures plain { IsPlainForm words.now → result ≢ Err WordsNo.NotTaken }
+    ensures own { (form : IsPlainForm words.now) → Gives result (own_order words.now form) }
+{
+    parse_words(alloc, words)
 }
