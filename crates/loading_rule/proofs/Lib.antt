@@ -1,0 +1,5 @@
+pub mod Parts
+pub mod Lower
+pub mod Putting
+pub mod Nothing
+pub mod Aboard

@@ -1,0 +1,13 @@
+//! The loader's rule for every ship: where a container goes.
+#![tactic(auto)]
+
+mod boarding;
+mod choosing;
+mod clearing;
+mod halves;
+mod layout;
+mod opening;
+
+pub use boarding::{load_all, load_one};
+pub use choosing::choice;
+pub use layout::Layout;
