@@ -3,3 +3,4 @@ pub mod Lower
 pub mod Putting
 pub mod Nothing
 pub mod Aboard
+pub mod Taken

@@ -9,11 +9,10 @@ use Rattle.stow_data.specs.Ship.{Ship, places, StandsOn}
 use Rattle.stow_data.specs.Shipment.{Cargo}
 use Rattle.stow_data.specs.Plans.{Plan}
 use Rattle.stow_data.proofs.InOrder.{higher_is_later}
-use Rattle.stowage_rules.specs.Plan.{Stands}
 use Rattle.stowage_rules.specs.Faults.{IsLeast}
 use Rattle.stowage_rules.proofs.Rising.{rising}
 use Rattle.loading_rule.specs.Kept.{AreEarliest}
-use Rattle.loading_rule.specs.Rule.{NoneEarlierUnder, IsChoice, IsOpen, IsLowerThan, IsOpenAt, IsCleanAt, IsClean, NoneEarlierAt}
+use Rattle.loading_rule.specs.Rule.{NoneEarlierUnder, IsChoice, IsOpen, IsOpenAt, IsCleanAt, IsClean, NoneEarlierAt}
 
 -- a place that isn't before this one by number isn't lower in a column of it
 pub none_past : (ship : Ship) (cargo : Cargo) (plan : Plan) (call p q : ℕ) (place : Place) → slice_get (places ship) p ≡ Some place → p ≤ q → NoneEarlierAt ship cargo plan call place q

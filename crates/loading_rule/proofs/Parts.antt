@@ -1,20 +1,17 @@
 -- What an open place asks, part by part.
-use Rattle.std.specs.Prelude.{◌≡◌, ◌↔◌, ℕ, ◌<◌, ◌≤◌, ◌+◌, Bool, false, not, IsTrue, List, Some, None, Contains, slice_get, slice_index_or, length}
-use Rattle.std.proofs.Common.{sym, ◌∙◌, ap, subst, arith, ◌⊎◌, ⊎_elim}
+use Rattle.std.specs.Prelude.{◌≡◌, ◌↔◌, ℕ, ◌<◌, ◌≤◌, ◌+◌, Bool, false, not, IsTrue, List, Some, None, slice_get, slice_index_or, length}
+use Rattle.std.proofs.Common.{sym, ◌∙◌, ap, subst, arith, ⊎_elim}
 use Rattle.std.proofs.lemmas.Option.{same_Some, slice_get_within, none-some, slice_get-get_or}
 use Rattle.std.proofs.lemmas.Bool.{cases_eq, not-true, not_from_false}
 use Rattle.stow_data.specs.declared.geometry.Place.{Place}
-use Rattle.stow_data.specs.declared.geometry.Stack.{Stack}
 use Rattle.stow_data.specs.declared.geometry.Separation.{Separation}
 use Rattle.stow_data.specs.declared.cargoes.Container.{Container}
-use Rattle.stow_data.specs.Kinds.{rounded}
 use Rattle.stow_data.specs.Ship.{Ship, places, Fits, FitsAt, LiesUnder}
 use Rattle.stow_data.specs.Shipment.{Cargo}
 use Rattle.stow_data.specs.Plans.{Plan}
 use Rattle.stowage_rules.specs.Plan.{Stands}
-use Rattle.stowage_rules.specs.Departure.{stack_weight, near}
+use Rattle.stowage_rules.specs.Departure.{near}
 use Rattle.voyage_meaning.specs.Moves.{IsBare}
-use Rattle.voyage_meaning.specs.Places.{IsEmptyOn, IsBorneOn}
 use Rattle.loading_rule.specs.Kept.{AreLaden}
 use Rattle.loading_rule.specs.Rule.{AreSeparated, IsApartBy, IsOpen, IsOpenAt}
 

@@ -1,6 +1,6 @@
 -- One container more in a plan: what then holds of it.
 use Rattle.std.proofs.Common.{◌≡◌, ℕ, zero, suc, ◌+◌, ◌*◌, ◌/◌, ◌-◌, ◌<◌, ◌≤◌, Bool, true, false, cond, List, [], ◌∷◌, ◌++◌, length, Option, Some, None, refl, sym, ◌∙◌, ap, subst, arith, ◌⊎◌, inl, inr, ⊎_elim, length-set}
-use Rattle.std.specs.Prelude.{◌==◌, ◌↔◌, Contains, is_some, slice_get, slice_set, zip, sum_by, All}
+use Rattle.std.specs.Prelude.{◌==◌, ◌↔◌, is_some, slice_get, slice_set, zip, sum_by, All}
 use Rattle.std.proofs.Math.Nat.{mul_comm, div-mul-le_self}
 use Rattle.std.proofs.lemmas.Bool.{both_ways, cases_eq, cond-true, cond-false, eq-eqb, ne_eqb}
 use Rattle.std.proofs.lemmas.Option.{none-some, same_Some, slice_get_within, get_or_from_slice_get}
@@ -9,7 +9,7 @@ use Rattle.stow_data.specs.declared.geometry.Half.{Half}
 use Rattle.stow_data.specs.declared.geometry.Place.{Place}
 use Rattle.stow_data.specs.declared.cargoes.Container.{Container}
 use Rattle.stow_data.specs.Kinds.{rounded}
-use Rattle.stow_data.specs.Ship.{Ship, places, Takes, HasHalf, HasLength, LiesUnder, StandsOn, half_at}
+use Rattle.stow_data.specs.Ship.{Ship, places, HasHalf, HasLength, LiesUnder, StandsOn, half_at}
 use Rattle.stow_data.specs.Profile.{IsShip}
 use Rattle.stow_data.specs.Shipment.{Cargo, IsCargo, IsShipped}
 use Rattle.stow_data.specs.Plans.{Plan}
@@ -18,7 +18,6 @@ use Rattle.stowage_rules.specs.Departure.{weight_in, stack_weight}
 use Rattle.stowage_rules.proofs.Items.{slice_get-set_other, slice_get-set_same, slice_get_in}
 use Rattle.std.proofs.lemmas.List.Elements.{All-append, All-cons, All-nil, Contains-append_left, Contains-append_right}
 use Rattle.voyage_meaning.specs.Moves.{IsBare}
-use Rattle.voyage_meaning.specs.Places.{IsEmptyOn}
 use Rattle.loading_rule.specs.Rule.{NoneEarlierUnder}
 use Rattle.loading_rule.specs.Kept.{CanStand, AreWeights, AreLaden, AreEarliest, AreClassed}
 

@@ -1,5 +1,5 @@
 -- The containers of a quay go aboard one after the other, each to its choice.
-use Rattle.std.specs.Prelude.{◌≡◌, ◌⊎◌, ℕ, ◌<◌, Bool, true, false, List, [], ◌∷◌, length, Option, Some, None, slice_get, slice_set}
+use Rattle.std.specs.Prelude.{◌≡◌, ◌⊎◌, ℕ, ◌<◌, ◌≤◌, ◌+◌, Bool, true, false, List, [], ◌∷◌, length, Option, Some, None, slice_get, slice_set}
 use Rattle.stow_data.specs.Ship.{Ship}
 use Rattle.stow_data.specs.Shipment.{Cargo}
 use Rattle.stow_data.specs.Plans.{Plan, container_at}
@@ -21,3 +21,21 @@ pub record AreWaiting (cargo : Cargo) (plan : Plan) (quay : List ℕ) : Type 0 w
   pub known : (k c : ℕ) → slice_get quay k ≡ Some c → c < length cargo.containers
   pub once : (j k c : ℕ) → slice_get quay j ≡ Some c → slice_get quay k ≡ Some c → j ≡ k
   pub ashore : (k c : ℕ) → slice_get quay k ≡ Some c → (q : ℕ) → Holds plan q c → ⊥
+
+-- what stands there once a set of places is emptied
+abbrev pub kept_of : Option Bool → Option (Option ℕ) → Option (Option ℕ)
+kept_of (Some true) (Some o) = Some None
+kept_of (Some true) None = None
+kept_of (Some false) here = here
+kept_of None here = here
+
+-- the plan without what stands at the places of a set
+pub record IsWithout (before : Plan) (set : List Bool) (after : Plan) : Type 0 where
+  pub each_place : length after ≡ length before
+  pub holds : (q : ℕ) → slice_get after q ≡ kept_of (slice_get set q) (slice_get before q)
+
+-- the same at the places below n, and nothing from there on
+pub record HoldsUpTo (before : Plan) (set : List Bool) (n : ℕ) (plan : Plan) : Type 0 where
+  pub each_place : length plan ≡ length before
+  pub below : (q : ℕ) → q < n → slice_get plan q ≡ kept_of (slice_get set q) (slice_get before q)
+  pub rest : (q : ℕ) → n ≤ q → q < length before → slice_get plan q ≡ Some None

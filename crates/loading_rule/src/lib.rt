@@ -7,7 +7,9 @@ mod clearing;
 mod halves;
 mod layout;
 mod opening;
+mod taking_out;
 
 pub use boarding::{load_all, load_one};
 pub use choosing::choice;
 pub use layout::Layout;
+pub use taking_out::staying;

@@ -1,4 +1,4 @@
-use Rattle.std.proofs.Common.{◌≡◌, Bool, true, false, subst}
+use Rattle.std.proofs.Common.{Bool, true, false, subst}
 use Rattle.loading_rule.specs.Quays.{GoesAboard}
 use Rattle.loading_rule.proofs.Aboard.{aboard_more, aboard_none, ashore_more}
 use Rattle.loading_rule.proofs.boarding.load_all.Goals as goal

@@ -1,6 +1,4 @@
-use Rattle.std.proofs.Common.{◌≡◌, Some, None, length, subst, sym, ap, ◌∙◌, ℕ, Option}
-use Rattle.std.proofs.lemmas.Option.{same_Some}
-use Rattle.stow_data.specs.declared.geometry.Place.{Place}
+use Rattle.std.proofs.Common.{Some, None, length, subst, sym}
 use Rattle.stow_data.specs.declared.cargoes.Container.{Container}
 use Rattle.stow_data.specs.Shipment.{IsShipped}
 use Rattle.stow_data.proofs.PlanLookups.{container_is}

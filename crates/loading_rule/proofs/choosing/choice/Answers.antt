@@ -1,4 +1,4 @@
-use Rattle.std.proofs.Common.{◌≡◌, ℕ, inl}
+use Rattle.std.proofs.Common.{inl}
 use Rattle.loading_rule.proofs.Lower.{choice_of}
 use Rattle.loading_rule.proofs.choosing.choice.Goals as goal
 

@@ -1,4 +1,4 @@
-use Rattle.std.proofs.Common.{◌≡◌, ◌+◌, ◌-◌, ◌<◌, ◌≤◌, ℕ, refl, false, arith, length, ⊎_elim}
+use Rattle.std.proofs.Common.{◌-◌, ◌<◌, ◌≤◌, refl, arith, length, ⊎_elim}
 use Rattle.std.proofs.lemmas.Bool.{both_ways, cases_lt}
 use Rattle.std.proofs.lemmas.Option.{slice_get_within}
 use Rattle.stow_data.specs.Ship.{places}

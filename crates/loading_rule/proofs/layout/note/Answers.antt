@@ -1,5 +1,5 @@
-use Rattle.std.proofs.Common.{List, ℕ, Some, None, sym, ◌∙◌, subst, ◌≡◌, false}
-use Rattle.std.specs.Prelude.{Option, is_some, slice_set}
+use Rattle.std.proofs.Common.{Some, sym, ◌∙◌, subst}
+use Rattle.std.specs.Prelude.{slice_set}
 use Rattle.loading_rule.specs.Kept.{AreClassed}
 use Rattle.loading_rule.proofs.Putting.{classed_put, classed_off, none_of}
 use Rattle.loading_rule.proofs.layout.note.Goals as goal

@@ -1,5 +1,5 @@
-use Rattle.std.proofs.Common.{◌≡◌, ◌+◌, Some, ℕ, length, length-set, ap, sym, ◌∙◌, subst, arith}
-use Rattle.std.specs.Prelude.{slice_get, slice_set}
+use Rattle.std.proofs.Common.{◌+◌, Some, length, length-set, ap, sym, ◌∙◌, subst, arith}
+use Rattle.std.specs.Prelude.{slice_set}
 use Rattle.stow_data.proofs.Made.{stack_in}
 use Rattle.stowage_rules.proofs.Items.{slice_get_in}
 use Rattle.stow_data.specs.Kinds.{rounded}

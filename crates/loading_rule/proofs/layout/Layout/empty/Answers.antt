@@ -1,4 +1,3 @@
-use Rattle.std.proofs.Common.{refl}
 use Rattle.loading_rule.proofs.Nothing.{bare_kept}
 use Rattle.loading_rule.proofs.layout.Layout.empty.Goals as goal
 

@@ -1,5 +1,4 @@
-use Rattle.std.proofs.Common.{Some, length, subst, sym}
-use Rattle.std.specs.Prelude.{slice_set}
+use Rattle.std.proofs.Common.{length, subst, sym}
 use Rattle.stow_data.specs.Shipment.{IsShipped}
 use Rattle.stow_data.specs.Plans.{Plan}
 use Rattle.stowage_rules.specs.Plan.{IsWellFormed}
