@@ -7,9 +7,11 @@ mod clearing;
 mod halves;
 mod layout;
 mod opening;
+mod quay;
 mod taking_out;
 
 pub use boarding::{load_all, load_one};
 pub use choosing::choice;
 pub use layout::Layout;
+pub use quay::in_order;
 pub use taking_out::staying;
