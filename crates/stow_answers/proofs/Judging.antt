@@ -11,7 +11,7 @@ use Rattle.stow_answers.specs.declared.reading.ReadStop.TheVariants.{Failed, Fai
 use Rattle.stow_answers.specs.declared.reading.Found.{Found}
 use Rattle.stow_answers.specs.declared.reading.Found.TheVariants.{Plain}
 use Rattle.zero_one_model.specs.Building.{IsWithin}
-use Rattle.stow_answers.specs.Asked.{Names}
+use Rattle.stow_answers.specs.Names.{Names}
 use Rattle.stow_answers.specs.Booked.{IsBooked, booked_voyage, voyage_of}
 use Rattle.stow_answers.specs.Reading.{AreTaken, IsFound}
 use Rattle.stow_answers.specs.Named.{IsStop}

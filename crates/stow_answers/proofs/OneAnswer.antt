@@ -40,10 +40,12 @@ use Rattle.stow_report.specs.Listings.{listing_text}
 use Rattle.stow_report.specs.Verdicts.{cert_line, bound_line, file_line}
 use Rattle.stow_answers.specs.declared.answer.Answer.{Answer}
 use Rattle.stow_answers.specs.declared.answer.Answer.TheVariants as answer
-use Rattle.stow_answers.specs.declared.files.NamedFile.{NamedFile}
+use Rattle.program_ends.specs.declared.files.NamedFile.{NamedFile}
 use Rattle.stow_answers.specs.declared.voyage.BookedVoyage.{BookedVoyage}
-use Rattle.stow_answers.specs.declared.work.Work.{Work}
-use Rattle.stow_answers.specs.Asked.{Names, Asked, Plan, Check, Show}
+use Rattle.program_ends.specs.declared.files.Work.{Work}
+use Rattle.stow_words.specs.declared.order.Order.{Order}
+use Rattle.stow_words.specs.declared.order.Order.TheVariants.{Plan, Check, Show, Make}
+use Rattle.stow_answers.specs.Names.{Names, names_from}
 use Rattle.stow_answers.specs.Booked.{IsPlain, booked_voyage, voyage_of}
 use Rattle.stow_answers.specs.Inputs.{IsContent, AreInputs, TurnsDown, refused}
 use Rattle.stow_answers.specs.Work.{work_for, cert_name}
@@ -304,10 +306,12 @@ show_one bytes answer.Unbuilt b h k = absurd h
 
 -- ## All orders
 
-pub one_answer : (order : Option Asked) (files : Files) (a b : Answer) → IsAnswerTo order (Some files) a → IsAnswerTo order (Some files) b → a ≡ b
-one_answer None files a b h k = h ∙ sym k
-one_answer (Some (Plan names)) files a b h k = judged_one names files (PlanOf names.base) (plan_one names.base) a b h k
-one_answer (Some (Check names)) files a b h k = judged_one names files (CheckOf names.base (Some files)) (check_one names.base files) a b h k
-one_answer (Some (Show file)) files a b h k =
+pub one_answer : (order : Order) (files : Files) (a b : Answer) → IsAnswerTo order (Some files) a → IsAnswerTo order (Some files) b → a ≡ b
+one_answer (Plan profile bookings base None workers budget) files a b h k = judged_one (names_from profile bookings base) files (PlanOf base) (plan_one base) a b h k
+one_answer (Plan profile bookings base (Some arrival) workers budget) files a b h k = h ∙ sym k
+one_answer (Check profile bookings base None) files a b h k = judged_one (names_from profile bookings base) files (CheckOf base (Some files)) (check_one base files) a b h k
+one_answer (Check profile bookings base (Some arrival)) files a b h k = h ∙ sym k
+one_answer (Make number base) files a b h k = h ∙ sym k
+one_answer (Show file) files a b h k =
     let e = one_content files file h.bytes k.bytes h.content k.content in
     show_one k.bytes a b (subst (λ (y : List ℕ). ShowOf y a) e h.shown) k.shown

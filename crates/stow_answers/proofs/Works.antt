@@ -14,7 +14,7 @@ use Rattle.greedy_loader.specs.Plain.{IsPlainCargo}
 use Rattle.greedy_loader.proofs.PlainCargo.{cargo_is_plain}
 use Rattle.greedy_loader.proofs.Sailing.{load_is_legal, load_has_count}
 use Rattle.plan_files.proofs.Showing.{groups_legal}
-use Rattle.stow_answers.specs.declared.files.NamedFile.{NamedFile}
+use Rattle.program_ends.specs.declared.files.NamedFile.{NamedFile}
 use Rattle.stow_answers.specs.declared.voyage.BookedVoyage.{BookedVoyage}
 use Rattle.stow_answers.specs.Booked.{IsBooked, voyage_of}
 use Rattle.stow_answers.specs.Voyages.{Sails, report_of}

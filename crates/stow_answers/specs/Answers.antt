@@ -26,8 +26,10 @@ use Rattle.stow_report.specs.Inputs.{limit_line}
 use Rattle.stow_report.specs.Listings.{listing_text}
 use Rattle.stow_answers.specs.declared.answer.Answer.{Answer}
 use Rattle.stow_answers.specs.declared.answer.Answer.TheVariants as answer
-use Rattle.stow_answers.specs.declared.work.Work.{Work}
-use Rattle.stow_answers.specs.Asked.{Names, Asked, Plan, Check, Show}
+use Rattle.program_ends.specs.declared.files.Work.{Work}
+use Rattle.stow_words.specs.declared.order.Order.{Order}
+use Rattle.stow_words.specs.declared.order.Order.TheVariants.{Plan, Check, Show, Make}
+use Rattle.stow_answers.specs.Names.{Names, names_from}
 use Rattle.stow_answers.specs.declared.voyage.BookedVoyage.{BookedVoyage}
 use Rattle.stow_answers.specs.Booked.{IsPlain, booked_voyage, voyage_of}
 use Rattle.stow_answers.specs.Inputs.{IsContent, AreInputs, TurnsDown, IsReadBy}
@@ -172,12 +174,14 @@ pub record IsShown (file : List ℕ) (files : Option Files) (a : Answer) : Type 
 
 -- ## All orders
 
--- words of no form aren't built yet
-abbrev pub IsAnswerTo : Option Asked → Option Files → Answer → Type 0
-IsAnswerTo None files a = a ≡ answer.Unbuilt
-IsAnswerTo (Some (Plan names)) files a = Judges names files (PlanOf names.base) a
-IsAnswerTo (Some (Check names)) files a = Judges names files (CheckOf names.base files) a
-IsAnswerTo (Some (Show file)) files a = IsShown file files a
+-- An arrival and a made ship aren't built yet. A plan that is given needs no search: it is the same for any workers and any budget.
+abbrev pub IsAnswerTo : Order → Option Files → Answer → Type 0
+IsAnswerTo (Plan profile bookings base None workers budget) files a = Judges (names_from profile bookings base) files (PlanOf base) a
+IsAnswerTo (Plan profile bookings base (Some arrival) workers budget) files a = a ≡ answer.Unbuilt
+IsAnswerTo (Check profile bookings base None) files a = Judges (names_from profile bookings base) files (CheckOf base files) a
+IsAnswerTo (Check profile bookings base (Some arrival)) files a = a ≡ answer.Unbuilt
+IsAnswerTo (Show file) files a = IsShown file files a
+IsAnswerTo (Make number base) files a = a ≡ answer.Unbuilt
 
 -- the certificate is read where the inputs are plain and their voyage is within the limits
 pub record IsCertOf (names : Names) (files : Option Files) (name : List ℕ) : Type 0 where
@@ -192,8 +196,10 @@ abbrev pub IsCheckRead : Names → Option Files → List ℕ → Type 0
 IsCheckRead names files name = IsReadBy names files name ⊎ IsCertOf names files name
 
 -- a file that is read for the order
-abbrev pub IsReadFor : Option Asked → Option Files → List ℕ → Type 0
-IsReadFor None files name = ⊥
-IsReadFor (Some (Plan names)) files name = IsReadBy names files name
-IsReadFor (Some (Check names)) files name = IsCheckRead names files name
-IsReadFor (Some (Show file)) files name = name ≡ file
+abbrev pub IsReadFor : Order → Option Files → List ℕ → Type 0
+IsReadFor (Plan profile bookings base None workers budget) files name = IsReadBy (names_from profile bookings base) files name
+IsReadFor (Plan profile bookings base (Some arrival) workers budget) files name = ⊥
+IsReadFor (Check profile bookings base None) files name = IsCheckRead (names_from profile bookings base) files name
+IsReadFor (Check profile bookings base (Some arrival)) files name = ⊥
+IsReadFor (Show file) files name = name ≡ file
+IsReadFor (Make number base) files name = ⊥

@@ -14,7 +14,7 @@ use Rattle.stow_report.specs.Refusals.{refusal_text}
 use Rattle.stow_report.specs.Inputs.{profile_line, booking_line}
 use Rattle.stow_answers.specs.declared.answer.Answer.{Answer}
 use Rattle.stow_answers.specs.declared.answer.Answer.TheVariants as answer
-use Rattle.stow_answers.specs.Asked.{Names}
+use Rattle.stow_answers.specs.Names.{Names}
 use Rattle.stow_answers.specs.Booked.{IsPlain}
 
 -- the bytes are those under the name, or no bytes where none stand there. Of a folder that doesn't tell they may be any

@@ -1,4 +1,4 @@
-pub mod Asked
+pub mod Names
 pub mod Inputs
 pub mod Booked
 pub mod Trees

@@ -15,7 +15,7 @@ use Rattle.stow_answers.specs.declared.reading.Accepted.{Accepted}
 use Rattle.stow_answers.specs.declared.reading.Accepted.TheVariants.{Yes, No}
 use Rattle.stow_answers.specs.declared.reading.Found.{Found}
 use Rattle.stow_answers.specs.declared.reading.Found.TheVariants.{Plain, Other}
-use Rattle.stow_answers.specs.Asked.{Names}
+use Rattle.stow_answers.specs.Names.{Names}
 use Rattle.stow_answers.specs.Booked.{IsBooked}
 use Rattle.stow_answers.specs.Inputs.{AreInputs, TurnsDown, refused}
 

@@ -7,9 +7,9 @@ use Rattle.baplie_model.specs.declared.parts.CellGroup as baplie
 use Rattle.baplie_model.specs.declared.parts.Facts.{Facts}
 use Rattle.baplie_model.specs.declared.parts.Message.{Message}
 use Rattle.baplie_model.specs.Messages.{IsMessageOf}
-use Rattle.stow_answers.specs.declared.files.NamedFile.{NamedFile}
+use Rattle.program_ends.specs.declared.files.NamedFile.{NamedFile}
 use Rattle.voyage_meaning.specs.Voyage.{HasCount}
-use Rattle.stow_answers.specs.declared.work.Work.{Work}
+use Rattle.program_ends.specs.declared.files.Work.{Work}
 use Rattle.stow_answers.specs.Work.{files_of, cert_file}
 use Rattle.proof_trees.specs.Program.{cost_of}
 use Rattle.zero_one_rows.specs.Variables.{Voyage}

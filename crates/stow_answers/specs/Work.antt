@@ -10,9 +10,9 @@ use Rattle.certificate.specs.declared.tree.Head.{Head}
 use Rattle.certificate.specs.declared.tree.Outcome.TheVariants.{Optimal}
 use Rattle.certificate.specs.declared.tree.Record.{Record}
 use Rattle.certificate.specs.Text.{cert_text}
-use Rattle.stow_answers.specs.declared.files.NamedFile.{NamedFile}
+use Rattle.program_ends.specs.declared.files.NamedFile.{NamedFile}
 use Rattle.stow_answers.specs.declared.voyage.BookedVoyage.{BookedVoyage}
-use Rattle.stow_answers.specs.declared.work.Work.{Work}
+use Rattle.program_ends.specs.declared.files.Work.{Work}
 
 -- plans that can be written: fewer than the calls, each with an entry for each place, of containers that the cargo has
 pub record ArePlans (v : BookedVoyage) (plans : List Plan) : Type 0 where

@@ -1,5 +1,5 @@
 //! What an order comes to before anything is written or printed.
-use crate::work::Work;
+use program_ends::Work;
 use stow_data::Bytes;
 
 /// The answer to an order.

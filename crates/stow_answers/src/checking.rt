@@ -6,19 +6,19 @@ ghost use Rattle.zero_one_model.specs.Building.{IsWithin};
 ghost use Rattle.bound_checker.specs.Entries.{IsOneLeaf};
 ghost use Rattle.stow_answers.specs.Answers.{Judges, CheckOf, ReadsCert, CertOf, IsCheckRead, TreeOf, bound_text};
 ghost use Rattle.stow_answers.specs.Booked.{IsBooked, voyage_of};
-ghost use Rattle.stow_answers.specs.Named.{names_of, IsStop};
+ghost use Rattle.stow_answers.specs.Named.{names_of, IsStop, IsQuiet};
 ghost use Rattle.stow_answers.specs.Work.{cert_name};
 
 use crate::answer::Answer;
-use crate::files::FileList;
-use crate::order::Inputs;
+use crate::inputs::Inputs;
 use crate::reading::{Found, ReadStop, read_inputs};
 use crate::refusing::{bound_text as refused_bound, cert_text, limit_text};
 use crate::voyage::BookedVoyage;
-use crate::work::{Work, cert_name};
+use crate::work::cert_name;
 use bound_checker::{BoundNo, check_bound, is_checkable};
 use certificate::{CertFault, Tree, read_cert};
 use itoa::Buffer;
+use program_ends::{FileList, Work};
 use std::alloc::Global;
 use stow_data::{Bytes, NoMemory};
 use stow_io::{Folder, FolderNo};
@@ -33,6 +33,7 @@ pub fn check<'a, F: Folder>(
     ensures stays { F.files folder.new ≡ F.files folder.old }
     ensures gives { IfOk result (Judges (names_of inputs.entry) (F.files folder.old) (CheckOf (names_of inputs.entry).base (F.files folder.old))) }
     ensures later { F.faults folder.old ≤ F.faults folder.new }
+    ensures quiet { IsQuiet result (F.faults folder.old) (F.faults folder.new) }
     ensures failed { IfErr result (IsStop (Rose (F.faults folder.old) (F.faults folder.new)) (IsCheckRead (names_of inputs.entry) (F.files folder.old))) }
 {
     let voyage = match read_inputs(alloc, inputs, folder)? {
@@ -53,6 +54,7 @@ fn check_voyage<'a, F: Folder>(
     ensures stays { F.files folder.new ≡ F.files folder.old }
     ensures gives { IfOk result (CheckOf base.now (F.files folder.old) v.now) }
     ensures later { F.faults folder.old ≤ F.faults folder.new }
+    ensures quiet { IsQuiet result (F.faults folder.old) (F.faults folder.new) }
     ensures failed { IfErr result (IsStop (Rose (F.faults folder.old) (F.faults folder.new)) (λ name. IsWithin (voyage_of v.now) × (name ≡ cert_name base.now))) }
 {
     match Model::build(alloc, &v.ship, &v.cargo) {
@@ -76,6 +78,7 @@ fn check_model<'a, F: Folder>(
     ensures stays { F.files folder.new ≡ F.files folder.old }
     ensures gives { IfOk result (ReadsCert model.now base.now (F.files folder.old)) }
     ensures later { F.faults folder.old ≤ F.faults folder.new }
+    ensures quiet { IsQuiet result (F.faults folder.old) (F.faults folder.new) }
     ensures failed { IfErr result (IsStop (Rose (F.faults folder.old) (F.faults folder.new)) (λ name. IsWithin model.now × (name ≡ cert_name base.now))) }
 {
     let Ok(name) = cert_name(alloc, base) else {

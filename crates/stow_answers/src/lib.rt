@@ -4,9 +4,8 @@
 mod answer;
 mod answering;
 mod checking;
-mod files;
+mod inputs;
 mod law;
-mod order;
 mod planning;
 mod reading;
 mod refusing;
@@ -16,9 +15,6 @@ mod work;
 
 pub use answer::Answer;
 pub use answering::answer_to;
-pub use files::{FileList, NamedFile};
 pub use law::one_answer;
-pub use order::{Inputs, Order, order_of};
 pub use reading::ReadStop;
 pub use voyage::BookedVoyage;
-pub use work::Work;

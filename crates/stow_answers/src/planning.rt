@@ -4,10 +4,10 @@ ghost use Rattle.stow_io.specs.Causes.{Rose};
 ghost use Rattle.stow_answers.specs.Answers.{Judges, PlanOf, WithinOr};
 ghost use Rattle.stow_answers.specs.Booked.{IsBooked, voyage_of};
 ghost use Rattle.stow_answers.specs.Inputs.{IsReadBy};
-ghost use Rattle.stow_answers.specs.Named.{names_of, IsStop};
+ghost use Rattle.stow_answers.specs.Named.{names_of, IsStop, IsQuiet};
 
 use crate::answer::Answer;
-use crate::order::Inputs;
+use crate::inputs::Inputs;
 use crate::reading::{Found, ReadStop, read_inputs};
 use crate::refusing::limit_text;
 use crate::voyage::BookedVoyage;
@@ -26,6 +26,7 @@ pub fn plan<'a, F: Folder>(
     ensures stays { F.files folder.new ≡ F.files folder.old }
     ensures gives { IfOk result (Judges (names_of inputs.entry) (F.files folder.old) (PlanOf (names_of inputs.entry).base)) }
     ensures later { F.faults folder.old ≤ F.faults folder.new }
+    ensures quiet { IsQuiet result (F.faults folder.old) (F.faults folder.new) }
     ensures failed { IfErr result (IsStop (Rose (F.faults folder.old) (F.faults folder.new)) (IsReadBy (names_of inputs.entry) (F.files folder.old))) }
 {
     let voyage = match read_inputs(alloc, inputs, folder)? {

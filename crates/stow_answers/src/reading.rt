@@ -2,11 +2,11 @@
 ghost use Rattle.std.specs.Prelude.{◌≡◌, ◌≤◌, ◌^◌, length, IfOk, IfErr};
 ghost use Rattle.stow_io.specs.Causes.{Rose};
 ghost use Rattle.stow_answers.specs.Inputs.{IsContent, IsReadBy};
-ghost use Rattle.stow_answers.specs.Named.{names_of, IsStop};
+ghost use Rattle.stow_answers.specs.Named.{names_of, IsStop, IsQuiet};
 ghost use Rattle.stow_answers.specs.Reading.{IsFound, IsShipOf, AreBookingsOf};
 
 use crate::answer::Answer;
-use crate::order::Inputs;
+use crate::inputs::Inputs;
 use crate::refusing::refused;
 use crate::voyage::BookedVoyage;
 use bookings::{BookingFault, Bookings, cargo_of, read_bookings};
@@ -33,6 +33,7 @@ pub fn read<'a, F: Folder>(folder: &mut F, name: &'a str) -> Result<Bytes, ReadS
     ensures gives { IfOk result (IsContent (F.files folder.old) name.now) }
     ensures small { IfOk result (λ bytes. length bytes ≤ 536870912) }
     ensures later { F.faults folder.old ≤ F.faults folder.new }
+    ensures quiet { IsQuiet result (F.faults folder.old) (F.faults folder.new) }
     ensures failed { IfErr result (IsStop (Rose (F.faults folder.old) (F.faults folder.new)) (λ n. n ≡ name.now)) }
 {
     match folder.read(name) {
@@ -61,6 +62,7 @@ pub fn read_inputs<'a, F: Folder>(
     ensures stays { F.files folder.new ≡ F.files folder.old }
     ensures gives { IfOk result (IsFound (names_of inputs.entry) (F.files folder.old)) }
     ensures later { F.faults folder.old ≤ F.faults folder.new }
+    ensures quiet { IsQuiet result (F.faults folder.old) (F.faults folder.new) }
     ensures failed { IfErr result (IsStop (Rose (F.faults folder.old) (F.faults folder.new)) (IsReadBy (names_of inputs.entry) (F.files folder.old))) }
 {
     let profile = read(folder, inputs.profile)?;

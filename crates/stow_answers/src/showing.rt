@@ -3,15 +3,14 @@ ghost use Rattle.std.specs.Prelude.{◌≡◌, ◌≤◌, ◌^◌, [], length, I
 ghost use Rattle.stow_report.specs.Listings.{AreListable, listing_text};
 ghost use Rattle.stow_io.specs.Causes.{Rose};
 ghost use Rattle.stow_answers.specs.Answers.{IsShown, ShowOf};
-ghost use Rattle.stow_answers.specs.Named.{IsStop};
+ghost use Rattle.stow_answers.specs.Named.{IsStop, IsQuiet};
 
 use crate::answer::Answer;
-use crate::files::FileList;
 use crate::reading::{ReadStop, read};
 use crate::refusing::file_text;
-use crate::work::Work;
 use baplie_model::Message;
 use baplie_read::{BaplieFault, read_baplie};
+use program_ends::{FileList, Work};
 use std::alloc::Global;
 use stow_data::NoMemory;
 use stow_io::Folder;
@@ -26,6 +25,7 @@ pub fn show<'a, F: Folder>(
     ensures stays { F.files folder.new ≡ F.files folder.old }
     ensures gives { IfOk result (IsShown file.now (F.files folder.old)) }
     ensures later { F.faults folder.old ≤ F.faults folder.new }
+    ensures quiet { IsQuiet result (F.faults folder.old) (F.faults folder.new) }
     ensures failed { IfErr result (IsStop (Rose (F.faults folder.old) (F.faults folder.new)) (λ name. name ≡ file.now)) }
 {
     let bytes = read(folder, file)?;

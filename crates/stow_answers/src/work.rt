@@ -6,21 +6,14 @@ ghost use Rattle.stow_answers.specs.Booked.{IsBooked};
 ghost use Rattle.stow_answers.specs.Voyages.{Sails};
 ghost use Rattle.stow_answers.specs.Work.{ArePlans, file_name, file_of, files_of, cert_name, cert_file, head, leaf, work_of_plans, work_for};
 
-use crate::files::{FileList, NamedFile};
 use crate::voyage::BookedVoyage;
 use certificate::{End, Head, Outcome, Record, Tree, write_cert};
 use greedy_loader::load;
 use plan_files::departure_text;
+use program_ends::{FileList, NamedFile, Work};
 use std::alloc::Global;
 use stow_data::{Bytes, NoMemory, Plan, Word};
 use zero_one_rows::{RaiseList, RowList};
-
-/// The files to be written, in their order, and the report to be printed after them.
-#[derive(Debug, Drop)]
-pub struct Work {
-    pub files: FileList,
-    pub report: Bytes,
-}
 
 /// The name of the departure file of a call, of which there are fewer than a hundred.
 fn file_name(alloc: Global, base: &str, call: u32) -> Result<Word, NoMemory>

@@ -1,4 +1,3 @@
-pub mod Writing
-pub mod Outside
-pub mod Ends
 pub mod Numbers
+pub mod Ends
+pub mod Taken

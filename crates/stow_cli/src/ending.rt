@@ -1,38 +1,28 @@
-//! The writes, the report and the last line.
-ghost use Rattle.std.specs.Prelude.{◌≡◌, ◌⊎◌, ◌≤◌, codes, ◌++◌};
+//! The writes, the report and the last line, with the status.
+ghost use Rattle.std.specs.Prelude.{◌≡◌, ◌≤◌};
 ghost use Rattle.stow_io.specs.Causes.{Rose};
-ghost use Rattle.stow_cli.specs.Ends.{Says, SaysNo, Finishes};
-ghost use Rattle.stow_cli.specs.Outside.{outside, HasRisen};
+ghost use Rattle.program_ends.specs.Ends.{Says};
+ghost use Rattle.program_ends.specs.Outside.{outside, HasRisen};
+ghost use Rattle.stow_cli.specs.Ends.{SaysNo, Completes, words_line, words_status};
 
 use crate::status::Status;
-use crate::writing::write_files;
-use stow_answers::Work;
-use stow_io::{Folder, FolderNo, Sink};
+use program_ends::{Ended, Work, finish, say};
+use stow_io::{Folder, Sink};
+use stow_words::WordsNo;
 
-/// Prints a line, or a part of it where the sink fails.
-pub fn say<K: Sink>(out: &mut K, line: &[u8])
-    ensures printed { Says line.now (K.written out.old) (K.written out.new) (Rose (K.faults out.old) (K.faults out.new)) }
-    ensures later { K.faults out.old ≤ K.faults out.new }
+/// Writes all files, and then prints the report.
+pub fn complete<F: Folder, K: Sink>(work: &Work, folder: &mut F, out: &mut K) -> Status
+    ensures completes { Completes work.now result (outside F.Folder K.Sink folder.old out.old) (outside F.Folder K.Sink folder.new out.new) }
+    ensures fault { result ≡ Status.Fault → HasRisen (outside F.Folder K.Sink folder.old out.old) (outside F.Folder K.Sink folder.new out.new) }
+    ensures quiet { (result ≡ Status.Fault → ⊥) → F.faults folder.new ≡ F.faults folder.old }
+    ensures later { F.faults folder.old ≤ F.faults folder.new }
+    ensures sink_later { K.faults out.old ≤ K.faults out.new }
 {
-    // A line that the sink refuses doesn't change how the run ended.
-    match out.put(line) {
-        Ok(()) => (),
-        Err(_) => (),
+    match finish(work, folder, out) {
+        Ended::Done => Status::Fine,
+        Ended::Fault => Status::Fault,
+        Ended::Memory => Status::Memory,
     }
-}
-
-/// Prints a line of two words and a name, or a part of it where the sink fails. It takes no memory.
-pub fn say_name<K: Sink>(out: &mut K, front: &[u8], name: &str)
-    ensures printed { Says (front.now ++ (name.now ++ codes "\n")) (K.written out.old) (K.written out.new) (Rose (K.faults out.old) (K.faults out.new)) }
-    ensures later { K.faults out.old ≤ K.faults out.new }
-{
-    if out.put(front).is_err() {
-        return;
-    }
-    if out.put(name.as_bytes()).is_err() {
-        return;
-    }
-    say(out, b"\n");
 }
 
 /// Prints the line of what a check refuses.
@@ -46,28 +36,35 @@ pub fn say_no<K: Sink>(out: &mut K, line: &[u8]) -> Status
     }
 }
 
-/// Writes all files, and then prints the report.
-pub fn finish<F: Folder, K: Sink>(work: &Work, folder: &mut F, out: &mut K) -> Status
-    ensures finishes { Finishes work.now result (outside F.Folder K.Sink folder.old out.old) (outside F.Folder K.Sink folder.new out.new) }
-    ensures fault { result ≡ Status.Fault → HasRisen (outside F.Folder K.Sink folder.old out.old) (outside F.Folder K.Sink folder.new out.new) }
-    ensures later { F.faults folder.old ≤ F.faults folder.new }
-    ensures sink_later { K.faults out.old ≤ K.faults out.new }
+/// The line of words that are refused.
+fn line_of(no: WordsNo) -> &'static [u8]
+    ensures { result.now ≡ words_line no }
 {
-    match write_files(folder, &work.files) {
-        Ok(()) => match out.put(work.report.as_slice()) {
-            Ok(()) => Status::Fine,
-            Err(_) => Status::Fault,
-        },
-        Err(stop) => match stop.no {
-            FolderNo::NoMemory => {
-                say(out, b"memory\n");
-                Status::Memory
-            }
-            FolderNo::Failed => {
-                let name = work.files.at(stop.index).name.as_str();
-                say_name(out, b"fault write ", name);
-                Status::Fault
-            }
-        },
+    match no {
+        WordsNo::NotTaken => b"refused words 1\n",
+        WordsNo::Workers => b"refused words 2\n",
+        WordsNo::Budget => b"refused words 3\n",
+        WordsNo::Number => b"refused words 4\n",
+        WordsNo::NoMemory => b"memory\n",
     }
+}
+
+/// The status of words that are refused.
+fn status_of(no: WordsNo) -> Status
+    ensures { result ≡ words_status no }
+{
+    match no {
+        WordsNo::NoMemory => Status::Memory,
+        _ => Status::Words,
+    }
+}
+
+/// Prints why words are refused.
+pub fn refuse<K: Sink>(no: WordsNo, out: &mut K) -> Status
+    ensures status { result ≡ words_status no }
+    ensures printed { Says (words_line no) (K.written out.old) (K.written out.new) (Rose (K.faults out.old) (K.faults out.new)) }
+    ensures later { K.faults out.old ≤ K.faults out.new }
+{
+    say(out, line_of(no));
+    status_of(no)
 }

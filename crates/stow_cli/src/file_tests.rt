@@ -87,7 +87,7 @@ fn certificates_are_checked<R: Abort>(rt: &R, alloc: Global) -> Result<(), NoMem
 }
 
 /// A bay plan whose lines end with CR LF.
-const BAY_PLAN: &[u8] = b"UNB+UNOA:2+LINE+SHIP+260131:0900+77'\r
+pub const BAY_PLAN: &[u8] = b"UNB+UNOA:2+LINE+SHIP+260131:0900+77'\r
 UNH+1+BAPLIE:D:95B:UN:SMDG22'\r
 BGM++PLAN1+9'\r
 DTM+137:2601310900:201'\r
@@ -135,7 +135,7 @@ containers 1
 kilograms 22000
 ";
 
-fn shown<R: Abort>(
+pub fn shown<R: Abort>(
     rt: &R,
     alloc: Global,
     text: &[u8],
@@ -174,7 +174,7 @@ fn bay_plans_are_shown<R: Abort>(rt: &R, alloc: Global) -> Result<(), NoMemory> 
 }
 
 /// So many bytes of a text.
-fn cut(text: &[u8], most: usize) -> &[u8] {
+pub fn cut(text: &[u8], most: usize) -> &[u8] {
     if most <= text.len() {
         &text[..most]
     } else {

@@ -4,9 +4,7 @@
 mod ending;
 mod status;
 mod top;
-mod writing;
 
-pub use ending::say;
 pub use status::Status;
 pub use top::{run, stow};
 
@@ -18,3 +16,7 @@ mod plan_tests;
 mod refusal_tests;
 #[cfg(test)]
 mod runs;
+#[cfg(test)]
+mod show_tests;
+#[cfg(test)]
+mod word_tests;

@@ -8,32 +8,6 @@ use std::test::Fail;
 use stow_data::NoMemory;
 use stow_io::{MemFolder, MemSink};
 
-/// Words that aren't taken.
-const OTHER_WORDS: &[&[&str]] = &[
-    &[],
-    &["stow", "plan", "ship.toml", "cargo.toml"],
-    &["stow", "plan", "ship.toml", "cargo.toml", "X", "Y"],
-    &["stow", "plans", "ship.toml", "cargo.toml", "X"],
-    &["stow", "plan", "ship.toml", "cargo.toml", "-X"],
-    &["stow", "plan", "-", "cargo.toml", "X"],
-];
-
-fn other_words_are_unbuilt<R: Abort>(rt: &R, alloc: Global) -> Result<(), NoMemory> {
-    let mut folder = folder_of(alloc, SHIP, CARGO, &[])?;
-    for words in OTHER_WORDS {
-        ends(
-            rt,
-            alloc,
-            *words,
-            &mut folder,
-            Status::Unbuilt,
-            b"unbuilt\n",
-        )?;
-    }
-    assert!(rt; folder.file("X.cert").is_none());
-    Ok(())
-}
-
 /// Runs `plan`.
 fn plan_ends<R: Abort>(
     rt: &R,
@@ -266,7 +240,6 @@ fn too_many_variables<R: Abort>(rt: &R, alloc: Global) -> Result<(), NoMemory> {
 
 #[test]
 fn nothing_is_written(rt: HostRuntime) -> Result<(), Fail> {
-    other_words_are_unbuilt(&rt, rt.alloc())?;
     other_inputs_are_unbuilt(&rt, rt.alloc())?;
     refused_profiles_are_told(&rt, rt.alloc())?;
     refused_bookings_are_told(&rt, rt.alloc())?;

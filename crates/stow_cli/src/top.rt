@@ -1,16 +1,20 @@
 //! The top call.
 ghost use Rattle.std.specs.Prelude.{◌≡◌, ◌⊎◌, ◌≤◌};
-ghost use Rattle.stow_cli.specs.Ends.{IsRun, IsExact};
-ghost use Rattle.stow_cli.specs.Outside.{outside, HasRisen};
+ghost use Rattle.program_ends.specs.Outside.{outside, HasRisen};
+ghost use Rattle.stow_words.specs.Orders.{ordered};
+ghost use Rattle.stow_cli.specs.Ends.{Follows, IsRun, IsExact};
+ghost use Rattle.stow_cli.specs.Taken.{HasClapFault, OrdersOwn};
 
-use crate::ending::{finish, say, say_name, say_no};
+use crate::ending::{complete, refuse, say_no};
 use crate::status::Status;
+use program_ends::{say, say_name};
 use std::alloc::Global;
 use std::sync::Wait;
 use std::thread::Threads;
-use stow_answers::{Answer, ReadStop, answer_to, order_of};
+use stow_answers::{Answer, ReadStop, answer_to};
 use stow_data::WordList;
 use stow_io::{Folder, Gate, Sink};
+use stow_words::{Order, read_words};
 
 /// Does what the words ask for, over the folder's files, and prints into the sink.
 pub fn stow<R: Threads + Wait + Sync, F: Folder, K: Sink, G: Gate + Sync>(
@@ -21,9 +25,12 @@ pub fn stow<R: Threads + Wait + Sync, F: Folder, K: Sink, G: Gate + Sync>(
     out: &mut K,
     _gate: &G,
 ) -> Status
-    ensures run { IsRun words.now result (outside F.Folder K.Sink folder.old out.old) (outside F.Folder K.Sink folder.new out.new) }
-    ensures exact { IsExact words.now result (outside F.Folder K.Sink folder.old out.old) (outside F.Folder K.Sink folder.new out.new) }
+    ensures run { IsRun (ordered words.now) result (outside F.Folder K.Sink folder.old out.old) (outside F.Folder K.Sink folder.new out.new) }
+    ensures exact { IsExact (ordered words.now) result (outside F.Folder K.Sink folder.old out.old) (outside F.Folder K.Sink folder.new out.new) }
+    ensures not_taken { HasClapFault words.now result }
+    ensures own { OrdersOwn words.now result }
     ensures fault { result ≡ Status.Fault → HasRisen (outside F.Folder K.Sink folder.old out.old) (outside F.Folder K.Sink folder.new out.new) }
+    ensures quiet { (result ≡ Status.Fault → ⊥) → F.faults folder.new ≡ F.faults folder.old }
     ensures folder_later { F.faults folder.old ≤ F.faults folder.new }
     ensures sink_later { K.faults out.old ≤ K.faults out.new }
 {
@@ -38,28 +45,44 @@ pub fn run<F: Folder, K: Sink>(
     folder: &mut F,
     out: &mut K,
 ) -> Status
-    ensures run { IsRun words.now result (outside F.Folder K.Sink folder.old out.old) (outside F.Folder K.Sink folder.new out.new) }
-    ensures exact { IsExact words.now result (outside F.Folder K.Sink folder.old out.old) (outside F.Folder K.Sink folder.new out.new) }
+    ensures run { IsRun (ordered words.now) result (outside F.Folder K.Sink folder.old out.old) (outside F.Folder K.Sink folder.new out.new) }
+    ensures exact { IsExact (ordered words.now) result (outside F.Folder K.Sink folder.old out.old) (outside F.Folder K.Sink folder.new out.new) }
+    ensures not_taken { HasClapFault words.now result }
+    ensures own { OrdersOwn words.now result }
     ensures fault { result ≡ Status.Fault → HasRisen (outside F.Folder K.Sink folder.old out.old) (outside F.Folder K.Sink folder.new out.new) }
+    ensures quiet { (result ≡ Status.Fault → ⊥) → F.faults folder.new ≡ F.faults folder.old }
     ensures folder_later { F.faults folder.old ≤ F.faults folder.new }
     ensures sink_later { K.faults out.old ≤ K.faults out.new }
 {
     obey(alloc, words, folder, out)
 }
 
-/// Answers the order, writes its files and prints.
+/// Reads the words, and does what they order.
 fn obey<F: Folder, K: Sink>(alloc: Global, words: &WordList, folder: &mut F, out: &mut K) -> Status
-    ensures run { IsRun words.now result (outside F.Folder K.Sink folder.old out.old) (outside F.Folder K.Sink folder.new out.new) }
+    ensures run { IsRun (ordered words.now) result (outside F.Folder K.Sink folder.old out.old) (outside F.Folder K.Sink folder.new out.new) }
+    ensures not_taken { HasClapFault words.now result }
+    ensures own { OrdersOwn words.now result }
     ensures fault { result ≡ Status.Fault → HasRisen (outside F.Folder K.Sink folder.old out.old) (outside F.Folder K.Sink folder.new out.new) }
+    ensures quiet { (result ≡ Status.Fault → ⊥) → F.faults folder.new ≡ F.faults folder.old }
     ensures folder_later { F.faults folder.old ≤ F.faults folder.new }
     ensures sink_later { K.faults out.old ≤ K.faults out.new }
 {
-    let Some(order) = order_of(words) else {
-        say(out, b"unbuilt\n");
-        return Status::Unbuilt;
-    };
+    match read_words(alloc, words) {
+        Ok(order) => follow(alloc, &order, folder, out),
+        Err(no) => refuse(no, out),
+    }
+}
+
+/// Answers the order, writes its files and prints.
+fn follow<F: Folder, K: Sink>(alloc: Global, order: &Order, folder: &mut F, out: &mut K) -> Status
+    ensures follows { Follows order.now result (outside F.Folder K.Sink folder.old out.old) (outside F.Folder K.Sink folder.new out.new) }
+    ensures fault { result ≡ Status.Fault → HasRisen (outside F.Folder K.Sink folder.old out.old) (outside F.Folder K.Sink folder.new out.new) }
+    ensures quiet { (result ≡ Status.Fault → ⊥) → F.faults folder.new ≡ F.faults folder.old }
+    ensures folder_later { F.faults folder.old ≤ F.faults folder.new }
+    ensures sink_later { K.faults out.old ≤ K.faults out.new }
+{
     match answer_to(alloc, order, folder) {
-        Ok(Answer::Work(work)) => finish(&work, folder, out),
+        Ok(Answer::Work(work)) => complete(&work, folder, out),
         Ok(Answer::No(line)) => say_no(out, line.as_slice()),
         Ok(Answer::Input(line)) => {
             say(out, line.as_slice());

@@ -1,55 +1,21 @@
 //! The program: the real words, files and output, and the top call.
 #![tactic(auto)]
 
-use std::alloc::Global;
-use std::env;
-use std::io::ErrorKind;
+use program_ends::{NoWords, given_words};
 use std::process::ExitCode;
-use std::rt::Env;
-use stow_cli::{Status, say, stow};
-use stow_data::{Word, WordList};
+use stow_cli::{Status, stow};
 use stow_io::{NoGate, RealFolder, RealOut};
-
-/// Why there are no words: want of memory, or they can't be had or aren't UTF-8.
-enum WordsNo {
-    NoMemory,
-    NotText,
-}
-
-fn words_of<R: Env + Alloc>(rt: &R, alloc: Global) -> Result<WordList, WordsNo> {
-    let args = match env::args(rt) {
-        Ok(args) => args,
-        Err(error) if error.kind() == ErrorKind::OutOfMemory => return Err(WordsNo::NoMemory),
-        Err(_) => return Err(WordsNo::NotText),
-    };
-    let mut words = WordList::new(alloc);
-    for arg in args {
-        let Ok(word) = Word::of(alloc, arg.as_str()) else {
-            return Err(WordsNo::NoMemory);
-        };
-        if words.push(word).is_err() {
-            return Err(WordsNo::NoMemory);
-        }
-    }
-    Ok(words)
-}
 
 fn main(rt: HostRuntime) -> ExitCode {
     let alloc = rt.alloc();
     let mut out = RealOut::new(&rt);
-    let status = match words_of(&rt, alloc) {
+    let status = match given_words(&rt, alloc, &mut out) {
         Ok(words) => {
             let mut folder = RealFolder::new(&rt, alloc);
             stow(&rt, alloc, &words, &mut folder, &mut out, &NoGate)
         }
-        Err(WordsNo::NoMemory) => {
-            say(&mut out, b"memory\n");
-            Status::Memory
-        }
-        Err(WordsNo::NotText) => {
-            say(&mut out, b"refused words 1\n");
-            Status::Words
-        }
+        Err(NoWords::NoMemory) => Status::Memory,
+        Err(NoWords::NotText) => Status::Words,
     };
     ExitCode::from(status.number())
 }

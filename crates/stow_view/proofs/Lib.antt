@@ -1,4 +1,2 @@
 pub mod PicturesAndPage
 pub mod ReadViews
-pub mod Steps
-pub mod Texts

@@ -1,5 +1,4 @@
 pub mod Asked
 pub mod Reading
 pub mod Work
-pub mod Writing
 pub mod Ends

@@ -1,60 +1,21 @@
-//! The writes, the report and the last line.
-ghost use Rattle.std.specs.Prelude.{◌≡◌, ◌⊎◌, ◌≤◌, codes, ◌++◌};
-ghost use Rattle.stow_io.specs.Causes.{Rose};
-ghost use Rattle.stow_view.specs.Ends.{Says, Finishes};
+//! The writes and the report, with the status.
+ghost use Rattle.std.specs.Prelude.{◌≤◌};
+ghost use Rattle.program_ends.specs.Outside.{outside};
+ghost use Rattle.stow_view.specs.Ends.{Completes};
 
 use crate::status::Status;
-use crate::work::Work;
-use crate::writing::write_files;
-use stow_io::{Folder, FolderNo, Sink};
-
-/// Prints a line, or a part of it where the sink fails.
-pub fn say<K: Sink>(out: &mut K, line: &[u8])
-    ensures printed { Says line.now (K.written out.old) (K.written out.new) (Rose (K.faults out.old) (K.faults out.new)) }
-    ensures later { K.faults out.old ≤ K.faults out.new }
-{
-    // A line that the sink refuses doesn't change how the run ended.
-    match out.put(line) {
-        Ok(()) => (),
-        Err(_) => (),
-    }
-}
-
-/// Prints a line of two words and a name, or a part of it where the sink fails. It takes no memory.
-pub fn say_name<K: Sink>(out: &mut K, front: &[u8], name: &str)
-    ensures printed { Says (front.now ++ (name.now ++ codes "\n")) (K.written out.old) (K.written out.new) (Rose (K.faults out.old) (K.faults out.new)) }
-    ensures later { K.faults out.old ≤ K.faults out.new }
-{
-    if out.put(front).is_err() {
-        return;
-    }
-    if out.put(name.as_bytes()).is_err() {
-        return;
-    }
-    say(out, b"\n");
-}
+use program_ends::{Ended, Work, finish};
+use stow_io::{Folder, Sink};
 
 /// Writes all files, and then prints the report.
-pub fn finish<F: Folder, K: Sink>(work: &Work, folder: &mut F, out: &mut K) -> Status
-    ensures finishes { Finishes work.now result (F.files folder.old) (F.files folder.new) (K.written out.old) (K.written out.new) (Rose (F.faults folder.old) (F.faults folder.new)) (Rose (K.faults out.old) (K.faults out.new)) }
+pub fn complete<F: Folder, K: Sink>(work: &Work, folder: &mut F, out: &mut K) -> Status
+    ensures completes { Completes work.now result (outside F.Folder K.Sink folder.old out.old) (outside F.Folder K.Sink folder.new out.new) }
     ensures later { F.faults folder.old ≤ F.faults folder.new }
     ensures sink_later { K.faults out.old ≤ K.faults out.new }
 {
-    match write_files(folder, &work.files) {
-        Ok(()) => match out.put(work.report.as_slice()) {
-            Ok(()) => Status::Fine,
-            Err(_) => Status::Fault,
-        },
-        Err(stop) => match stop.no {
-            FolderNo::NoMemory => {
-                say(out, b"memory\n");
-                Status::Memory
-            }
-            FolderNo::Failed => {
-                let name = work.files.at(stop.index).name.as_str();
-                say_name(out, b"fault write ", name);
-                Status::Fault
-            }
-        },
+    match finish(work, folder, out) {
+        Ended::Done => Status::Fine,
+        Ended::Fault => Status::Fault,
+        Ended::Memory => Status::Memory,
     }
 }

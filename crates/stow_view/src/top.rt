@@ -1,13 +1,15 @@
 //! The top call.
 ghost use Rattle.std.specs.Prelude.{◌≡◌, ◌≤◌};
 ghost use Rattle.stow_io.specs.Causes.{Rose};
+ghost use Rattle.program_ends.specs.Outside.{outside};
 ghost use Rattle.stow_view.specs.Ends.{IsRun, IsAnswer};
 
-use crate::ending::{finish, say, say_name};
+use crate::ending::complete;
 use crate::naming::{are_together, names_in};
 use crate::reading::{Stop, read_views};
 use crate::status::Status;
-use crate::work::{Work, work_of};
+use crate::work::work_of;
+use program_ends::{Work, say, say_name};
 use std::alloc::Global;
 use stow_data::{NoMemory, Word, WordList};
 use stow_io::{Folder, Sink};
@@ -36,7 +38,7 @@ pub fn view<F: Folder, K: Sink>(
     folder: &mut F,
     out: &mut K,
 ) -> Status
-    ensures run { IsRun words.now result (F.files folder.old) (F.files folder.new) (K.written out.old) (K.written out.new) (Rose (F.faults folder.old) (F.faults folder.new)) (Rose (K.faults out.old) (K.faults out.new)) }
+    ensures run { IsRun words.now result (outside F.Folder K.Sink folder.old out.old) (outside F.Folder K.Sink folder.new out.new) }
     ensures later { F.faults folder.old ≤ F.faults folder.new }
     ensures sink_later { K.faults out.old ≤ K.faults out.new }
 {
@@ -49,7 +51,7 @@ pub fn view<F: Folder, K: Sink>(
         return Status::Words;
     }
     match answer(alloc, folder, names) {
-        Ok(work) => finish(&work, folder, out),
+        Ok(work) => complete(&work, folder, out),
         Err(Stop::Refused(line)) => {
             say(out, line.as_slice());
             Status::Input

@@ -5,17 +5,10 @@ ghost use Rattle.stow_view.specs.Work.{ports_of, file_of, files_of, line_of, rep
 
 use crate::naming::{base_of, page_name, picture_name};
 use crate::reading::{View, ViewList};
-use crate::writing::{FileList, NamedFile};
 use bay_views::{add_ports, index_page, picture};
+use program_ends::{FileList, NamedFile, Work};
 use std::alloc::Global;
 use stow_data::{Bytes, NameList, NoMemory, Word, WordList};
-
-/// The files to be written, in their order, and the report to be printed after them.
-#[derive(Debug, Drop)]
-pub struct Work {
-    pub files: FileList,
-    pub report: Bytes,
-}
 
 /// The ports of discharge of all bay plans, so that each has one colour in all pictures.
 fn ports_of(alloc: Global, views: &[View]) -> Result<NameList, NoMemory>

@@ -1,7 +1,7 @@
 use Rattle.std.proofs.Common.{◌≡◌, ◌∙◌, List, ap, sym, subst, Some, None}
 use Rattle.stow_data.specs.Plans.{Plan}
 use Rattle.greedy_loader.specs.Loader.{load}
-use Rattle.stow_answers.specs.declared.work.Work.{Work}
+use Rattle.program_ends.specs.declared.files.Work.{Work}
 use Rattle.stow_answers.specs.Voyages.{Sails}
 use Rattle.stow_answers.specs.Work.{ArePlans, work_of_plans}
 use Rattle.stow_answers.proofs.Works.{are_plans, cargo_plain, sails_from, work_from, work_none}

@@ -1,27 +1,21 @@
-use Rattle.std.proofs.Common.{inl, inr, subst, Option}
-use Rattle.stow_answers.specs.Answers.{IsReadFor}
-use Rattle.stow_answers.specs.Asked.{Asked}
-use Rattle.stow_answers.specs.Named.{IsStop}
+use Rattle.std.proofs.Common.{refl}
+use Rattle.stow_cli.proofs.Obeying.{run_of_order, run_of_no, fault_of_order, fault_of_no, own_of_order, own_of_no}
 use Rattle.stow_cli.proofs.top.obey.Goals as goal
 
-pub returns-in-Err-Failed-clause-run : goal.returns-in-Err-Failed-clause-run
-returns-in-Err-Failed-clause-run g c =
-    let stop = subst (IsStop _ _) c.in-Err-Failed.field-0-is c.in-Err-Failed.ensures.failed in
-    inr (inl (record {
-      name = c.in-Err-Failed.name.now;
-      is_read = subst (λ (q : Option Asked). IsReadFor q (g.F.Folder.files c.args.folder.now) c.in-Err-Failed.name.now) c.in-Some.ensures stop.1;
-      cause = stop.0;
-      stays = c.answer_to.ensures.stays;
-      says = c.say_name.ensures.printed;
-    }))
+pub returns-in-Ok-clause-run : goal.returns-in-Ok-clause-run
+returns-in-Ok-clause-run g c = run_of_order c.in-Ok.order _ c.follow.result _ _ c.in-Ok.ensures.order c.follow.ensures.follows
 
-pub returns-in-Err-FailedOwn-clause-run : goal.returns-in-Err-FailedOwn-clause-run
-returns-in-Err-FailedOwn-clause-run g c =
-    let stop = subst (IsStop _ _) c.in-Err-FailedOwn.field-0-is c.in-Err-FailedOwn.ensures.failed in
-    inr (inl (record {
-      name = c.in-Err-FailedOwn.name;
-      is_read = subst (λ (q : Option Asked). IsReadFor q (g.F.Folder.files c.args.folder.now) c.in-Err-FailedOwn.name) c.in-Some.ensures stop.1;
-      cause = stop.0;
-      stays = c.answer_to.ensures.stays;
-      says = rw c.as_str.ensures at c.say_name-in-Err-FailedOwn.ensures.printed;
-    }))
+pub returns-in-Err-clause-run : goal.returns-in-Err-clause-run
+returns-in-Err-clause-run g c = run_of_no c.in-Err.no _ c.refuse.result _ _ c.in-Err.ensures.order c.refuse.ensures.status (refl, c.refuse.ensures.printed)
+
+pub returns-in-Ok-clause-not_taken : goal.returns-in-Ok-clause-not_taken
+returns-in-Ok-clause-not_taken g c = fault_of_order c.args.words.now c.in-Ok.order c.follow.result c.in-Ok.ensures.order
+
+pub returns-in-Err-clause-not_taken : goal.returns-in-Err-clause-not_taken
+returns-in-Err-clause-not_taken g c = fault_of_no c.args.words.now c.in-Err.no c.refuse.result c.in-Err.ensures.order c.refuse.ensures.status c.in-Err.ensures.not_taken
+
+pub returns-in-Ok-clause-own : goal.returns-in-Ok-clause-own
+returns-in-Ok-clause-own g c = own_of_order c.args.words.now c.in-Ok.order c.follow.result c.in-Ok.ensures.order c.in-Ok.ensures.own
+
+pub returns-in-Err-clause-own : goal.returns-in-Err-clause-own
+returns-in-Err-clause-own g c = own_of_no c.args.words.now c.in-Err.no c.refuse.result c.in-Err.ensures.order c.refuse.ensures.status c.in-Err.ensures.own

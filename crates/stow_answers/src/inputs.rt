@@ -1,0 +1,10 @@
+//! The names of the inputs.
+
+/// The names behind `plan` and `check`.
+#[derive(Clone, Copy)]
+pub struct Inputs<'a> {
+    pub profile: &'a str,
+    pub bookings: &'a str,
+    /// The front of the names of the departure files and of the certificate.
+    pub base: &'a str,
+}
