@@ -1,5 +1,5 @@
 -- The segments of a departure file (ISO 9735, SMDG BAPLIE 2.2), each in the layout that stands before it.
-use Rattle.std.specs.Prelude.{ℕ, ℤ, ◌+◌, ◌/◌, ◌%◌, ◌==◌, Bool, if◌then◌else◌, codes, List, [], ◌∷◌, take, drop, Option, Some, None}
+use Rattle.std.specs.Prelude.{ℕ, ℤ, ◌+◌, ◌/◌, ◌%◌, ◌==◌, Bool, if◌then◌else◌, codes, List, [], ◌∷◌, ◌++◌, take, drop, Option, Some, None}
 use Rattle.std.specs.Fmt.{decimal, signed_decimal}
 use Rattle.edifact_segments.specs.declared.segments.Segment.{Segment}
 use Rattle.bookings.specs.declared.shipment.Bookings.{Bookings}
@@ -15,9 +15,13 @@ one text = text ∷ []
 abbrev pub port_element : List ℕ → List (List ℕ)
 port_element port = port ∷ codes "139" ∷ codes "6" ∷ []
 
+-- the syntax and the parties of an interchange
+abbrev pub parties : Bookings → List (List (List ℕ))
+parties b = (codes "UNOA" ∷ codes "2" ∷ []) ∷ one b.sender ∷ one b.recipient ∷ []
+
 -- UNB+UNOA:2+sender+recipient+YYMMDD:HHMM+call
 unfoldable pub unb : Bookings → ℕ → Segment
-unb b call = segment (codes "UNB") ((codes "UNOA" ∷ codes "2" ∷ []) ∷ one b.sender ∷ one b.recipient ∷ (take 6 b.date ∷ drop 6 b.date ∷ []) ∷ one (decimal call) ∷ [])
+unb b call = segment (codes "UNB") (parties b ++ (take 6 b.date ∷ drop 6 b.date ∷ []) ∷ one (decimal call) ∷ [])
 
 -- UNH+1+BAPLIE:D:95B:UN:SMDG22
 unfoldable pub unh : Segment

@@ -1,6 +1,6 @@
 //! The segments of departure files (ISO 9735, SMDG BAPLIE 2.2).
-ghost use Rattle.std.specs.Prelude.{◌≡◌, ◌++◌, ◌∷◌, [], IfOk, OnOk, length, map};
-ghost use Rattle.plan_files.specs.DepartureSegments.{unb, unh, bgm, dtm, tdt, loc, cell_segment, weight_code, mea, tmp, temperature_segments, rff, fullness, eqd, dgs, goods_segments, digit};
+ghost use Rattle.std.specs.Prelude.{◌≡◌, ◌++◌, ◌∷◌, [], IfOk, OnOk, drop, length, map, take};
+ghost use Rattle.plan_files.specs.DepartureSegments.{parties, unb, unh, bgm, dtm, tdt, loc, cell_segment, weight_code, mea, tmp, temperature_segments, rff, fullness, eqd, dgs, goods_segments, digit};
 
 use bookings::Bookings;
 use edifact_segments::{ElementBuffer, Segment, SegmentList};
@@ -19,18 +19,32 @@ fn compose(elements: &mut ElementBuffer, components: &[&[u8]]) -> Result<(), NoM
     Ok(())
 }
 
+/// Appends the syntax and the parties of an interchange.
+fn push_parties(elements: &mut ElementBuffer, bookings: &Bookings) -> Result<(), NoMemory>
+    ensures { OnOk result (elements.new ≡ elements.old ++ parties bookings.now) }
+{
+    compose(elements, &[b"UNOA", b"2"])?;
+    elements.push(bookings.sender.bytes())?;
+    elements.push(bookings.recipient.bytes())
+}
+
+/// Appends a date and a time of day.
+fn push_time(elements: &mut ElementBuffer, date: &[u8]) -> Result<(), NoMemory>
+    requires { length date.now ≡ 10 }
+    ensures { OnOk result (elements.new ≡ elements.old ++ (take 6 date.now ∷ drop 6 date.now ∷ []) ∷ []) }
+{
+    compose(elements, &[&date[..6], &date[6..]])
+}
+
 /// UNB+UNOA:2+sender+recipient+YYMMDD:HHMM+call
 #[tactic(auto, unfolding(crate::specs::DepartureSegments::unb))]
 pub fn unb(alloc: Global, bookings: &Bookings, call: u32) -> Result<Segment, NoMemory>
     requires { length bookings.now.date ≡ 10 }
     ensures { IfOk result (λ s. s ≡ unb bookings.now call) }
 {
-    let date = bookings.date.bytes();
     let mut elements = ElementBuffer::new(alloc);
-    compose(&mut elements, &[b"UNOA", b"2"])?;
-    elements.push(bookings.sender.bytes())?;
-    elements.push(bookings.recipient.bytes())?;
-    compose(&mut elements, &[&date[..6], &date[6..]])?;
+    push_parties(&mut elements, bookings)?;
+    push_time(&mut elements, bookings.date.bytes())?;
     elements.push(Buffer::new().format(call).as_bytes())?;
     Segment::of(alloc, *b"UNB", elements)
 }
