@@ -8,7 +8,7 @@ use Rattle.stow_data.specs.Plans.{Plan}
 use Rattle.stowage_rules.specs.Plan.{Holds, Stands, IsWellFormed}
 use Rattle.stowage_rules.specs.Departure.{stack_weight}
 use Rattle.voyage_meaning.specs.Moves.{IsBare}
-use Rattle.voyage_meaning.specs.Places.{IsEmptyOn}
+use Rattle.loading_rule.specs.Sides.{IsEmptyOn}
 use Rattle.loading_rule.specs.declared.layout.Layout.{Layout}
 use Rattle.loading_rule.specs.Rule.{NoneEarlierUnder}
 

@@ -1,3 +1,4 @@
+pub mod Sides
 pub mod Rule
 pub mod Kept
 pub mod Quays

@@ -12,7 +12,7 @@ use Rattle.stowage_rules.specs.Plan.{Stands}
 use Rattle.stowage_rules.specs.Departure.{stack_weight, near, has_column_in_common}
 use Rattle.stowage_rules.specs.Faults.{IsLeast}
 use Rattle.voyage_meaning.specs.Moves.{IsBare}
-use Rattle.voyage_meaning.specs.Places.{IsEmptyOn, IsBorneOn}
+use Rattle.loading_rule.specs.Sides.{IsEmptyOn, IsBorneOn}
 
 -- a separation names the classes of two containers, in either order
 abbrev pub AreSeparated : Separation → Container → Container → Type 0

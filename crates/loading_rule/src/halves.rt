@@ -4,7 +4,8 @@ ghost use Rattle.stow_data.specs.Ship.{places};
 ghost use Rattle.stowage_rules.specs.Plan.{IsWellFormed};
 ghost use Rattle.stowage_rules.specs.Places.{IsTaken};
 ghost use Rattle.voyage_meaning.specs.Moves.{Bears};
-ghost use Rattle.voyage_meaning.specs.Places.{IsBearing, IsBorneOn, IsEmptyOn};
+ghost use Rattle.loading_rule.specs.Sides.{IsBorneOn, IsEmptyOn};
+ghost use Rattle.voyage_meaning.specs.Refusals.{IsBearing};
 
 use stow_data::{Cargo, ContainerNo, Half, Length, Place, Plan, Ship};
 use stowage_rules::{filler_near, is_twenty, takes_side};

@@ -1,5 +1,5 @@
 use Rattle.std.proofs.Common.{true}
-use Rattle.voyage_meaning.specs.Places.{IsBorneOn}
+use Rattle.loading_rule.specs.Sides.{IsBorneOn}
 use Rattle.voyage_meaning.proofs.MovesHold.{by_side}
 use Rattle.loading_rule.proofs.halves.is_borne.Goals as goal
 
