@@ -1,3 +1,4 @@
+pub mod BySide
 pub mod Parts
 pub mod Lower
 pub mod Putting

@@ -1,6 +1,6 @@
 use Rattle.std.proofs.Common.{true}
 use Rattle.loading_rule.specs.Sides.{IsBorneOn}
-use Rattle.voyage_meaning.proofs.MovesHold.{by_side}
+use Rattle.loading_rule.proofs.BySide.{by_side}
 use Rattle.loading_rule.proofs.halves.is_borne.Goals as goal
 
 pub returns-then-is_borne_on : goal.returns-then-is_borne_on
