@@ -3,8 +3,6 @@
 #![tactic(auto)]
 
 #[cfg(test)]
-mod counts;
-#[cfg(test)]
 mod crane;
 #[cfg(test)]
 mod departures;
