@@ -7,7 +7,6 @@ pub mod InOrder
 pub mod CellLemmas
 pub mod CoverLemmas
 pub mod OneCover
-pub mod SampleLemmas
 pub mod Firsts
 pub mod KindJoins
 pub mod KindLemmas

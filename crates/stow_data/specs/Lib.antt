@@ -8,4 +8,3 @@ pub mod Plans
 pub mod Cargoes
 pub mod Kinds
 pub mod KindFields
-pub mod Sample

@@ -69,6 +69,13 @@ impl Cargo {
         }
     }
 
+    /// The cargo obeys its rules: a law, which costs nothing when it runs.
+    pub fn obeys_rules(&self)
+        ensures { IsCargo self.now }
+    {
+        let _opened = &self.rotation;
+    }
+
     /// The number of calls, and that the cargo obeys its rules.
     pub fn calls(&self) -> u32
         ensures number { result ≡ length self.now.rotation }

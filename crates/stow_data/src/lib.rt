@@ -15,8 +15,6 @@ mod plans;
 mod ships;
 mod short;
 mod tables;
-#[cfg(test)]
-mod tests;
 mod words;
 
 pub use cargoes::{Cargo, Container, ContainerList, Origin};

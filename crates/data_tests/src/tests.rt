@@ -1,14 +1,14 @@
 //! A small ship with a stack of each offer of lengths, whose numbers were worked out by hand.
 ghost use Rattle.std.specs.Prelude.{◌≡◌, ◌<◌, ◌∷◌, [], IfOk};
-ghost use Rattle.stow_data.specs.Sample.{sample, sample_stack, sample_stacks, sample_cover, sample_separation, sample_container, sample_containers, sample_rotation};
+ghost use Rattle.data_tests.specs.Sample.{sample, sample_stack, sample_stacks, sample_cover, sample_separation, sample_container, sample_containers, sample_rotation};
 
-use crate::{
+use std::alloc::Global;
+use std::test::Fail;
+use stow_data::{
     Bytes, CallNo, Cargo, Container, ContainerList, Cover, CoverList, CoverNo, HalfNo, KindNo,
     Kinds, Length, Lengths, Name, NameList, NoMemory, Origin, PlaceNo, Plan, Separation,
     SeparationList, Seq, Ship, Stack, StackNo, Stacks, kinds,
 };
-use std::alloc::Global;
-use std::test::Fail;
 
 fn stack(
     alloc: Global,
@@ -90,13 +90,18 @@ fn name() -> Name
     Name::of(b"MV")
 }
 
-fn ship(alloc: Global) -> Result<Ship, NoMemory>
+fn sample_ship(alloc: Global) -> Result<Ship, NoMemory>
     ensures { IfOk result (λ s. s ≡ sample) }
 {
     let stacks = stacks(alloc)?;
     let covers = covers(alloc)?;
     let separations = separations(alloc)?;
     Ship::new(alloc, name(), 1000, stacks, covers, separations)
+}
+
+/// The same ship, without a contract: a test whose proof knows each stack of it is dear.
+fn ship(alloc: Global) -> Result<Ship, NoMemory> {
+    sample_ship(alloc)
 }
 
 /// Whether this place has this number, and the number leads back to it.
@@ -117,19 +122,17 @@ fn numbers_places(rt: HostRuntime) -> Result<(), Fail> {
 }
 
 /// Whether these are the half-cells above and below.
-fn has_neighbours(ship: &Ship, h: u32, above: Option<u32>, below: Option<u32>) -> bool {
+fn has_neighbours(ship: &Ship, h: u32, above: Option<HalfNo>, below: Option<HalfNo>) -> bool {
     let half = HalfNo(h);
-    h < ship.halves()
-        && ship.above(half) == above.map(|n| HalfNo(n))
-        && ship.below(half) == below.map(|n| HalfNo(n))
+    h < ship.halves() && ship.above(half) == above && ship.below(half) == below
 }
 
 #[test]
 fn finds_neighbours(rt: HostRuntime) -> Result<(), Fail> {
     let ship = ship(rt.alloc())?;
-    assert!(rt; has_neighbours(&ship, 1, Some(3), None));
-    assert!(rt; has_neighbours(&ship, 9, None, Some(7)));
-    assert!(rt; has_neighbours(&ship, 11, None, Some(10)));
+    assert!(rt; has_neighbours(&ship, 1, Some(HalfNo(3)), None));
+    assert!(rt; has_neighbours(&ship, 9, None, Some(HalfNo(7))));
+    assert!(rt; has_neighbours(&ship, 11, None, Some(HalfNo(10))));
     Ok(())
 }
 
@@ -179,7 +182,8 @@ fn tells_its_parts(rt: HostRuntime) -> Result<(), Fail> {
 
 fn two_bytes(alloc: Global) -> Result<Bytes, NoMemory> {
     let mut list = Bytes::with_room(alloc, 8)?;
-    list.extend(b"ab")?;
+    list.push(97)?;
+    list.push(98)?;
     list.fit();
     Ok(list)
 }
@@ -257,14 +261,35 @@ fn loads(kinds: &Kinds, call: u32, g: u32) -> Option<u32> {
     Some(kinds.count(CallNo(call), KindNo(g)))
 }
 
-#[test]
-fn sorts_by_kind(rt: HostRuntime) -> Result<(), Fail> {
-    let alloc = rt.alloc();
+fn sample_kinds(alloc: Global) -> Result<Kinds, NoMemory> {
     let ship = ship(alloc)?;
     let cargo = cargo(alloc, &ship)?;
-    let kinds = kinds(alloc, &ship, &cargo)?;
-    assert!(rt; is_kind(&kinds, 0, 2000, 0) && is_kind(&kinds, 1, 3000, 2));
-    assert!(rt; loads(&kinds, 1, 0) == Some(2) && loads(&kinds, 2, 1) == Some(1));
-    assert!(rt; cargo.arrival().len() == 13);
+    kinds(alloc, &ship, &cargo)
+}
+
+#[test]
+fn sorts_by_kind(rt: HostRuntime) -> Result<(), Fail> {
+    let kinds = sample_kinds(rt.alloc())?;
+    assert!(rt; is_kind(&kinds, 0, 2000, 0));
+    assert!(rt; is_kind(&kinds, 1, 3000, 2));
+    Ok(())
+}
+
+#[test]
+fn counts_what_loads(rt: HostRuntime) -> Result<(), Fail> {
+    let kinds = sample_kinds(rt.alloc())?;
+    assert!(rt; loads(&kinds, 1, 0) == Some(2));
+    assert!(rt; loads(&kinds, 2, 1) == Some(1));
+    Ok(())
+}
+
+fn cargo_places(alloc: Global) -> Result<usize, NoMemory> {
+    let ship = ship(alloc)?;
+    Ok(cargo(alloc, &ship)?.arrival().len())
+}
+
+#[test]
+fn arrives_with_a_place_each(rt: HostRuntime) -> Result<(), Fail> {
+    assert!(rt; cargo_places(rt.alloc())? == 13);
     Ok(())
 }

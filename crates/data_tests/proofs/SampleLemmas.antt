@@ -6,7 +6,7 @@ use Rattle.stow_data.specs.declared.geometry.Lengths.TheVariants.{Forty, Twenty,
 use Rattle.stow_data.specs.Ship.{places}
 use Rattle.stow_data.specs.Profile.{IsShip, IsStack, SharesCell, IsCover, IsSeparation, SamePair}
 use Rattle.stow_data.specs.Shipment.{IsCargo, IsShipped}
-use Rattle.stow_data.specs.Sample.{sample, sample_stack, sample_stacks, sample_cover, sample_separation, sample_container, sample_containers, sample_rotation}
+use Rattle.data_tests.specs.Sample.{sample, sample_stack, sample_stacks, sample_cover, sample_separation, sample_container, sample_containers, sample_rotation}
 use Rattle.stow_data.proofs.Members.{Member}
 use Rattle.stow_data.proofs.CoverLemmas.{contains_member}
 use Rattle.stow_data.proofs.Distinct.{Each}
