@@ -11,5 +11,6 @@ pub mod Closed
 pub mod Whole
 pub mod Spreads
 pub mod LiftsHold
+pub mod Picked
 pub mod Sailing
 pub mod Naming

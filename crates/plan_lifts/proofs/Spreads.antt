@@ -140,13 +140,6 @@ picked_more base P set new n also before asks more = record {
 pub picked_all : (base : ℕ → Bool) (P : ℕ → Type 0) (set : ℕ → Bool) (n : ℕ) → ((p : ℕ) → P p → p < n) → PickedTo base P set n → (p : ℕ) → (set p ≡ true) ↔ ((base p ≡ true) ⊎ P p)
 picked_all base P set n inside to p = (to.adds p, λ x. ⊎_elim (λ (h : base p ≡ true). to.kept p h) (λ (h : P p). to.each p (inside p h) h) x)
 
--- the same of a set that began empty
-pub fresh_none : (P : ℕ → Type 0) (flags : List Bool) (n : ℕ) → flags ≡ replicate n false → PickedTo (λ p. false) P (has flags) 0
-fresh_none P flags n is = record { adds = λ p h. absurd (none_has n p (subst (λ (x : List Bool). has x p ≡ true) is h)); kept = λ p h. absurd (both_ways false refl h); each = λ p l. absurd (omega arith) }
-
-pub fresh_all : (P : ℕ → Type 0) (set : ℕ → Bool) (n : ℕ) → ((p : ℕ) → P p → p < n) → PickedTo (λ p. false) P set n → (p : ℕ) → (set p ≡ true) ↔ P p
-fresh_all P set n inside to p = (λ h. ⊎_elim (λ (x : false ≡ true). absurd (both_ways false refl x)) (λ (x : P p). x) (to.adds p h), λ x. to.each p (inside p x) x)
-
 -- the cover over a place of the set opens, and no other for this place
 pub opens_one : (ship : Ship) (set opened new : List Bool) (p k : ℕ) (place : Place) → has set p ≡ true → slice_get (places ship) p ≡ Some place → LiesUnder ship place.stack k
     → ((j : ℕ) → LiesUnder ship place.stack j → Some k ≡ Some j) → length opened ≡ length ship.covers → new ≡ slice_set opened k true

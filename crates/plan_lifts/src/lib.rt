@@ -4,6 +4,7 @@
 mod lifting;
 mod listing;
 mod moving;
+mod picking;
 mod spreading;
 
 pub use lifting::{LiftLists, Lifted, LiftsFault, lifts};

@@ -10,7 +10,8 @@ ghost use Rattle.plan_lifts.specs.Spread.{has, IsHeldIn};
 ghost use Rattle.plan_lifts.specs.Lifted.{ArePlans, IsLifted, IsLiftsFault, LiftAll, LiftsFrom};
 
 use crate::listing::{LiftList, count_of, list_of};
-use crate::spreading::{add_on_opened, add_where, covers_opened, spread};
+use crate::picking::places_where;
+use crate::spreading::{add_on_opened, covers_opened, spread};
 use std::alloc::Global;
 use stow_data::{CallNo, Cargo, FlagList, NoMemory, PlaceNo, Plan, PlanList, Seq, Ship};
 use stowage_rules::{RuleBroken, departure_fault};
@@ -67,12 +68,7 @@ pub fn changes(
     ensures differ { IfOk result (λ set. (p : ℕ) → (has set p ≡ true) ↔ (slice_get before.now p ≡ slice_get after.now p → ⊥)) }
     ensures each_flag { IfOk result (λ set. length set ≡ length (places ship.now)) }
 {
-    let mut set = Seq::filled(alloc, false, ship.places() as usize)?;
-    for p in 0..ship.places() {
-        let also = differs(before, after, PlaceNo(p));
-        add_where(&mut set, p, also);
-    }
-    Ok(set)
+    places_where(alloc, ship, |p| differs(before, after, p))
 }
 
 /// Whether a place of a set is filled.
@@ -99,12 +95,7 @@ pub fn held_of(
     ensures filled { IfOk result (λ filled. (p : ℕ) → (has filled p ≡ true) ↔ IsHeldIn plan.now (has set.now) p) }
     ensures each_flag { IfOk result (λ filled. length filled ≡ length (places ship.now)) }
 {
-    let mut filled = Seq::filled(alloc, false, ship.places() as usize)?;
-    for p in 0..ship.places() {
-        let also = is_held(plan, set, PlaceNo(p));
-        add_where(&mut filled, p, also);
-    }
-    Ok(filled)
+    places_where(alloc, ship, |p| is_held(plan, set, p))
 }
 
 /// The places that must be lifted at a call that leads from one plan to the next: what changes, what stands on a cover under which something changes, and what that spreads to.

@@ -12,6 +12,7 @@ ghost use Rattle.plan_lifts.specs.Passes.{IsCallMoves, IsFlaggedAt, IsListedAt, 
 
 use crate::lifting::{Lifted, changes, held_of};
 use crate::listing::LiftList;
+use crate::picking::places_where;
 use crate::spreading::{add_where, covers_opened};
 use std::alloc::Global;
 use stow_data::{CallNo, Cargo, CoverNo, FlagList, NoMemory, PlaceNo, Plan, PlanList, Seq, Ship};
@@ -59,28 +60,31 @@ fn push_lifts(
     Ok(())
 }
 
-/// Takes the covers of a set off.
-fn push_off(ship: &Ship, opened: &FlagList, moves: &mut MoveList) -> Result<(), NoMemory>
-    requires { length opened.now ≡ length ship.now.covers }
-    ensures { IfOk result (λ _. moves.new ≡ moves.old ++ covers_down OffCover (has opened.now) (length ship.now.covers)) }
+/// A cover off, or on.
+fn cover_move(k: CoverNo, off: bool) -> Move
+    ensures { result ≡ cond off (OffCover k) (OnCover k) }
 {
-    let count = ship.covers();
-    for done in 0..count {
-        let k = count - done - 1;
-        push_where(moves, Move::OffCover(CoverNo(k)), *opened.at(k as usize))?;
+    if off {
+        Move::OffCover(k)
+    } else {
+        Move::OnCover(k)
     }
-    Ok(())
 }
 
-/// Puts the covers of a set on.
-fn push_on(ship: &Ship, opened: &FlagList, moves: &mut MoveList) -> Result<(), NoMemory>
+/// Takes the covers of a set off, or puts them on.
+fn push_covers(
+    ship: &Ship,
+    opened: &FlagList,
+    off: bool,
+    moves: &mut MoveList,
+) -> Result<(), NoMemory>
     requires { length opened.now ≡ length ship.now.covers }
-    ensures { IfOk result (λ _. moves.new ≡ moves.old ++ covers_down OnCover (has opened.now) (length ship.now.covers)) }
+    ensures { IfOk result (λ _. moves.new ≡ moves.old ++ covers_down (λ k. cond off (OffCover k) (OnCover k)) (has opened.now) (length ship.now.covers)) }
 {
     let count = ship.covers();
     for done in 0..count {
         let k = count - done - 1;
-        push_where(moves, Move::OnCover(CoverNo(k)), *opened.at(k as usize))?;
+        push_where(moves, cover_move(CoverNo(k), off), *opened.at(k as usize))?;
     }
     Ok(())
 }
@@ -156,12 +160,7 @@ fn flagged(alloc: Global, ship: &Ship, plan: &Plan, flags: &FlagList) -> Result<
     ensures flagged { IfOk result (λ set. (p : ℕ) → (has set p ≡ true) ↔ IsFlaggedAt plan.now (has flags.now) p) }
     ensures each_flag { IfOk result (λ set. length set ≡ length (places ship.now)) }
 {
-    let mut set = Seq::filled(alloc, false, ship.places() as usize)?;
-    for p in 0..ship.places() {
-        let also = is_named(plan, flags, PlaceNo(p));
-        add_where(&mut set, p, also);
-    }
-    Ok(set)
+    places_where(alloc, ship, |p| is_named(plan, flags, p))
 }
 
 /// The places at which the listed containers stand.
@@ -210,12 +209,7 @@ fn on_covers(alloc: Global, ship: &Ship) -> Result<FlagList, NoMemory>
     ensures stand { IfOk result (λ set. (p : ℕ) → (has set p ≡ true) ↔ IsOnCover ship.now p) }
     ensures each_flag { IfOk result (λ set. length set ≡ length (places ship.now)) }
 {
-    let mut set = Seq::filled(alloc, false, ship.places() as usize)?;
-    for p in 0..ship.places() {
-        let also = is_on_cover(ship, PlaceNo(p));
-        add_where(&mut set, p, also);
-    }
-    Ok(set)
+    places_where(alloc, ship, |p| is_on_cover(ship, p))
 }
 
 /// The sets that a call's moves go by.
@@ -279,10 +273,10 @@ fn passes_of(
 {
     let mut moves = Seq::new(alloc);
     push_lifts(ship, &sets.lifted, &sets.deck, true, &mut moves)?;
-    push_off(ship, &sets.opened, &mut moves)?;
+    push_covers(ship, &sets.opened, true, &mut moves)?;
     push_lifts(ship, &sets.lifted, &sets.deck, false, &mut moves)?;
     push_puts(ship, after, &sets.due, &sets.deck, false, &mut moves)?;
-    push_on(ship, &sets.opened, &mut moves)?;
+    push_covers(ship, &sets.opened, false, &mut moves)?;
     push_puts(ship, after, &sets.due, &sets.deck, true, &mut moves)?;
     Ok(moves)
 }

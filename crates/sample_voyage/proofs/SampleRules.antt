@@ -1,5 +1,5 @@
 -- The ship and the cargo of the tests obey their rules.
-use Rattle.std.proofs.Common.{◌≡◌, ◌≢◌, ℕ, zero, suc, ◌<◌, ◌≤◌, ◌⊎◌, List, Option, [], ◌∷◌, arith, refl, ap, inl, inr, length, Some}
+use Rattle.std.proofs.Common.{◌≡◌, ◌≢◌, ℕ, Bool, zero, suc, ◌<◌, ◌≤◌, ◌⊎◌, List, Option, [], ◌∷◌, arith, refl, ap, inl, inr, length, Some}
 use Rattle.std.specs.Prelude.{slice_get, slice_index_or}
 use Rattle.stow_data.specs.declared.geometry.Stack.{Stack}
 use Rattle.stow_data.specs.Ship.{places}
@@ -92,4 +92,19 @@ cargo_rules arrival = record {
   few_containers = omega arith;
   ids_differ = pairs_from (λ c d. c.id ≢ d.id) samples.containers ids_differ;
   each_shipped = all_from (IsShipped 3) samples.containers each_shipped;
+}
+
+two_ids_differ : (reefer : Bool) → Later (λ c d. c.id ≢ d.id) (samples.two_containers reefer)
+two_ids_differ reefer = ((letters_differ 65 66 (λ (e : 65 ≡ 66). omega arith), tt), (tt, tt))
+
+both_shipped : (reefer : Bool) → Each (IsShipped 3) (samples.two_containers reefer)
+both_shipped reefer = (record { later = omega arith; in_rotation = omega arith; kg_to = omega arith }, (record { later = omega arith; in_rotation = omega arith; kg_to = omega arith }, tt))
+
+pub two_rules : (reefer : Bool) (arrival : List (Option ℕ)) → IsCargo (samples.cargo_of_two reefer arrival)
+two_rules reefer arrival = record {
+  calls_from = omega arith;
+  calls_to = omega arith;
+  few_containers = omega arith;
+  ids_differ = pairs_from (λ c d. c.id ≢ d.id) (samples.two_containers reefer) (two_ids_differ reefer);
+  each_shipped = all_from (IsShipped 3) (samples.two_containers reefer) (both_shipped reefer);
 }

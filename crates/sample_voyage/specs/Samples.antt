@@ -1,5 +1,5 @@
 -- A small ship and its cargo, for the tests.
-use Rattle.std.specs.Prelude.{ℕ, true, false, List, Option, [], ◌∷◌, Some, None}
+use Rattle.std.specs.Prelude.{ℕ, Bool, true, false, List, Option, [], ◌∷◌, Some, None}
 use Rattle.stow_data.specs.declared.geometry.Stack.{Stack}
 use Rattle.stow_data.specs.declared.geometry.Cover.{Cover}
 use Rattle.stow_data.specs.declared.geometry.Separation.{Separation}
@@ -60,3 +60,16 @@ containers = reefer ∷ plain ∷ first_class ∷ second_class ∷ plain_twenty 
 
 abbrev pub cargo : List (Option ℕ) → Cargo
 cargo arrival = record { rotation = rotation; containers = containers; arrival = arrival }
+
+-- two 40-foot containers that one stack carries: one, a reefer or not, that leaves at call 2, and one that stays to call 3
+abbrev pub early : Bool → Container
+early reefer = record { id = 65 ∷ []; load = 1; dest = 2; long = long.Forty; kg = 20500; reefer = reefer; class = None; origin = origin.Booked 0 }
+
+abbrev pub late : Container
+late = record { id = 66 ∷ []; load = 1; dest = 3; long = long.Forty; kg = 19000; reefer = false; class = None; origin = origin.Booked 1 }
+
+abbrev pub two_containers : Bool → List Container
+two_containers reefer = early reefer ∷ late ∷ []
+
+abbrev pub cargo_of_two : Bool → List (Option ℕ) → Cargo
+cargo_of_two reefer arrival = record { rotation = rotation; containers = two_containers reefer; arrival = arrival }

@@ -3,4 +3,4 @@
 
 mod sample;
 
-pub use sample::{Entries, plan_of, ship_of_level, small_cargo, small_ship};
+pub use sample::{Entries, cargo_of_two, plan_of, ship_of_level, small_cargo, small_ship};

@@ -231,6 +231,57 @@ pub fn small_cargo(alloc: Global, ship: &Ship) -> Result<Cargo, NoMemory> {
     Ok(Cargo::new(rotation, containers, arrival))
 }
 
+fn early(reefer: bool) -> Container
+    ensures { result ≡ samples.early reefer }
+{
+    Container {
+        id: Name::of(b"A"),
+        load: CallNo(1),
+        dest: CallNo(2),
+        long: Length::Forty,
+        kg: 20_500,
+        reefer,
+        class: None,
+        origin: Origin::Booked(0),
+    }
+}
+
+fn late() -> Container
+    ensures { result ≡ samples.late }
+{
+    Container {
+        id: Name::of(b"B"),
+        load: CallNo(1),
+        dest: CallNo(3),
+        long: Length::Forty,
+        kg: 19_000,
+        reefer: false,
+        class: None,
+        origin: Origin::Booked(1),
+    }
+}
+
+fn two_containers(alloc: Global, reefer: bool) -> Result<ContainerList, NoMemory>
+    ensures { IfOk result (λ list. list ≡ samples.two_containers reefer) }
+{
+    let mut containers = Seq::new(alloc);
+    containers.push(early(reefer))?;
+    containers.push(late())?;
+    Ok(containers)
+}
+
+/// Two 40-foot containers that load at call 1, and an empty ship at arrival: one, a reefer or not, leaves at call 2, the
+/// other one at call 3. The hold carries both.
+pub fn cargo_of_two(alloc: Global, ship: &Ship, reefer: bool) -> Result<Cargo, NoMemory>
+    ensures rotation { IfOk result (λ cargo. cargo.rotation ≡ samples.rotation) }
+    ensures arrival { IfOk result (λ cargo. length cargo.arrival ≡ length (places ship.now)) }
+{
+    let rotation = rotation(alloc)?;
+    let containers = two_containers(alloc, reefer)?;
+    let arrival = Plan::empty(alloc, ship)?;
+    Ok(Cargo::new(rotation, containers, arrival))
+}
+
 /// Puts a container at a place, or empties it; a place that the ship lacks is passed over.
 fn fill(plan: &mut Plan, ship: &Ship, p: u32, entry: Option<u32>)
     requires { length plan.old ≡ length (places ship.now) }

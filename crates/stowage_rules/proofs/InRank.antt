@@ -1,22 +1,21 @@
 -- The first fault, from the first fault of each rule; and that a plan without a fault meets the rules.
-use Rattle.std.specs.Prelude.{◌≡◌, ◌↔◌, IsTrue, ℕ, ◌+◌, ◌<◌, ◌≤◌, ◌⊎◌, true, false, Bool, Option, Some, None, slice_get}
+use Rattle.std.specs.Prelude.{◌≡◌, IsTrue, ℕ, ◌+◌, ◌<◌, ◌⊎◌, true, false, Bool, Some, slice_get}
 use Rattle.std.proofs.Common.{refl, sym, ◌∙◌, ap, arith, subst, inl, inr, ⊎_elim}
 use Rattle.std.proofs.lemmas.Bool.{both_ways, false_from_ne_true, cases_order}
-use Rattle.std.proofs.lemmas.Option.{same_Some, none-some}
+use Rattle.std.proofs.lemmas.Option.{same_Some}
 use Rattle.stow_data.specs.declared.geometry.Half.{Half}
 use Rattle.stow_data.specs.declared.geometry.Length.{Length}
 use Rattle.stow_data.specs.declared.geometry.Length.TheVariants.{Twenty, Forty}
 use Rattle.stow_data.specs.declared.geometry.Place.{Place}
-use Rattle.stow_data.specs.declared.geometry.Stack.{Stack}
 use Rattle.stow_data.specs.declared.geometry.Separation.{Separation as Separated}
 use Rattle.stow_data.specs.declared.cargoes.Container.{Container}
-use Rattle.stow_data.specs.Ship.{Ship, places}
+use Rattle.stow_data.specs.Ship.{Ship}
 use Rattle.stow_data.specs.Shipment.{Cargo}
 use Rattle.stow_data.specs.Plans.{Plan}
 use Rattle.stowage_rules.specs.declared.faults.RuleBroken.{RuleBroken}
 use Rattle.stowage_rules.specs.declared.faults.RuleBroken.TheVariants.{Support, TwentyOnForty, NoPlug, StackWeight, Separation}
 use Rattle.stowage_rules.specs.Plan.{Fills, Stands, IsWellFormed}
-use Rattle.stowage_rules.specs.Departure.{half_of, IsTwenty, IsSupported, IsTwentyOnTwenty, IsPlugged, IsWithinLimits, IsSeparated, near, stack_weight}
+use Rattle.stowage_rules.specs.Departure.{half_of, IsTwenty, IsSupported, IsTwentyOnTwenty, IsWithinLimits, near, stack_weight}
 use Rattle.stowage_rules.specs.Faults.{IsUnsupported, IsTwentyOnForty as IsOnForty, IsUnplugged, IsOverweight, AreTooNear, IsUnseparated, OfHalf, IsFault, MeetsRules, rank, IsLess, IsFirstFault, IsLeast, IsFirstHeavy, IsFirstUnseparated}
 use Rattle.stowage_rules.proofs.Standing.{filled_or_not, half_number}
 

@@ -2,7 +2,7 @@ pub mod Items
 pub mod Rising
 pub mod Fillers
 pub mod Standing
-pub mod Nearness
+pub mod OfClass
 pub mod StackWeights
 pub mod InRank
 pub mod PlansHold

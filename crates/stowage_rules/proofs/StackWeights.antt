@@ -1,6 +1,6 @@
 -- The weight of a stack, added up over its own places.
-use Rattle.std.specs.Prelude.{◌≡◌, ℕ, ◌+◌, ◌<◌, ◌≤◌, ◌==◌, suc, zero, List, [], ◌∷◌, Option, length, slice_get, Some, zip, sum_by, cond}
-use Rattle.std.proofs.Common.{refl, sym, ◌∙◌, ap, arith, take, take_all, ◌⊎◌, inl, ⊎_elim}
+use Rattle.std.specs.Prelude.{◌≡◌, ℕ, ◌+◌, ◌<◌, ◌≤◌, ◌==◌, suc, zero, List, [], ◌∷◌, Option, length, slice_get, Some, zip, sum_by}
+use Rattle.std.proofs.Common.{sym, ◌∙◌, ap, arith, take, take_all, ◌⊎◌, inl, ⊎_elim}
 use Rattle.std.proofs.lemmas.Bool.{cond-false, ne_eqb, cases_order}
 use Rattle.std.proofs.lemmas.Option.{slice_get_within, none-some, same_Some, get_or_from_slice_get}
 use Rattle.std.proofs.lemmas.List.Sums.{sum_by_more}

@@ -2,7 +2,7 @@
 use Rattle.std.specs.Prelude.{◌≡◌, ◌↔◌, IsTrue, not, ℕ, ◌+◌, ◌-◌, ◌<◌, ◌≤◌, suc, zero, true, false, Bool, Option, Some, None, slice_get, length}
 use Rattle.std.proofs.Common.{refl, sym, ◌∙◌, ap, arith, subst, ◌⊎◌, inl, inr, ⊎_elim}
 use Rattle.std.proofs.lemmas.Bool.{cases_order, both_ways, not-true, not_from_false, false_from_ne_true}
-use Rattle.std.proofs.lemmas.Option.{same_Some, none-some, slice_get_within}
+use Rattle.std.proofs.lemmas.Option.{same_Some, none-some}
 use Rattle.stow_data.specs.declared.geometry.Half.{Half}
 use Rattle.stow_data.specs.declared.geometry.Place.{Place}
 use Rattle.stow_data.specs.declared.geometry.Span.{Span}
@@ -13,12 +13,11 @@ use Rattle.stow_data.specs.Plans.{Plan}
 use Rattle.stow_data.proofs.Listed.{place_from}
 use Rattle.stow_data.proofs.CellLemmas.{has_side}
 use Rattle.stow_data.proofs.InOrder.{half_listed}
-use Rattle.stowage_rules.specs.Plan.{Holds, Fills, IsWellFormed}
+use Rattle.stowage_rules.specs.Plan.{Fills, IsWellFormed}
 use Rattle.stowage_rules.specs.Departure.{half_of, IsTwenty}
 use Rattle.stowage_rules.specs.Places.{FillsFrom, IsTaken}
 use Rattle.stowage_rules.specs.Faults.{IsUnsupported, IsTwentyOnForty}
 use Rattle.stowage_rules.specs.Tiers.{IsBefore, IsFirstOf}
-use Rattle.stowage_rules.proofs.Items.{slice_get_in}
 use Rattle.stowage_rules.proofs.Rising.{before_too}
 use Rattle.stowage_rules.proofs.Fillers.{from, inside, fills}
 

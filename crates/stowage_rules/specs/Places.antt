@@ -1,14 +1,13 @@
 -- The rules of plans and departures place by place, as the plain programs look at them.
-use Rattle.std.specs.Prelude.{◌≡◌, ℕ, ◌+◌, ◌<◌, ◌≤◌, ◌↔◌, Bool, false, List, Option, Some, slice_get, IsTrue}
+use Rattle.std.specs.Prelude.{◌≡◌, ℕ, ◌<◌, ◌↔◌, List, Some, slice_get}
 use Rattle.stow_data.specs.declared.geometry.Half.{Half}
 use Rattle.stow_data.specs.declared.geometry.Place.{Place}
-use Rattle.stow_data.specs.declared.geometry.Stack.{Stack}
 use Rattle.stow_data.specs.declared.cargoes.Container.{Container}
-use Rattle.stow_data.specs.Ship.{Ship, places, HasHalf, HasLength, TakesSide}
+use Rattle.stow_data.specs.Ship.{Ship, places, HasHalf, HasLength}
 use Rattle.stow_data.specs.Shipment.{Cargo, IsAboard}
 use Rattle.stow_data.specs.Plans.{Plan}
-use Rattle.stowage_rules.specs.Plan.{Holds, Fills, Stands}
-use Rattle.stowage_rules.specs.Departure.{half_of, IsTwenty, IsSupported, IsTwentyOnTwenty, IsPlugged, IsWithinLimits, IsSeparated, IsSeparatedBy, stack_weight, weight_in, near}
+use Rattle.stowage_rules.specs.Plan.{Holds, Fills}
+use Rattle.stowage_rules.specs.Faults.{HasClassAt}
 
 -- container c fills the half-cell from place n
 pub record FillsFrom (ship : Ship) (plan : Plan) (n : ℕ) (h : Half) (c : ℕ) : Type 0 where
@@ -42,3 +41,9 @@ IsSomewhere plan c = (p : ℕ) × Holds plan p c
 
 abbrev pub AboardAt : Cargo → ℕ → Plan → ℕ → Type 0
 AboardAt cargo call plan c = (container : Container) → slice_get cargo.containers c ≡ Some container → IsSomewhere plan c ↔ IsAboard call container
+
+-- the numbers, rising, of the places below number n at which containers of a class stand
+pub record AreOfClass (cargo : Cargo) (plan : Plan) (class : List ℕ) (n : ℕ) (found : List ℕ) : Type 0 where
+  pub each : (k q : ℕ) → slice_get found k ≡ Some q → (q < n) × HasClassAt cargo plan q class
+  pub all : (q : ℕ) → q < n → HasClassAt cargo plan q class → (k : ℕ) × (slice_get found k ≡ Some q)
+  pub rising : (j k p q : ℕ) → j < k → slice_get found j ≡ Some p → slice_get found k ≡ Some q → p < q

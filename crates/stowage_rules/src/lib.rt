@@ -1,6 +1,7 @@
 //! Plans and departures: what a well-formed plan is, the five rules of a departure, and plain programs beside them.
 #![tactic(auto)]
 
+mod classes;
 mod departures;
 mod faults;
 mod half_cells;

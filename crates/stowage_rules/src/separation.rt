@@ -1,11 +1,12 @@
 //! Separations of dangerous goods.
-ghost use Rattle.std.specs.Prelude.{◌≡◌, ◌↔◌, ◌<◌, ◌≤◌, ℕ, true, IsTrue, MatchOption, Some, length, slice_get};
+ghost use Rattle.std.specs.Prelude.{◌≡◌, ◌<◌, ℕ, MatchOption, Some, length, slice_get};
 ghost use Rattle.stow_data.specs.Ship.{places};
 ghost use Rattle.stowage_rules.specs.Departure.{adjoins, has_column_in_common, is_next, is_same_bay, meets, near};
-ghost use Rattle.stowage_rules.specs.Faults.{AreFirstNear, AreTooNear, HasClassAt, IsFirstUnseparated, IsLeast, IsUnseparated};
+ghost use Rattle.stowage_rules.specs.Faults.{AreFirstNear, AreTooNear, IsFirstUnseparated, IsLeast, IsUnseparated};
+ghost use Rattle.stowage_rules.specs.Places.{AreOfClass};
 
-use crate::tiers::first_of_tier;
-use stow_data::{Cargo, Name, Place, PlaceNo, Plan, Separation, Ship, Span};
+use crate::classes::{has_class, places_of_class};
+use stow_data::{Cargo, Place, PlaceNo, Plan, Separation, Ship, Span};
 
 /// Whether places of one tier or of two tiers have a column in common.
 fn shares_column(a: Span, b: Span) -> bool
@@ -63,79 +64,35 @@ pub fn is_near(ship: &Ship, level: u32, p: &Place, q: &Place) -> bool
     by_level && !shares_half(p, q)
 }
 
-/// Whether a container of this class stands at a place.
-fn has_class(cargo: &Cargo, plan: &Plan, p: PlaceNo, class: &Name) -> bool
-    requires { p < length plan.now }
-    ensures { IsTrue result ↔ HasClassAt cargo.now plan.now p class.now }
-{
-    match plan.at(p) {
-        None => false,
-        Some(c) => {
-            if c.0 >= cargo.len() {
-                return false;
-            }
-            match &cargo.container(c).class {
-                Some(own) => own == class,
-                None => false,
-            }
-        }
-    }
-}
-
-/// Whether, against a separation, a container of its first class stands at `p`, near one of its second class at `q`.
-fn are_too_near(
-    ship: &Ship,
-    cargo: &Cargo,
-    plan: &Plan,
-    rule: &Separation,
-    p: PlaceNo,
-    q: PlaceNo,
-) -> bool
-    requires each_place { length plan.now ≡ length (places ship.now) }
+/// Whether two places are near by the level of a separation.
+fn are_near(ship: &Ship, level: u32, p: PlaceNo, q: PlaceNo) -> bool
     requires p_in { p < length (places ship.now) }
     requires q_in { q < length (places ship.now) }
-    ensures { IsTrue result ↔ AreTooNear ship.now cargo.now plan.now rule.now p q }
+    ensures { (first second : Place) → slice_get (places ship.now) p ≡ Some first → slice_get (places ship.now) q ≡ Some second → result ≡ near ship.now level first second }
 {
-    if !is_near(ship, rule.level, &ship.place(p), &ship.place(q)) {
-        return false;
-    }
-    has_class(cargo, plan, q, &rule.b) && has_class(cargo, plan, p, &rule.a)
+    is_near(ship, level, &ship.place(p), &ship.place(q))
 }
 
-/// Numbers from which and up to which all places stand that are near a place.
-fn near_range(ship: &Ship, level: u32, p: PlaceNo) -> (u32, u32)
-    requires { p < length (places ship.now) }
-    ensures all { (q : ℕ) (first second : Place) → slice_get (places ship.now) p ≡ Some first → slice_get (places ship.now) q ≡ Some second → near ship.now level first second ≡ true → (result.0 ≤ q) × (q < result.1) }
-    ensures inside { result.1 ≤ length (places ship.now) }
-{
-    if level == 3 {
-        return (0, ship.places());
-    }
-    let stack = ship.place(p).stack;
-    let from = first_of_tier(ship, p.0, stack, 0);
-    let end = first_of_tier(ship, p.0, stack, ship.stack(stack).tiers);
-    (from, end)
-}
-
-/// The first place that is too near to a place, against a separation.
+/// The first place, of those at which containers of the second class of a separation stand, that is too near to a place.
 fn first_near_to(
     ship: &Ship,
     cargo: &Cargo,
     plan: &Plan,
     rule: &Separation,
     p: PlaceNo,
+    of_second: &[u32],
 ) -> Option<PlaceNo>
     requires each_place { length plan.now ≡ length (places ship.now) }
     requires inside { p < length (places ship.now) }
+    requires gathered { AreOfClass cargo.now plan.now rule.now.b (length (places ship.now)) of_second.now }
     ensures { MatchOption result ((q : ℕ) → AreTooNear ship.now cargo.now plan.now rule.now p q → ⊥) (λ q. IsLeast (AreTooNear ship.now cargo.now plan.now rule.now p) q) }
 {
     if !has_class(cargo, plan, p, &rule.a) {
         return None;
     }
-    let (from, end) = near_range(ship, rule.level, p);
-    for q in from..end {
-        if are_too_near(ship, cargo, plan, rule, p, PlaceNo(q)) {
-            return Some(PlaceNo(q));
+    for q in of_second {
+        if are_near(ship, rule.level, p, PlaceNo(*q)) {
+            return Some(PlaceNo(*q));
         }
     }
     None
@@ -151,8 +108,10 @@ fn first_near(
     requires { length plan.now ≡ length (places ship.now) }
     ensures { MatchOption result ((p q : ℕ) → AreTooNear ship.now cargo.now plan.now rule.now p q → ⊥) (λ pair. AreFirstNear ship.now cargo.now plan.now rule.now pair) }
 {
+    let of_second = places_of_class(ship, cargo, plan, &rule.b);
     for p in 0..ship.places() {
-        if let Some(q) = first_near_to(ship, cargo, plan, rule, PlaceNo(p)) {
+        let nearest = first_near_to(ship, cargo, plan, rule, PlaceNo(p), of_second.as_slice());
+        if let Some(q) = nearest {
             return Some((PlaceNo(p), q));
         }
     }

@@ -28,8 +28,8 @@ fn weight_at(ship: &Ship, cargo: &Cargo, plan: &Plan, s: StackNo, p: PlaceNo) ->
     ensures value { (place : Place) (o : Option ℕ) → slice_get (places ship.now) p ≡ Some place → slice_get plan.now p ≡ Some o → result ≡ weight_in ship.now.weight_step cargo.now s (place, o) }
     ensures small { result ≤ 110000 }
 {
-    let _places = ship.places();
-    let _calls = cargo.calls();
+    ship.obeys_rules();
+    cargo.obeys_rules();
     if ship.place(p).stack != s {
         return 0;
     }

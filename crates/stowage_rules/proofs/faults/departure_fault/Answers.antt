@@ -1,4 +1,4 @@
-use Rattle.stowage_rules.proofs.InRank.{first_support, first_twenty, first_reefer, first_weight, first_separation, meets}
+use Rattle.stowage_rules.proofs.InRank.{first_separation, meets}
 use Rattle.stowage_rules.proofs.faults.departure_fault.Goals as goal
 
 pub returns-in-None : goal.returns-in-None

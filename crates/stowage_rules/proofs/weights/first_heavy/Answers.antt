@@ -1,4 +1,4 @@
-use Rattle.std.proofs.Common.{arith, below_more, sym, ◌∙◌, ap, length, ◌<◌}
+use Rattle.std.proofs.Common.{arith, below_more, sym, ◌∙◌, ap}
 use Rattle.std.proofs.lemmas.Option.{same_Some, slice_get_within}
 use Rattle.stow_data.specs.declared.geometry.Stack.{Stack}
 use Rattle.stowage_rules.proofs.weights.first_heavy.Goals as goal

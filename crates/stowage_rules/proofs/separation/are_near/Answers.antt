@@ -1,5 +1,5 @@
 use Rattle.stow_data.proofs.Made.{stack_in}
-use Rattle.stowage_rules.proofs.separation.are_too_near.Goals as goal
+use Rattle.stowage_rules.proofs.separation.are_near.Goals as goal
 
 pub is_near-requires-clause-first : goal.is_near-requires-clause-first
 is_near-requires-clause-first c = stack_in c.args.ship.now c.args.p c.place.result c.place.ensures
