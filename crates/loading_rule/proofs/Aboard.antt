@@ -20,13 +20,13 @@ use Rattle.loading_rule.specs.Quays.{GoesAboard, IsLoaded, AreWaiting}
 use Rattle.loading_rule.proofs.Putting.{put_from}
 use Rattle.loading_rule.specs.Rule.{IsChoice, IsClean, IsOpen, IsOpenAt}
 
-some_side : (span : Span) → (side : Bool) × TakesSide span side
+pub some_side : (span : Span) → (side : Bool) × TakesSide span side
 some_side Fore = (false, refl)
 some_side Aft = (true, refl)
 some_side Both = (false, tt)
 
 -- nothing stands at an open place
-open_free : (ship : Ship) (cargo : Cargo) (plan : Plan) (x : Container) (p : ℕ) (place : Place) (o : Option ℕ) → slice_get (places ship) p ≡ Some place → IsOpenAt ship cargo plan x place → slice_get plan p ≡ Some o → o ≡ None
+pub open_free : (ship : Ship) (cargo : Cargo) (plan : Plan) (x : Container) (p : ℕ) (place : Place) (o : Option ℕ) → slice_get (places ship) p ≡ Some place → IsOpenAt ship cargo plan x place → slice_get plan p ≡ Some o → o ≡ None
 open_free ship cargo plan x p place None is open_ at = refl
 open_free ship cargo plan x p place (Some d) is open_ at =
     let s = some_side place.span in

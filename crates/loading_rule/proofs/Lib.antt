@@ -4,4 +4,11 @@ pub mod Lower
 pub mod Putting
 pub mod Nothing
 pub mod Aboard
+pub mod TooHigh
 pub mod Taken
+pub mod Leaving
+pub mod OnQuay
+pub mod Carried
+pub mod Sailing
+pub mod InTurn
+pub mod OneVoyage

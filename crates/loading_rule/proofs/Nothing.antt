@@ -12,7 +12,7 @@ use Rattle.stow_data.specs.Plans.{Plan}
 use Rattle.stowage_rules.specs.Plan.{Holds, IsWellFormed}
 use Rattle.stowage_rules.specs.Departure.{weight_in}
 use Rattle.loading_rule.specs.declared.layout.Layout.{Layout}
-use Rattle.loading_rule.specs.Kept.{IsKept, AreWeights, AreLaden, AreEarliest, AreClassed}
+use Rattle.loading_rule.specs.Kept.{IsKept, AreTops, AreWeights, AreLaden, AreEarliest, AreClassed}
 use Rattle.loading_rule.proofs.Putting.{weighs_none}
 
 -- the plan of a ship on which nothing stands
@@ -58,14 +58,19 @@ bare_classed ship cargo = record {
   each = λ q d place y s named. absurd (none_holds (length (places ship)) q d s.holds);
 }
 
+pub bare_tops : (ship : Ship) (cargo : Cargo) (tops : List ℕ) → AreTops ship cargo (bare_plan ship) tops
+bare_tops ship cargo tops s t q d place y h stands same = absurd (none_holds (length (places ship)) q d stands.holds)
+
 -- a layout of it
-pub bare_kept : (ship : Ship) (cargo : Cargo) (layout : Layout) (n k m t : ℕ) → layout.plan ≡ bare_plan ship → layout.weights ≡ replicate n 0 → n ≡ length ship.stacks → layout.laden ≡ replicate k false → k ≡ length ship.covers → layout.earliest ≡ replicate m t → m ≡ length ship.covers → t ≡ length cargo.rotation → layout.classed ≡ [] → IsKept ship cargo layout
-bare_kept ship cargo layout n k m t plan weights stacks laden covers earliest covers_too calls classed = record {
+pub bare_kept : (ship : Ship) (cargo : Cargo) (layout : Layout) (n j k m t : ℕ) → layout.plan ≡ bare_plan ship → layout.weights ≡ replicate n 0 → n ≡ length ship.stacks → layout.tops ≡ replicate j 0 → j ≡ length ship.stacks → layout.laden ≡ replicate k false → k ≡ length ship.covers → layout.earliest ≡ replicate m t → m ≡ length ship.covers → t ≡ length cargo.rotation → layout.classed ≡ [] → IsKept ship cargo layout
+bare_kept ship cargo layout n j k m t plan weights stacks tops stacks_too laden covers earliest covers_too calls classed = record {
   formed = subst (λ (z : Plan). IsWellFormed ship cargo z) (sym plan) (bare_formed ship cargo);
   each_stack = ap length weights ∙ (length-replicate n 0 ∙ stacks);
+  each_stack_too = ap length tops ∙ (length-replicate j 0 ∙ stacks_too);
   each_cover = ap length laden ∙ (length-replicate k false ∙ covers);
   each_cover_too = ap length earliest ∙ (length-replicate m t ∙ covers_too);
   weights = subst (λ (z : Plan). AreWeights ship cargo z layout.weights) (sym plan) (subst (AreWeights ship cargo (bare_plan ship)) (sym weights) (bare_weights ship cargo n));
+  tops = subst (λ (z : Plan). AreTops ship cargo z layout.tops) (sym plan) (bare_tops ship cargo layout.tops);
   laden = subst (λ (z : Plan). AreLaden ship z layout.laden) (sym plan) (subst (AreLaden ship (bare_plan ship)) (sym laden) (bare_laden ship k));
   earliest = subst (λ (z : Plan). AreEarliest ship cargo z layout.earliest) (sym plan) (subst (AreEarliest ship cargo (bare_plan ship)) (sym (earliest ∙ ap (replicate m) calls)) (bare_earliest ship cargo m));
   classed = subst (λ (z : Plan). AreClassed ship cargo z layout.classed) (sym plan) (subst (AreClassed ship cargo (bare_plan ship)) (sym classed) (bare_classed ship cargo));

@@ -1,8 +1,8 @@
 -- What an open place asks, part by part.
-use Rattle.std.specs.Prelude.{◌≡◌, ◌↔◌, ℕ, ◌<◌, ◌≤◌, ◌+◌, Bool, false, not, IsTrue, List, Some, None, slice_get, slice_index_or, length}
-use Rattle.std.proofs.Common.{sym, ◌∙◌, ap, subst, arith, ⊎_elim}
+use Rattle.std.specs.Prelude.{◌≡◌, ◌↔◌, ◌⊎◌, ℕ, ◌<◌, ◌≤◌, ◌+◌, Bool, true, false, not, IsTrue, List, Some, None, slice_get, slice_index_or, length}
+use Rattle.std.proofs.Common.{sym, ◌∙◌, ap, subst, arith, inl, inr, ⊎_elim}
 use Rattle.std.proofs.lemmas.Option.{same_Some, slice_get_within, none-some, slice_get-get_or}
-use Rattle.std.proofs.lemmas.Bool.{cases_eq, not-true, not_from_false}
+use Rattle.std.proofs.lemmas.Bool.{both_ways, cases_Bool, cases_eq, not-true, not_from_false}
 use Rattle.stow_data.specs.declared.geometry.Place.{Place}
 use Rattle.stow_data.specs.declared.geometry.Separation.{Separation}
 use Rattle.stow_data.specs.declared.cargoes.Container.{Container}
@@ -16,8 +16,8 @@ use Rattle.loading_rule.specs.Kept.{AreLaden}
 use Rattle.loading_rule.specs.Rule.{AreSeparated, IsApartBy, IsOpen, IsOpenAt}
 
 -- separations past the last keep all apart
-pub apart_all : (ship : Ship) (cargo : Cargo) (plan : Plan) (x : Container) (place : Place) (q m : ℕ) → length ship.separations ≤ m → ((e : ℕ) → e < m → IsApartBy ship cargo plan x place q e) → (e : ℕ) → IsApartBy ship cargo plan x place q e
-apart_all ship cargo plan x place q m l all e d rule other y is stands named = all e (let i : e < length ship.separations = slice_get_within ship.separations e rule is in omega arith) d rule other y is stands named
+pub apart_all : (ship : Ship) (cargo : Cargo) (plan : Plan) (x : Container) (place : Place) (m : ℕ) → length ship.separations ≤ m → ((e : ℕ) → e < m → (q : ℕ) → IsApartBy ship cargo plan x place q e) → (q e : ℕ) → IsApartBy ship cargo plan x place q e
+apart_all ship cargo plan x place m l all q e d rule other y is stands named = all e (let i : e < length ship.separations = slice_get_within ship.separations e rule is in omega arith) q d rule other y is stands named
 
 -- no separation names a container without a class
 pub classless : (ship : Ship) (cargo : Cargo) (plan : Plan) (x : Container) (place : Place) → x.class ≡ None → (q e : ℕ) → IsApartBy ship cargo plan x place q e
@@ -45,16 +45,35 @@ uncovered_by ship plan laden s k n flag are e at under only =
       λ all. not_from_false flag (was.1 (all k under)),
     )
 
--- what one separation asks at one place
-pub apart_by : (ship : Ship) (cargo : Cargo) (plan : Plan) (x y : Container) (place other : Place) (q e d : ℕ) (rule : Separation) (b : Bool) → slice_get ship.separations e ≡ Some rule → Stands ship cargo plan q d other y → AreSeparated rule x y → b ≡ near ship rule.level place other → IsTrue (not b) ↔ IsApartBy ship cargo plan x place q e
-apart_by ship cargo plan x y place other q e d rule b is stands named same = (
-  λ h f r o z at there says.
-      let one : r ≡ rule = same_Some r rule (sym at ∙ is) in
-      let two : o ≡ other = same_Some o other (sym there.is_place ∙ stands.is_place) in
-      let off : near ship rule.level place other ≡ false = sym same ∙ not-true b h in
-      subst (λ (w : Place). near ship r.level place w ≡ false) (sym two) (subst (λ (w : Separation). near ship w.level place other ≡ false) (sym one) off),
-  λ all. not_from_false b (same ∙ all d rule other y is stands named),
+-- what one separation asks at one place: nothing of a place that isn't near
+pub apart_far : (ship : Ship) (cargo : Cargo) (plan : Plan) (x : Container) (place other : Place) (q e : ℕ) (rule : Separation) → slice_get ship.separations e ≡ Some rule → slice_get (places ship) q ≡ Some other → near ship rule.level place other ≡ false → IsApartBy ship cargo plan x place q e
+apart_far ship cargo plan x place other q e rule is at far f r o z named there says =
+    let one : r ≡ rule = same_Some r rule (sym named ∙ is) in
+    let two : o ≡ other = same_Some o other (sym there.is_place ∙ at) in
+    subst (λ (w : Place). near ship r.level place w ≡ false) (sym two) (subst (λ (w : Separation). near ship w.level place other ≡ false) (sym one) far)
+
+-- and of a near one that the classes there aren't separated
+pub apart_near : (ship : Ship) (cargo : Cargo) (plan : Plan) (x y : Container) (place other : Place) (q e d : ℕ) (rule : Separation) (b : Bool) → slice_get ship.separations e ≡ Some rule → Stands ship cargo plan q d other y → near ship rule.level place other ≡ true → (IsTrue b ↔ AreSeparated rule x y) → IsTrue (not b) ↔ IsApartBy ship cargo plan x place q e
+apart_near ship cargo plan x y place other q e d rule b is stands close says = (
+  λ h f r o z named there apart.
+      let one : r ≡ rule = same_Some r rule (sym named ∙ is) in
+      let who : f ≡ d = same_Some f d (same_Some (Some f) (Some d) (sym there.holds ∙ stands.holds)) in
+      let two : z ≡ y = same_Some z y (sym there.is_container ∙ (ap (slice_get cargo.containers) who ∙ stands.is_container)) in
+      absurd (both_ways b (not-true b h) (says.1 (subst (λ (w : Container). AreSeparated rule x w) two (subst (λ (w : Separation). AreSeparated w x z) one apart)))),
+  λ all. not_from_false b (⊎_elim
+      (λ (t : b ≡ true). absurd (both_ways (near ship rule.level place other) (all d rule other y is stands (says.0 t)) close))
+      (λ (f : b ≡ false). f)
+      (cases_Bool b)),
 )
+
+-- a separation that doesn't name the class keeps the container from none
+pub apart_unnamed : (ship : Ship) (cargo : Cargo) (plan : Plan) (x : Container) (place : Place) (e : ℕ) (rule : Separation) → slice_get ship.separations e ≡ Some rule → ((x.class ≡ Some rule.a) ⊎ (x.class ≡ Some rule.b) → ⊥) → (q : ℕ) → IsApartBy ship cargo plan x place q e
+apart_unnamed ship cargo plan x place e rule is unnamed q d r other y named stands says =
+    let one : r ≡ rule = same_Some r rule (sym named ∙ is) in
+    absurd (⊎_elim
+    (λ (a : (x.class ≡ Some rule.a) × (y.class ≡ Some rule.b)). unnamed (inl a.0))
+    (λ (b : (x.class ≡ Some rule.b) × (y.class ≡ Some rule.a)). unnamed (inr b.0))
+    (subst (λ (w : Separation). AreSeparated w x y) one says))
 
 -- one item more of a list
 pub item_more : (P : ℕ → Type 0) (xs : List ℕ) (i x : ℕ) → x ≡ slice_index_or xs i x → i < length xs → ((k q : ℕ) → k < i → slice_index_or xs k q ≡ q → P q) → P x → (k q : ℕ) → k < i + 1 → slice_index_or xs k q ≡ q → P q

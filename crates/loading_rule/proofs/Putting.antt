@@ -1,8 +1,8 @@
 -- One container more in a plan: what then holds of it.
 use Rattle.std.proofs.Common.{◌≡◌, ℕ, zero, suc, ◌+◌, ◌*◌, ◌/◌, ◌-◌, ◌<◌, ◌≤◌, Bool, true, false, cond, List, [], ◌∷◌, ◌++◌, length, Option, Some, None, refl, sym, ◌∙◌, ap, subst, arith, ◌⊎◌, inl, inr, ⊎_elim, length-set}
-use Rattle.std.specs.Prelude.{◌==◌, ◌↔◌, is_some, slice_get, slice_set, zip, sum_by, All}
+use Rattle.std.specs.Prelude.{◌==◌, ◌↔◌, if◌then◌else◌, is_some, nat_lt, slice_get, slice_set, zip, sum_by, All}
 use Rattle.std.proofs.Math.Nat.{mul_comm, div-mul-le_self}
-use Rattle.std.proofs.lemmas.Bool.{both_ways, cases_eq, cond-true, cond-false, eq-eqb, ne_eqb}
+use Rattle.std.proofs.lemmas.Bool.{both_ways, cases_eq, cases_lt, cond-true, cond-false, eq-eqb, le-ltb, lt-ltb, ne_eqb}
 use Rattle.std.proofs.lemmas.Option.{none-some, same_Some, slice_get_within, get_or_from_slice_get}
 use Rattle.std.proofs.lemmas.List.Sums.{sum_by-cons}
 use Rattle.stow_data.specs.declared.geometry.Half.{Half}
@@ -19,7 +19,7 @@ use Rattle.stowage_rules.proofs.Items.{slice_get-set_other, slice_get-set_same, 
 use Rattle.std.proofs.lemmas.List.Elements.{All-append, All-cons, All-nil, Contains-append_left, Contains-append_right}
 use Rattle.voyage_meaning.specs.Moves.{IsBare}
 use Rattle.loading_rule.specs.Rule.{NoneEarlierUnder}
-use Rattle.loading_rule.specs.Kept.{CanStand, AreWeights, AreLaden, AreEarliest, AreClassed}
+use Rattle.loading_rule.specs.Kept.{CanStand, AreTops, AreWeights, AreLaden, AreEarliest, AreClassed}
 
 -- what holds of all items holds of each
 pub each_is : {X : Type 0} (P : X → Type 0) (xs : List X) (k : ℕ) (x : X) → All P xs → slice_get xs k ≡ Some x → P x
@@ -187,6 +187,32 @@ pub weight_small : (ship : Ship) (cargo : Cargo) (plan : Plan) (s : ℕ) → IsS
 weight_small ship cargo plan s rules obeys =
     let few = rules.few_places in
     omega (arith, few, all_small (weight_in ship.weight_step cargo s) (places ship) plan (λ place o. one_small ship.weight_step cargo s place o rules.step_to (λ c x e. (each_is (IsShipped (length cargo.rotation)) cargo.containers c x obeys.each_shipped e).kg_to)))
+
+-- ## Tops
+
+pub at_least : (a b : ℕ) → (a ≤ (if nat_lt a b then b else a)) × (b ≤ (if nat_lt a b then b else a))
+at_least a b = ⊎_elim
+    (λ (l : a < b). let e : (if nat_lt a b then b else a) ≡ b = cond-true (nat_lt a b) b a (lt-ltb a b l) in (omega (arith, e, l), omega (arith, e)))
+    (λ (l : b ≤ a). let e : (if nat_lt a b then b else a) ≡ a = cond-false (nat_lt a b) b a (le-ltb a b l) in (omega (arith, e), omega (arith, e, l)))
+    (cases_lt a b)
+
+pub tops_put : (ship : Ship) (cargo : Cargo) (plan : Plan) (tops : List ℕ) (p c old new : ℕ) (place : Place) (x : Container) → CanStand ship cargo plan p c place x → AreTops ship cargo plan tops → slice_get tops place.stack ≡ Some old → old ≤ new → place.tier ≤ new → AreTops ship cargo (slice_set plan p (Some c)) (slice_set tops place.stack new)
+tops_put ship cargo plan tops p c old new place x can are at more high s t q d other y h stands same = ⊎_elim
+    (λ (e : (other ≡ place) × (y ≡ x)).
+    let stack : s ≡ place.stack = sym same ∙ ap (λ (z : Place). z.stack) e.0 in
+    let tier : other.tier ≡ place.tier = ap (λ (z : Place). z.tier) e.0 in
+    ⊎_elim
+    (λ (r : (s ≡ place.stack) × (t ≡ new)). let is : t ≡ new = r.1 in omega (arith, is, tier, high))
+    (λ (r : (s ≡ place.stack → ⊥) × (slice_get tops s ≡ Some t)). absurd (r.0 stack))
+    (read_after tops place.stack s new t h))
+    (λ (k : Stands ship cargo plan q d other y). ⊎_elim
+    (λ (r : (s ≡ place.stack) × (t ≡ new)).
+    let is : t ≡ new = r.1 in
+    let below : other.tier ≤ old = are place.stack old q d other y at k (same ∙ r.0) in
+    omega (arith, is, below, more))
+    (λ (r : (s ≡ place.stack → ⊥) × (slice_get tops s ≡ Some t)). are s t q d other y r.1 k same)
+    (read_after tops place.stack s new t h))
+    (stands_after ship cargo plan p c q d place other x y can stands)
 
 -- ## Covers
 

@@ -14,7 +14,7 @@ use Rattle.stowage_rules.proofs.Items.{slice_get-set_other, slice_get-set_same}
 use Rattle.loading_rule.specs.Kept.{CanStand}
 use Rattle.loading_rule.specs.Quays.{HoldsUpTo, IsWithout, kept_of}
 
-kept_was : (flag : Option Bool) (here : Option (Option ℕ)) (c : ℕ) → kept_of flag here ≡ Some (Some c) → here ≡ Some (Some c)
+pub kept_was : (flag : Option Bool) (here : Option (Option ℕ)) (c : ℕ) → kept_of flag here ≡ Some (Some c) → here ≡ Some (Some c)
 kept_was (Some true) (Some o) c h = absurd (none-some c (same_Some None (Some c) h))
 kept_was (Some true) None c h = absurd (none-some (Some c) h)
 kept_was (Some false) here c h = h

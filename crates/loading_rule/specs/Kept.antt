@@ -24,6 +24,10 @@ AreLaden ship plan laden = (k : ℕ) (flag : Bool) → slice_get laden k ≡ Som
 abbrev pub AreEarliest : Ship → Cargo → Plan → List ℕ → Type 0
 AreEarliest ship cargo plan earliest = (k m v : ℕ) → slice_get earliest k ≡ Some m → v ≤ length cargo.rotation → (v ≤ m) ↔ NoneEarlierUnder ship cargo plan v k
 
+-- for each stack a tier above which nothing stands in it
+abbrev pub AreTops : Ship → Cargo → Plan → List ℕ → Type 0
+AreTops ship cargo plan tops = (s t q d : ℕ) (place : Place) (y : Container) → slice_get tops s ≡ Some t → Stands ship cargo plan q d place y → place.stack ≡ s → place.tier ≤ t
+
 -- the places of all containers that have a class
 pub record AreClassed (ship : Ship) (cargo : Cargo) (plan : Plan) (classed : List ℕ) : Type 0 where
   pub inside : All (λ q. q < length (places ship)) classed
@@ -33,9 +37,11 @@ pub record AreClassed (ship : Ship) (cargo : Cargo) (plan : Plan) (classed : Lis
 pub record IsKept (ship : Ship) (cargo : Cargo) (layout : Layout) : Type 0 where
   pub formed : IsWellFormed ship cargo layout.plan
   pub each_stack : length layout.weights ≡ length ship.stacks
+  pub each_stack_too : length layout.tops ≡ length ship.stacks
   pub each_cover : length layout.laden ≡ length ship.covers
   pub each_cover_too : length layout.earliest ≡ length ship.covers
   pub weights : AreWeights ship cargo layout.plan layout.weights
+  pub tops : AreTops ship cargo layout.plan layout.tops
   pub laden : AreLaden ship layout.plan layout.laden
   pub earliest : AreEarliest ship cargo layout.plan layout.earliest
   pub classed : AreClassed ship cargo layout.plan layout.classed

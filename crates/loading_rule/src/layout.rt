@@ -1,8 +1,8 @@
 //! A plan in the making, and what is kept of it from put to put.
-ghost use Rattle.std.specs.Prelude.{◌≡◌, ◌≤◌, ◌<◌, ◌↔◌, ◌+◌, ℕ, IfOk, None, OnOk, Some, length, replicate, slice_get, slice_set};
+ghost use Rattle.std.specs.Prelude.{◌≡◌, ◌≤◌, ◌<◌, ◌↔◌, ◌+◌, ℕ, IfOk, None, OnOk, Some, if◌then◌else◌, length, nat_lt, replicate, slice_get, slice_set};
 ghost use Rattle.stow_data.specs.Kinds.{rounded};
 ghost use Rattle.stow_data.specs.Ship.{places};
-ghost use Rattle.loading_rule.specs.Kept.{AreClassed, AreEarliest, AreLaden, AreWeights, CanStand, IsKept};
+ghost use Rattle.loading_rule.specs.Kept.{AreClassed, AreEarliest, AreLaden, AreTops, AreWeights, CanStand, IsKept};
 
 use std::alloc::Global;
 use stow_data::{
@@ -16,6 +16,8 @@ pub struct Layout {
     pub plan: Plan,
     /// For each stack the sum of the rounded weights in it, in kilograms.
     pub weights: Seq<u64>,
+    /// For each stack a tier above which nothing stands in it.
+    pub tops: Seq<u32>,
     /// For each hatch cover whether something stands on it.
     pub laden: FlagList,
     /// For each hatch cover the earliest destination under it, at most the last call.
@@ -56,6 +58,42 @@ fn weigh(
     let _places = ship.places();
     let _calls = cargo.calls();
     add_weight(weights, ship, place.stack, x.kg);
+}
+
+/// The higher of two tiers.
+fn higher(a: u32, b: u32) -> u32
+    ensures { result ≡ (if nat_lt a b then b else a) }
+{
+    if a < b { b } else { a }
+}
+
+/// Raises the top of a stack to a tier, where it is lower.
+fn raise_to(tops: &mut Seq<u32>, s: StackNo, tier: u32)
+    requires { s < length tops.old }
+    ensures { (t : ℕ) → slice_get tops.old s ≡ Some t → tops.new ≡ slice_set tops.old s (if nat_lt t tier then tier else t) }
+{
+    let top = *tops.at(s.0 as usize);
+    tops.set(s.0 as usize, higher(top, tier));
+}
+
+/// The tops of the stacks after container `c` is put at a place.
+fn raise(
+    tops: &mut Seq<u32>,
+    ship: &Ship,
+    cargo: &Cargo,
+    plan: &Plan,
+    p: PlaceNo,
+    place: &Place,
+    c: ContainerNo,
+    x: &Container,
+)
+    requires can { CanStand ship.now cargo.now plan.now p c place.now x.now }
+    requires each_stack { length tops.old ≡ length ship.now.stacks }
+    requires tops { AreTops ship.now cargo.now plan.now tops.old }
+    ensures tops { AreTops ship.now cargo.now (slice_set plan.now p (Some c)) tops.new }
+    ensures each_stack { length tops.new ≡ length ship.now.stacks }
+{
+    raise_to(tops, place.stack, place.tier);
 }
 
 /// What stands on the covers after container `c` is put at a place.
@@ -143,11 +181,13 @@ impl Layout {
     {
         let plan = Plan::empty(alloc, ship)?;
         let weights = Seq::filled(alloc, 0, ship.stacks() as usize)?;
+        let tops = Seq::filled(alloc, 0, ship.stacks() as usize)?;
         let laden = Seq::filled(alloc, false, ship.covers() as usize)?;
         let earliest = Seq::filled(alloc, CallNo(cargo.calls()), ship.covers() as usize)?;
         Ok(Layout {
             plan,
             weights,
+            tops,
             laden,
             earliest,
             classed: Seq::new(alloc),
@@ -174,6 +214,7 @@ impl Layout {
         let x = cargo.container(c);
         note(&mut self.classed, ship, cargo, &self.plan, p, &place, c, x)?;
         weigh(&mut self.weights, ship, cargo, &self.plan, p, &place, c, x);
+        raise(&mut self.tops, ship, cargo, &self.plan, p, &place, c, x);
         lade(&mut self.laden, ship, cargo, &self.plan, p, &place, c, x);
         advance(&mut self.earliest, ship, cargo, &self.plan, p, &place, c, x);
         self.plan.set(p, Some(c));

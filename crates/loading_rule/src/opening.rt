@@ -1,5 +1,6 @@
 //! Whether a place is open for a container.
-ghost use Rattle.std.specs.Prelude.{◌≡◌, ◌↔◌, ◌+◌, ◌<◌, ◌≤◌, ℕ, Bool, IsTrue, Some, length, slice_get};
+ghost use Rattle.std.specs.Prelude.{◌≡◌, ◌↔◌, ◌⊎◌, ◌+◌, ◌<◌, ◌≤◌, ℕ, Bool, IsTrue, Some, length, slice_get};
+ghost use Rattle.stow_data.specs.declared.cargoes.Container.{Container};
 ghost use Rattle.stow_data.specs.declared.geometry.Stack.{Stack};
 ghost use Rattle.stow_data.specs.Kinds.{rounded};
 ghost use Rattle.stow_data.specs.Ship.{places, LiesUnder};
@@ -54,7 +55,15 @@ fn are_separated(rule: &Separation, x: &Container, y: &Container) -> bool
         || (has_class(x, &rule.b) && has_class(y, &rule.a))
 }
 
-/// Whether a separation keeps a container, at a place, from what stands at another.
+/// Whether a separation names the class of a container.
+fn names_class(rule: &Separation, x: &Container) -> bool
+    ensures { IsTrue result ↔ ((x.now.class ≡ Some rule.now.a) ⊎ (x.now.class ≡ Some rule.now.b)) }
+{
+    has_class(x, &rule.a) || has_class(x, &rule.b)
+}
+
+/// Whether a separation keeps a container, at a place, from what stands at another. Classes are compared only where the
+/// places are near, since names cost more.
 fn is_apart_by(
     ship: &Ship,
     cargo: &Cargo,
@@ -74,30 +83,33 @@ fn is_apart_by(
     match plan.at(q) {
         None => true,
         Some(d) => {
-            if d.0 >= cargo.len() || !are_separated(rule, x, cargo.container(d)) {
+            if d.0 >= cargo.len() || !is_near(ship, rule.level, place, &ship.place(q)) {
                 return true;
             }
-            !is_near(ship, rule.level, place, &ship.place(q))
+            !are_separated(rule, x, cargo.container(d))
         }
     }
 }
 
-/// Whether all separations keep a container, at a place, from what stands at another.
-fn is_apart_from(
+/// Whether a separation keeps a container, at a place, from all that stands.
+fn is_apart_under(
     ship: &Ship,
     cargo: &Cargo,
-    plan: &Plan,
+    layout: &Layout,
     x: &Container,
     place: &Place,
-    q: PlaceNo,
+    e: u32,
 ) -> bool
-    requires each_place { length plan.now ≡ length (places ship.now) }
+    requires kept { IsKept ship.now cargo.now layout.now }
     requires inside { place.now.stack < length ship.now.stacks }
-    requires q_in { q < length (places ship.now) }
-    ensures { IsTrue result ↔ ((e : ℕ) → IsApartBy ship.now cargo.now plan.now x.now place.now q e) }
+    requires e_in { e < length ship.now.separations }
+    ensures { IsTrue result ↔ ((q : ℕ) → IsApartBy ship.now cargo.now layout.now.plan x.now place.now q e) }
 {
-    for e in 0..ship.separations() {
-        if !is_apart_by(ship, cargo, plan, x, place, q, e) {
+    if !names_class(ship.separation(e), x) {
+        return true;
+    }
+    for q in layout.classed.as_slice() {
+        if !is_apart_by(ship, cargo, &layout.plan, x, place, *q, e) {
             return false;
         }
     }
@@ -113,12 +125,48 @@ fn is_apart(ship: &Ship, cargo: &Cargo, layout: &Layout, x: &Container, place: &
     if x.class.is_none() {
         return true;
     }
-    for q in layout.classed.as_slice() {
-        if !is_apart_from(ship, cargo, &layout.plan, x, place, *q) {
+    for e in 0..ship.separations() {
+        if !is_apart_under(ship, cargo, layout, x, place, e) {
             return false;
         }
     }
     true
+}
+
+/// Whether a tier is more than one above another.
+fn is_past(tier: u32, top: u32) -> bool
+    ensures { IsTrue result ↔ top + 1 < tier }
+{
+    tier > 0 && tier - 1 > top
+}
+
+/// A tier above which nothing stands in a stack.
+fn top_of(layout: &Layout, s: StackNo) -> u32
+    requires { s < length layout.now.tops }
+    ensures { slice_get layout.now.tops s ≡ Some result }
+{
+    *layout.tops.at(s.0 as usize)
+}
+
+/// Whether a place is more than a tier above all that stands in its stack, so that nothing bears what would stand there.
+fn is_too_high(ship: &Ship, cargo: &Cargo, layout: &Layout, place: &Place) -> bool
+    requires kept { IsKept ship.now cargo.now layout.now }
+    requires inside { place.now.stack < length ship.now.stacks }
+    ensures { IsTrue result → (x : Container) → IsOpenAt ship.now cargo.now layout.now.plan x place.now → ⊥ }
+{
+    is_past(place.tier, top_of(layout, place.stack))
+}
+
+/// Whether a place is open for none, as a first look tells of most places: something stands there, or it is too high.
+fn is_barred(ship: &Ship, cargo: &Cargo, layout: &Layout, p: PlaceNo, place: &Place) -> bool
+    requires kept { IsKept ship.now cargo.now layout.now }
+    requires at { slice_get (places ship.now) p ≡ Some place.now }
+    ensures { IsTrue result → (x : Container) → IsOpenAt ship.now cargo.now layout.now.plan x place.now → ⊥ }
+{
+    match layout.plan.at(p) {
+        Some(_) => true,
+        None => is_too_high(ship, cargo, layout, place),
+    }
 }
 
 /// Whether a place, of a stack that is within its limit, is open for a container.
@@ -135,6 +183,9 @@ pub fn is_open_at(
     requires at { slice_get (places ship.now) p ≡ Some place.now }
     ensures { IsTrue result ↔ IsOpenAt ship.now cargo.now layout.now.plan x.now place.now }
 {
+    if is_barred(ship, cargo, layout, p, place) {
+        return false;
+    }
     if !ship.fits(p, x.long, x.reefer) || !is_empty(ship, &layout.plan, p.0, place) {
         return false;
     }

@@ -1,25 +1,13 @@
-use Rattle.std.proofs.Common.{◌<◌, ◌≡◌, ℕ, refl, false, arith, length, ap}
-use Rattle.std.specs.Prelude.{slice_index_or}
+use Rattle.std.proofs.Common.{arith, below_more, refl, false}
 use Rattle.std.proofs.lemmas.Bool.{both_ways}
-use Rattle.loading_rule.specs.Rule.{IsApartBy}
-use Rattle.loading_rule.proofs.Parts.{item_more, has_some_class}
+use Rattle.loading_rule.proofs.Parts.{apart_all}
 use Rattle.loading_rule.proofs.opening.is_apart.Goals as goal
 
-pub returns-then-not-is_apart_from : goal.returns-then-not-is_apart_from
-returns-then-not-is_apart_from c = (λ h. absurd (both_ways false refl h), λ x. absurd (both_ways c.is_apart_from.result c.if-not-is_apart_from.true (c.is_apart_from.ensures.1 (x c.q-item.result))))
+pub loop-e-preserved : goal.loop-e-preserved
+loop-e-preserved c = below_more _ _ c.loop-e.invariant (c.is_apart_under.ensures.0 c.if-not-is_apart_under.false)
 
-pub loop-q-preserved : goal.loop-q-preserved
-loop-q-preserved c =
-    let is : c.q-item.result ≡ slice_index_or c.args.layout.now.classed c.loop-q.q-index c.q-item.result = rw c.as_slice-q-items.ensures at c.q-item.is in
-    let long : length c.as_slice-q-items.result.now ≡ length c.args.layout.now.classed = ap length c.as_slice-q-items.ensures in
-    let l : c.loop-q.q-index < length c.args.layout.now.classed = omega (arith, c.loop-q-test.true, long) in
-    item_more (λ (q : ℕ). (e : ℕ) → IsApartBy c.args.ship.now c.args.cargo.now c.args.layout.now.plan c.args.x.now c.args.place.now q e) c.args.layout.now.classed c.loop-q.q-index c.q-item.result is l c.loop-q.invariant (c.is_apart_from.ensures.0 c.if-not-is_apart_from.false)
+pub returns-then-not-is_apart_under : goal.returns-then-not-is_apart_under
+returns-then-not-is_apart_under c = (λ h. absurd (both_ways false refl h), λ x. absurd (both_ways c.is_apart_under.result c.if-not-is_apart_under.true (c.is_apart_under.ensures.1 (λ q. x q c.loop-e.e))))
 
 pub returns : goal.returns
-returns c =
-    let long : length c.as_slice-q-items.result.now ≡ length c.args.layout.now.classed = ap length c.as_slice-q-items.ensures in (
-      λ h q e d rule other y is stands named.
-          let at = c.requires.kept.classed.each q d other y stands (has_some_class rule c.args.x.now y named) in
-          c.loop-q.invariant at.0 q (omega (arith, at.1, c.loop-q-test.false, long)) at.2 e d rule other y is stands named,
-      λ x. refl,
-    )
+returns c = (λ h. apart_all c.args.ship.now c.args.cargo.now c.args.layout.now.plan c.args.x.now c.args.place.now c.loop-e.e (omega arith) c.loop-e.invariant, λ x. refl)

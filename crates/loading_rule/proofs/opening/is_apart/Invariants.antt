@@ -1,7 +1,6 @@
-use Rattle.std.proofs.Common.{ℕ, ◌≡◌, ◌<◌}
-use Rattle.std.specs.Prelude.{slice_index_or}
+use Rattle.std.proofs.Common.{ℕ, ◌<◌}
 use Rattle.loading_rule.specs.Rule.{IsApartBy}
 use Rattle.loading_rule.proofs.opening.is_apart.Given as goal
 
-abbrev pub invariant-loop-q : goal.invariant-loop-q
-invariant-loop-q l = (k q : ℕ) → k < l.q-index → slice_index_or l.layout.classed k q ≡ q → (e : ℕ) → IsApartBy l.ship l.cargo l.layout.plan l.x l.place q e
+abbrev pub invariant-loop-e : goal.invariant-loop-e
+invariant-loop-e l = (n : ℕ) → n < l.e → (q : ℕ) → IsApartBy l.ship l.cargo l.layout.plan l.x l.place q n
