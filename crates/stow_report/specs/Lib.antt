@@ -3,3 +3,4 @@ pub mod Faults
 pub mod Inputs
 pub mod Listings
 pub mod Verdicts
+pub mod Arrivals

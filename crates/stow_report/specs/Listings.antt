@@ -1,11 +1,12 @@
 -- What is printed of a bay plan.
-use Rattle.std.specs.Prelude.{ℕ, ◌+◌, ◌/◌, ◌%◌, ◌^◌, ◌<◌, Bool, codes, List, [], ◌∷◌, ◌++◌, length, flat_map, count_by, All, Option, Some, None, is_some}
+use Rattle.std.specs.Prelude.{ℕ, ◌^◌, ◌<◌, Bool, codes, List, [], ◌∷◌, ◌++◌, length, flat_map, count_by, All, Option, Some, None, is_some}
 use Rattle.std.specs.Fmt.{decimal}
 use Rattle.std.specs.List.{sum_by}
 use Rattle.stow_data.specs.declared.geometry.Length.{Length}
 use Rattle.stow_data.specs.declared.geometry.Length.TheVariants.{Twenty, Forty}
 use Rattle.baplie_model.specs.declared.parts.Facts.{Facts}
 use Rattle.baplie_model.specs.declared.parts.CellGroup.{CellGroup}
+use Rattle.baplie_model.specs.Texts.{cell_digits}
 
 -- a bay below 1,000, a row and a tier below 100
 abbrev pub IsCell : CellGroup → Type 0
@@ -15,13 +16,6 @@ IsCell g = (g.bay < 1000) × (g.row < 100) × (g.tier < 100)
 pub record AreListable (groups : List CellGroup) : Type 0 where
   pub few : length groups < 2 ^ 32
   pub cells : All IsCell groups
-
-abbrev pub digit : ℕ → ℕ
-digit n = 48 + n % 10
-
--- the cell in seven digits: three of the bay, two of the row, two of the tier
-abbrev pub cell_digits : ℕ → ℕ → ℕ → List ℕ
-cell_digits bay row tier = digit (bay / 100) ∷ digit (bay / 10) ∷ digit bay ∷ digit (row / 10) ∷ digit row ∷ digit (tier / 10) ∷ digit tier ∷ []
 
 -- a length in feet, between spaces
 abbrev pub length_text : Length → List ℕ

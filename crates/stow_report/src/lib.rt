@@ -1,6 +1,7 @@
 //! The texts that are printed of what is refused, and of a bay plan.
 #![tactic(auto)]
 
+mod arrivals;
 mod faults;
 mod inputs;
 mod law;
@@ -8,11 +9,12 @@ mod lines;
 mod listings;
 mod verdicts;
 
+pub use arrivals::arrival_line;
 pub use faults::{interchange_line, message_line};
 pub use inputs::{booking_line, limit_line, profile_line};
 pub use law::read_is_listable;
 pub use lines::{Field, FieldList, Group, Line, keyed, numbered, refusal};
-pub use listings::listing;
+pub use listings::{containers_in, kilograms_in, listing};
 pub use verdicts::{bound_line, cert_line, file_line};
 
 #[cfg(test)]

@@ -2,7 +2,7 @@
 ghost use Rattle.std.specs.Prelude.{◌≡◌, ◌<◌, ◌^◌, ◌∷◌, ◌++◌, [], length, count_by, codes, IfOk, OnOk};
 ghost use Rattle.std.specs.Fmt.{decimal};
 ghost use Rattle.std.specs.List.{sum_by};
-ghost use Rattle.stow_report.specs.Listings.{IsCell, AreListable, cell_digits, length_text, facts_text, group_text, holds, kilograms, total_line, listing_text};
+ghost use Rattle.stow_report.specs.Listings.{AreListable, length_text, facts_text, group_text, holds, kilograms, total_line, listing_text};
 
 use baplie_model::{CellGroup, Facts, cell_text};
 use itoa::Buffer;
@@ -26,22 +26,13 @@ pub fn listing(alloc: Global, groups: &[CellGroup]) -> Result<Bytes, NoMemory>
 
 /// Appends the line of a group.
 fn write_group(out: &mut Bytes, group: &CellGroup) -> Result<(), NoMemory>
-    requires { IsCell group.now }
     ensures { OnOk result (out.new ≡ out.old ++ group_text group.now) }
 {
-    out.extend(&cell_in(group))?;
+    out.extend(&cell_text(group.bay, group.row, group.tier))?;
     match &group.facts {
         Some(facts) => write_facts(out, facts),
         None => out.extend(b" empty\n"),
     }
-}
-
-/// The cell of a group in seven digits.
-fn cell_in(group: &CellGroup) -> [u8; 7]
-    requires { IsCell group.now }
-    ensures { result ≡ cell_digits group.now.bay group.now.row group.now.tier }
-{
-    cell_text(group.bay, group.row, group.tier)
 }
 
 /// Appends what a container's line tells behind its cell.
@@ -77,7 +68,7 @@ fn write_total(out: &mut Bytes, word: &[u8], total: u64) -> Result<(), NoMemory>
 }
 
 /// How many groups hold a container.
-fn containers_in(groups: &[CellGroup]) -> u64
+pub fn containers_in(groups: &[CellGroup]) -> u64
     requires { length groups.now < 2 ^ 32 }
     ensures { result ≡ count_by holds groups.now }
 {
@@ -90,8 +81,8 @@ fn containers_in(groups: &[CellGroup]) -> u64
     count
 }
 
-/// The weight of all containers.
-fn kilograms_in(groups: &[CellGroup]) -> u64
+/// The weight of all containers, in kilograms.
+pub fn kilograms_in(groups: &[CellGroup]) -> u64
     requires { length groups.now < 2 ^ 32 }
     ensures { result ≡ sum_by kilograms groups.now }
 {

@@ -1,0 +1,10 @@
+pub mod CellLaws
+pub mod NameLaws
+pub mod Steps
+pub mod Sound
+pub mod Legal
+pub mod GroupFaults
+pub mod Whole
+pub mod Weights
+pub mod Appending
+pub mod Onward
