@@ -1,5 +1,5 @@
 -- The texts of cells, types, counts and weights (SMDG BAPLIE 2.2, ISO 6346).
-use Rattle.std.specs.Prelude.{ℕ, ◌+◌, ◌*◌, ◌-◌, Bool, ◌&&◌, ◌||◌, ◌==◌, nat_le, min, List, [], ◌∷◌, length, take, drop, fold, Option, Some, None, if◌then◌else◌}
+use Rattle.std.specs.Prelude.{ℕ, ◌+◌, ◌*◌, ◌-◌, ◌/◌, ◌%◌, Bool, ◌&&◌, ◌||◌, ◌==◌, nat_le, min, List, [], ◌∷◌, length, take, drop, fold, Option, Some, None, if◌then◌else◌}
 use Rattle.std.specs.List.{list_all, position_or_len}
 use Rattle.stow_data.specs.declared.geometry.Length.{Length}
 use Rattle.stow_data.specs.declared.geometry.Length.TheVariants.{Twenty, Forty}
@@ -29,6 +29,14 @@ is_cell text = (length text == 6 || length text == 7) && list_all is_digit text
 -- bay, row and tier number: seven digits BBBRRTT, or six BBRRTT
 abbrev pub cell_of : List ℕ → Option (ℕ × ℕ × ℕ)
 cell_of text = if is_cell text then Some (value (take (length text - 4) text), value (take 2 (drop (length text - 4) text)), value (drop (length text - 2) text)) else None
+
+-- the last decimal digit of a number, as a byte
+abbrev pub digit : ℕ → ℕ
+digit n = 48 + n % 10
+
+-- a bay, row and tier number in seven digits: three of the bay, two of the row, two of the tier
+abbrev pub cell_digits : ℕ → ℕ → ℕ → List ℕ
+cell_digits bay row tier = digit (bay / 100) ∷ digit (bay / 10) ∷ digit bay ∷ digit (row / 10) ∷ digit row ∷ digit (tier / 10) ∷ digit tier ∷ []
 
 -- ## Types
 

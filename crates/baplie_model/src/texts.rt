@@ -2,7 +2,7 @@
 ghost use Rattle.std.specs.Prelude.{◌≡◌, ◌<◌, ◌≤◌, ◌+◌, ◌%◌, ◌↔◌, ℕ, List, Some, false, length, IfSome, IsNone};
 ghost use Rattle.std.specs.List.{list_all, position_or_len};
 ghost use Rattle.std.specs.Option.{ForSome};
-ghost use Rattle.baplie_model.specs.Texts.{at_most, cell_of, digit_of, is_cell, is_digit, is_mark, is_number, long_of, number_of, rounded_up, value, weight_of, with_decimals};
+ghost use Rattle.baplie_model.specs.Texts.{at_most, cell_digits, cell_of, digit, digit_of, is_cell, is_digit, is_mark, is_number, long_of, number_of, rounded_up, value, weight_of, with_decimals};
 
 use stow_data::Length;
 
@@ -57,12 +57,11 @@ fn digit_at(byte: u8) -> u32
     byte.saturating_sub(b'0').min(9) as u32
 }
 
-/// The text of a cell: three digits of the bay, two of the row, two of the tier.
+/// The text of a cell: the last three digits of the bay, two of the row, two of the tier. Where the numbers have
+/// no more digits than that, it is the one text of seven digits that reads as this cell.
 pub fn cell_text(bay: u32, row: u32, tier: u32) -> [u8; 7]
-    requires bay { bay < 1000 }
-    requires row { row < 100 }
-    requires tier { tier < 100 }
-    ensures reads_back { cell_of result ≡ Some (bay, row, tier) }
+    ensures digits { result ≡ cell_digits bay row tier }
+    ensures reads_back { bay < 1000 → row < 100 → tier < 100 → cell_of result ≡ Some (bay, row, tier) }
     ensures only { (text : List ℕ) → length text ≡ 7 → cell_of text ≡ Some (bay, row, tier) → text ≡ result }
 {
     [
@@ -77,8 +76,8 @@ pub fn cell_text(bay: u32, row: u32, tier: u32) -> [u8; 7]
 }
 
 /// The last decimal digit of a number.
-fn digit(n: u32) -> u8
-    ensures { result ≡ 48 + n % 10 }
+pub fn digit(n: u32) -> u8
+    ensures { result ≡ digit n }
 {
     b'0' + (n % 10) as u8
 }

@@ -3,7 +3,8 @@ use Rattle.std.specs.Prelude.{ℕ, ◌+◌, ◌-◌, ◌*◌, ◌/◌, ◌%◌, 
 use Rattle.std.specs.Fmt.{decimal}
 use Rattle.std.specs.List.{sum_by}
 use Rattle.baplie_model.specs.declared.parts.CellGroup.{CellGroup}
-use Rattle.stow_report.specs.Listings.{digit, holds, kilograms}
+use Rattle.baplie_model.specs.Texts.{digit}
+use Rattle.stow_report.specs.Listings.{holds, kilograms}
 use Rattle.bay_views.specs.declared.frames.Frame.{Frame}
 use Rattle.bay_views.specs.declared.sheets.Sheet.{Sheet}
 use Rattle.bay_views.specs.Escapes.{escaped}

@@ -1,6 +1,6 @@
 //! Where a cell is drawn.
 ghost use Rattle.std.specs.Prelude.{◌≡◌, ◌<◌, ◌≤◌, ◌^◌};
-ghost use Rattle.stow_report.specs.Listings.{IsCell, cell_digits};
+ghost use Rattle.stow_report.specs.Listings.{IsCell};
 ghost use Rattle.bay_views.specs.Sheets.{IsSheet};
 ghost use Rattle.bay_views.specs.Cells.{width_of, half_of, cell_of};
 
@@ -30,21 +30,13 @@ pub(crate) fn cell_of(sheet: &Sheet, group: &CellGroup) -> Cell
     let home = home_of(&sheet.long_bays, group.bay);
     let place = sheet.place_of(home);
     Cell {
-        number: number_of(group),
+        number: cell_text(group.bay, group.row, group.tier),
         left: sheet.bay_left(place)
             + u64::from(sheet.frame.left_of(group.row))
             + half_of(home, group.bay),
         top: sheet.bay_top(place) + u64::from(sheet.frame.top_of(group.tier)),
         width: width_of(group.bay),
     }
-}
-
-/// The cell of a group in seven digits.
-fn number_of(group: &CellGroup) -> [u8; 7]
-    requires { IsCell group.now }
-    ensures { result ≡ cell_digits group.now.bay group.now.row group.now.tier }
-{
-    cell_text(group.bay, group.row, group.tier)
 }
 
 fn width_of(bay: u32) -> u64

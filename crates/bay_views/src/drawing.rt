@@ -1,6 +1,6 @@
 //! The text of a picture.
 ghost use Rattle.std.specs.Prelude.{◌≡◌, ◌<◌, ◌≤◌, ◌^◌, ◌+◌, ◌-◌, ◌*◌, ◌/◌, ◌++◌, ◌∷◌, [], All, length, IfOk, OnOk};
-ghost use Rattle.stow_report.specs.Listings.{IsCell, AreListable, digit};
+ghost use Rattle.stow_report.specs.Listings.{IsCell, AreListable};
 ghost use Rattle.bay_views.specs.Frames.{IsFrame, columns};
 ghost use Rattle.bay_views.specs.Sheets.{IsSheet, sheet_width, sheet_height};
 ghost use Rattle.bay_views.specs.Drawings.{two_digits, row_label, row_labels, tier_label, tier_labels, low_rows, deck_tiers, hold_tiers, area, areas, ground, template, bay_digits, use_at, bay, bay_of, bays, opening, texts, boxes, colours, pattern, key, front, drawn, body, drawing, picture};

@@ -1,13 +1,13 @@
 //! The legend: each port of discharge with its colour and its counts.
 ghost use Rattle.std.specs.Prelude.{◌≡◌, ◌<◌, ◌≤◌, ◌^◌, ◌++◌, ◌*◌, length, count_by, OnOk};
 ghost use Rattle.std.specs.List.{sum_by};
-ghost use Rattle.stow_report.specs.Listings.{holds, kilograms};
 ghost use Rattle.bay_views.specs.Ports.{same_text, is_port, with_port, with_facts, with_ports, number_of, goes_to, is_for, kg_to, kg_for};
 ghost use Rattle.bay_views.specs.Drawings.{totals, counts, entry_left, entry_top, entry_at, entry, entry_of, legend};
 
 use crate::marks::{put, write_label, write_name, write_number, write_raw, write_swatch};
 use baplie_model::{CellGroup, Facts};
 use stow_data::{Bytes, Name, NameList, NoMemory};
+use stow_report::{containers_in, kilograms_in};
 
 fn same_text(a: &[u8], b: &[u8]) -> bool
     ensures { result ≡ same_text a.now b.now }
@@ -95,39 +95,6 @@ fn kilograms_for(name: &Name, groups: &[CellGroup]) -> u64
         sum += u64::from(kg_for(name, group));
     }
     sum
-}
-
-fn containers_in(groups: &[CellGroup]) -> u64
-    requires { length groups.now < 2 ^ 32 }
-    ensures { result ≡ count_by holds groups.now }
-{
-    let mut count: u64 = 0;
-    for group in groups {
-        if group.facts.is_some() {
-            count += 1;
-        }
-    }
-    count
-}
-
-fn kilograms_in(groups: &[CellGroup]) -> u64
-    requires { length groups.now < 2 ^ 32 }
-    ensures { result ≡ sum_by kilograms groups.now }
-{
-    let mut sum: u64 = 0;
-    for group in groups {
-        sum += u64::from(kilograms_of(group));
-    }
-    sum
-}
-
-fn kilograms_of(group: &CellGroup) -> u32
-    ensures { result ≡ kilograms group.now }
-{
-    match &group.facts {
-        Some(facts) => facts.kg,
-        None => 0,
-    }
 }
 
 fn write_totals(out: &mut Bytes, containers: u64, kilograms: u64) -> Result<(), NoMemory>

@@ -13,7 +13,8 @@ use Rattle.baplie_model.specs.declared.parts.CellGroup.{CellGroup}
 use Rattle.plan_files.specs.DepartureFile.{Group, group_segments, cell_group_of}
 use Rattle.plan_files.specs.DepartureSegments.{loc, cell_text, cell_segment, mea, tmp, temperature_segments, rff, eqd, dgs, goods_segments}
 use Rattle.baplie_write.proofs.Scans.{neither, any-append}
-use Rattle.plan_files.proofs.Known.{cell-known, weight-known}
+use Rattle.baplie_model.proofs.CellDigits.{cell-known}
+use Rattle.plan_files.proofs.Known.{weight-known}
 use Rattle.plan_files.proofs.Quiet.{IsBookedGroup, AllBooked, not_long, parts}
 use Rattle.plan_files.proofs.Texts.{IsText}
 

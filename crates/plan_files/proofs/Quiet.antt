@@ -16,7 +16,8 @@ use Rattle.baplie_model.specs.Texts.{long_of}
 use Rattle.plan_files.specs.DepartureFile.{Group, group_segments}
 use Rattle.plan_files.specs.DepartureSegments.{loc, cell_segment, mea, tmp, temperature_segments, rff, eqd, dgs, goods_segments}
 use Rattle.baplie_write.proofs.Scans.{scan-cons}
-use Rattle.plan_files.proofs.Known.{cell-known, weight-known}
+use Rattle.baplie_model.proofs.CellDigits.{cell-known}
+use Rattle.plan_files.proofs.Known.{weight-known}
 use Rattle.plan_files.proofs.Texts.{IsText}
 
 -- what a container of bookings tells in its cell

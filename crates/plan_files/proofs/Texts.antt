@@ -12,7 +12,8 @@ use Rattle.edifact_segments.specs.ReadBack.{IsPrintable}
 use Rattle.baplie_model.specs.Texts as texts
 use Rattle.stow_data.specs.Profile.{is_class_byte, is_class, is_name_byte, is_name}
 use Rattle.toml_values.specs.Values.{is_code_byte, is_digit, is_code, is_digits}
-use Rattle.plan_files.specs.DepartureSegments.{digit, cell_text}
+use Rattle.baplie_model.specs.Texts.{digit}
+use Rattle.plan_files.specs.DepartureSegments.{cell_text}
 use Rattle.baplie_write.proofs.Counts.{both, numerals}
 
 calm_by : (p : ℕ → Bool) → ((b : ℕ) → p b ≡ true → is_control b ≡ false) → (t : List ℕ) → list_all p t ≡ true → IsPrintable t

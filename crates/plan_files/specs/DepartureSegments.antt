@@ -1,7 +1,8 @@
 -- The segments of a departure file (ISO 9735, SMDG BAPLIE 2.2), each in the layout that stands before it.
-use Rattle.std.specs.Prelude.{ℕ, ℤ, ◌+◌, ◌/◌, ◌%◌, ◌==◌, Bool, if◌then◌else◌, codes, List, [], ◌∷◌, ◌++◌, take, drop, Option, Some, None}
+use Rattle.std.specs.Prelude.{ℕ, ℤ, ◌/◌, ◌==◌, Bool, if◌then◌else◌, codes, List, [], ◌∷◌, ◌++◌, take, drop, Option, Some, None}
 use Rattle.std.specs.Fmt.{decimal, signed_decimal}
 use Rattle.edifact_segments.specs.declared.segments.Segment.{Segment}
+use Rattle.baplie_model.specs.Texts.{digit, cell_digits}
 use Rattle.bookings.specs.declared.shipment.Bookings.{Bookings}
 
 abbrev pub segment : List ℕ → List (List (List ℕ)) → Segment
@@ -43,12 +44,9 @@ tdt voyage vessel = segment (codes "TDT") (one (codes "20") ∷ one voyage ∷ [
 unfoldable pub loc : List ℕ → List ℕ → Segment
 loc qualifier port = segment (codes "LOC") (one qualifier ∷ port_element port ∷ [])
 
-abbrev pub digit : ℕ → ℕ
-digit n = 48 + n % 10
-
--- a bay, row and tier number in seven digits: three of the bay, two of the row, two of the tier
+-- a cell's bay, row and tier number
 abbrev pub cell_text : ℕ × ℕ × ℕ → List ℕ
-cell_text cell = digit (cell.0 / 100) ∷ digit (cell.0 / 10) ∷ digit cell.0 ∷ digit (cell.1 / 10) ∷ digit cell.1 ∷ digit (cell.2 / 10) ∷ digit cell.2 ∷ []
+cell_text cell = cell_digits cell.0 cell.1 cell.2
 
 -- LOC+147+cell::5
 unfoldable pub cell_segment : ℕ × ℕ × ℕ → Segment

@@ -33,7 +33,7 @@ pub fn departure_text(
     ensures text { IfOk result (λ text. text ≡ file_text cargo.now bookings.now call (groups ship.now cargo.now bookings.now plan.now)) }
     ensures reads { IfOk result (λ text. IsMessageOf text (message_of cargo.now bookings.now call (groups ship.now cargo.now bookings.now plan.now))) }
 {
-    let _places = ship.places();
+    ship.obeys_rules();
     let message = departure_message(alloc, ship, cargo, bookings, plan, call)?;
     write_baplie(alloc, &message)
 }
@@ -73,7 +73,7 @@ fn head(
     requires { call < length cargo.now.rotation }
     ensures { IfOk result (λ list. list ≡ head cargo.now bookings.now call) }
 {
-    let _calls = cargo.calls();
+    cargo.obeys_rules();
     let mut list = SegmentList::new(alloc);
     list.push(bgm(alloc, call)?)?;
     list.push(dtm(alloc, b"137", bookings.date.bytes())?)?;

@@ -1,7 +1,8 @@
 //! The segments of departure files (ISO 9735, SMDG BAPLIE 2.2).
 ghost use Rattle.std.specs.Prelude.{◌≡◌, ◌++◌, ◌∷◌, [], IfOk, OnOk, drop, length, map, take};
-ghost use Rattle.plan_files.specs.DepartureSegments.{parties, unb, unh, bgm, dtm, tdt, loc, cell_segment, weight_code, mea, tmp, temperature_segments, rff, fullness, eqd, dgs, goods_segments, digit};
+ghost use Rattle.plan_files.specs.DepartureSegments.{parties, unb, unh, bgm, dtm, tdt, loc, cell_segment, weight_code, mea, tmp, temperature_segments, rff, fullness, eqd, dgs, goods_segments};
 
+use baplie_model::{cell_text, digit};
 use bookings::Bookings;
 use edifact_segments::{ElementBuffer, Segment, SegmentList};
 use itoa::Buffer;
@@ -110,27 +111,12 @@ pub fn loc(alloc: Global, qualifier: &[u8], port: &[u8]) -> Result<Segment, NoMe
     Segment::of(alloc, *b"LOC", elements)
 }
 
-/// The last decimal digit of a number.
-fn digit(n: u32) -> u8
-    ensures { result ≡ digit n }
-{
-    b'0' + (n % 10) as u8
-}
-
 /// LOC+147+BBBRRTT::5
 #[tactic(auto, unfolding(crate::specs::DepartureSegments::cell_segment))]
 pub fn cell_segment(alloc: Global, bay: u32, row: u32, tier: u32) -> Result<Segment, NoMemory>
     ensures { IfOk result (λ s. s ≡ cell_segment (bay, row, tier)) }
 {
-    let cell = [
-        digit(bay / 100),
-        digit(bay / 10),
-        digit(bay),
-        digit(row / 10),
-        digit(row),
-        digit(tier / 10),
-        digit(tier),
-    ];
+    let cell = cell_text(bay, row, tier);
     let mut elements = ElementBuffer::new(alloc);
     elements.push(b"147")?;
     compose(&mut elements, &[&cell, b"", b"5"])?;

@@ -15,7 +15,7 @@ use Rattle.plan_files.proofs.departure_file.departure_text.Goals as goal
 pub write_baplie-requires : goal.write_baplie-requires
 write_baplie-requires c =
     let W : Message → Type 0 = λ m. IsWhole m in
-    subst W (sym c.in_ok-message.ensures) (plan_whole c.args.ship.now c.args.cargo.now c.args.bookings.now c.args.plan.now c.args.call c.places-places.ensures.rules c.requires.rules c.requires.cargo c.requires.known c.requires.departs)
+    subst W (sym c.in_ok-message.ensures) (plan_whole c.args.ship.now c.args.cargo.now c.args.bookings.now c.args.plan.now c.args.call c.obeys_rules.ensures c.requires.rules c.requires.cargo c.requires.known c.requires.departs)
 
 pub departure_message-requires-clause-booked : goal.departure_message-requires-clause-booked
 departure_message-requires-clause-booked c =
@@ -34,5 +34,5 @@ returns-clause-reads c =
     let cargo = c.args.cargo.now in
     let gs = groups c.args.ship.now cargo c.args.bookings.now c.args.plan.now in
     let P : List ℕ → Type 0 = λ t. IsMessageOf t (message_of cargo c.args.bookings.now c.args.call gs) in
-    let whole = plan_whole c.args.ship.now cargo c.args.bookings.now c.args.plan.now c.args.call c.places-places.ensures.rules c.requires.rules c.requires.cargo c.requires.known c.requires.departs in
+    let whole = plan_whole c.args.ship.now cargo c.args.bookings.now c.args.plan.now c.args.call c.obeys_rules.ensures c.requires.rules c.requires.cargo c.requires.known c.requires.departs in
     IfOk-weaker c.write_baplie.result (λ text. text ≡ file_text cargo c.args.bookings.now c.args.call gs) P (λ text e. subst P (sym e) (reads_as cargo c.args.bookings.now c.args.call gs whole)) (returns-clause-text c)
