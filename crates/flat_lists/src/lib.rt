@@ -4,5 +4,6 @@
 mod lists;
 #[cfg(test)]
 mod tests;
+mod transposed;
 
 pub use lists::FlatLists;

@@ -1,5 +1,5 @@
-mod Excluding
-mod Names
+pub mod Excluding
+pub mod Names
 mod Numbering
 mod Greatest
 mod Rowed

@@ -7,7 +7,7 @@ use Rattle.stow_data.specs.declared.geometry.Separation.{Separation}
 use Rattle.zero_one_rows.specs.Rows.{no_separation}
 use Rattle.row_sums.specs.Sums.{class_names, number_in}
 
-same_bytes : (xs ys : List ℕ) → pointwise nat_eq xs ys ≡ true → xs ≡ ys
+pub same_bytes : (xs ys : List ℕ) → pointwise nat_eq xs ys ≡ true → xs ≡ ys
 same_bytes [] [] h = refl
 same_bytes [] (y ∷ ys) h = absurd (both_ways false refl h)
 same_bytes (x ∷ xs) [] h = absurd (both_ways false refl h)

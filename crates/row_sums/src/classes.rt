@@ -40,8 +40,8 @@ pub fn class_bytes(ship: &Ship, class: ClassNo) -> &[u8]
     }
 }
 
-/// The number of a class.
-fn number_of(ship: &Ship, name: &Name) -> ClassNo
+/// The number of a class; past the numbers of classes where no separation names it.
+pub fn number_of(ship: &Ship, name: &Name) -> ClassNo
     ensures { result ≡ class_number ship.now name.now }
 {
     for index in 0..ship.separations() {

@@ -9,6 +9,7 @@ mod laws;
 mod rows;
 mod sums;
 
+pub use classes::number_of as number_of_class;
 pub use laws::{a_fix_changes_one_side, rows_are_sums};
 pub use rows::RowSums;
 pub use sums::{ClassNo, Part, Parts, Sign, Sum};

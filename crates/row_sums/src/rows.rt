@@ -87,6 +87,13 @@ impl<'a> RowSums<'a> {
         })
     }
 
+    /// The voyage's ship.
+    pub fn ship(&self) -> &Ship
+        ensures { result.now ≡ self.now.ship }
+    {
+        self.ship
+    }
+
     /// The kinds of the voyage's containers.
     pub fn kinds(&self) -> &Kinds
         ensures { AreKinds self.now.ship.weight_step self.now.cargo.containers result.now }

@@ -2,5 +2,3 @@ pub mod Filters
 pub mod Grouped
 pub mod Offered
 pub mod Added
-pub mod Numbered
-pub mod Paired

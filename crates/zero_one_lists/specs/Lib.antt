@@ -1,4 +1,3 @@
 pub mod Grouping
 pub mod Offering
 pub mod Enumerated
-pub mod Counted

@@ -1,27 +1,32 @@
 -- The variables that touch a row, among those that may.
-use Rattle.std.proofs.Common.{◌≡◌, ◌≢◌, ℕ, ◌<◌, Bool, true, false, not, List, ◌++◌, arith, refl, sym, ◌∙◌, ap, subst, length, ◌↔◌}
+use Rattle.std.proofs.Common.{◌≡◌, ◌≢◌, ℕ, ◌<◌, Bool, true, false, not, List, [], ◌∷◌, ◌++◌, ◌+◌, arith, refl, sym, ◌∙◌, ap, subst, length, ◌↔◌}
 use Rattle.std.specs.Prelude.{slice_index_or, filter, pos, All, Contains}
 use Rattle.std.specs.List.{AllPairs}
 use Rattle.std.specs.Ordering.{int_eq}
 use Rattle.std.specs.Cmp.{signed_Decides}
 use Rattle.std.proofs.lemmas.Bool.{false≢true}
 use Rattle.std.proofs.lemmas.List.Kept.{AllPairs-filter}
-use Rattle.stow_data.proofs.Members.{Member, member_left, member_right}
+use Rattle.std.specs.List.{range_with_len}
+use Rattle.std.proofs.lemmas.List.{append-nil, append_assoc}
+use Rattle.std.proofs.lemmas.List.Elements.{filter-append}
+use Rattle.stow_data.proofs.Members.{Member, member_left, member_right, range_at, range_from, range-more}
+use Rattle.program_rows.proofs.Rising.{rising_get, rising_range}
 use Rattle.stow_data.specs.Profile.{IsShip}
 use Rattle.stow_data.specs.Ship.{Ship, places}
 use Rattle.zero_one_rows.specs.declared.program.Row.{Row}
 use Rattle.zero_one_rows.specs.declared.program.Var.{Var}
 use Rattle.zero_one_rows.specs.Variables.{Voyage, variables, var, no_var}
 use Rattle.zero_one_rows.specs.Rows.{coef}
-use Rattle.zero_one_rows.proofs.Listing.{filter_at, filter_from, var_listed}
-use Rattle.zero_one_model.specs.Early.{early, Touches}
-use Rattle.zero_one_model.specs.Indexed.{IsIndex, IsCandidates, first_of, second_of, stands}
+use Rattle.zero_one_rows.proofs.Listing.{filter_at, filter_from, get_member, var_listed}
+use Rattle.zero_one_rows.specs.Rows.{whole}
+use Rattle.zero_one_model.specs.Indexed.{Touches}
+use Rattle.zero_one_model.specs.Indexed.{IsIndex, IsCandidates, is_indexed, first_of, second_of, stands}
 use Rattle.zero_one_model.specs.declared.index.Index.{Index}
 use Rattle.zero_one_model.proofs.Touched.{contains_at, contains_from, get_any}
 use Rattle.zero_one_model.proofs.Chosen.{chosen}
 
-pub chosen_parts : (m : Voyage) → IsShip m.ship → (x : Index) → IsIndex m x → (r : Row) → (early m).has r ≡ true → (a b : List ℕ) → a ≡ first_of m.ship x r → b ≡ second_of m.ship x r → IsCandidates m r (a ++ b)
-chosen_parts m rules x is r has a b e f = rw (e, f) (chosen m rules x is r has)
+pub chosen_parts : (m : Voyage) → IsShip m.ship → (x : Index) → IsIndex m x → (r : Row) → is_indexed r ≡ true → (whole m).has r ≡ true → (a b : List ℕ) → a ≡ first_of m.ship x r → b ≡ second_of m.ship x r → IsCandidates m r (a ++ b)
+chosen_parts m rules x is r found has a b e f = rw (e, f) (chosen m rules x is r found has)
 
 pub not_true : (b : Bool) → not b ≡ true → b ≡ true → ⊥
 not_true true h k = false≢true h
@@ -41,7 +46,7 @@ module _ (m : Voyage) (r : Row) (a b : List ℕ) (c : IsCandidates m r (a ++ b))
   pub right_inside : All (λ v. v < length (variables m)) b
   right_inside k d l = inside_at (slice_index_or b k d) (member_right (slice_index_or b k d) a b (contains_at b (slice_index_or b k d) (k, l, get_any b k (slice_index_or b k d) d l)))
 
-  pub selected_each : (early m).has r ≡ true → (list : List ℕ) → list ≡ filter (stands m r) (a ++ b) → (x : ℕ) → Contains list x ↔ Touches m r x
+  pub selected_each : (whole m).has r ≡ true → (list : List ℕ) → list ≡ filter (stands m r) (a ++ b) → (x : ℕ) → Contains list x ↔ Touches m r x
   selected_each has list e x = (
     (λ (h : Contains list x).
         let f = filter_at (stands m r) (a ++ b) x (subst (λ (xs : List ℕ). Member x xs) e (contains_at list x h)) in
@@ -66,3 +71,19 @@ places_in m ship vars s e k d l =
     let size = ap (λ (z : Ship). length (places z)) s in
     let at = ap (λ (x : Var). x.place) same in
     omega (arith, named.place, size, at)
+
+-- all variables are candidates of every row
+pub sought : (m : Voyage) (r : Row) → IsCandidates m r (range_with_len 0 (length (variables m)) ++ [])
+sought m r = rw (append-nil (range_with_len 0 (length (variables m)))) (record {
+  inside = λ k d l. let q = range_at 0 (length (variables m)) (slice_index_or (range_with_len 0 (length (variables m))) k d) (get_member (range_with_len 0 (length (variables m))) k d l) in omega (arith, q.1);
+  each = λ v t. contains_from (range_with_len 0 (length (variables m))) v (range_from 0 (length (variables m)) v (omega arith) (let a = t.inside in omega (arith, a)));
+  once = λ a b d l q. let lt = rising_get (λ (x y : ℕ). x < y) (range_with_len 0 (length (variables m))) a b d (rising_range 0 (length (variables m))) l q in (λ e. omega (arith, lt, e));
+})
+
+-- one more variable
+pub more_selected : (t : ℕ → Bool) (n : ℕ) (front old new : List ℕ) → old ≡ front ++ filter t (range_with_len 0 n) → new ≡ old ++ filter t (n ∷ []) → new ≡ front ++ filter t (range_with_len 0 (n + 1))
+more_selected t n front old new h e =
+    let last : 0 + n ≡ n = omega arith in
+    let more : range_with_len 0 (n + 1) ≡ range_with_len 0 n ++ n ∷ [] = range-more 0 n ∙ ap (λ (k : ℕ). range_with_len 0 n ++ k ∷ []) last in
+    e ∙ ap (λ (xs : List ℕ). xs ++ filter t (n ∷ [])) h ∙ append_assoc front (filter t (range_with_len 0 n)) (filter t (n ∷ []))
+    ∙ ap (λ (xs : List ℕ). front ++ xs) (sym (ap (filter t) more ∙ filter-append t (range_with_len 0 n) (n ∷ [])))

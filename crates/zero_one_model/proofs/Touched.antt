@@ -10,14 +10,14 @@ use Rattle.stow_data.proofs.Members.{Member, member_left, member_right, member_s
 use Rattle.stow_data.proofs.Distinct.{Each}
 use Rattle.zero_one_rows.specs.declared.program.Var.{Var}
 use Rattle.zero_one_rows.specs.declared.program.Row.{Row}
-use Rattle.zero_one_rows.specs.declared.program.Row.TheVariants.{Flow, Cell, Support, Block}
-use Rattle.zero_one_rows.specs.Variables.{Voyage, place, variables, var, no_var}
-use Rattle.zero_one_rows.specs.Rows.{half, covers, below, above, bit, turned, coef}
+use Rattle.zero_one_rows.specs.declared.program.Row.TheVariants.{Flow, Cell, Support, Twenty, Block}
+use Rattle.zero_one_rows.specs.Variables.{Voyage, place, kind, variables, var, no_var}
+use Rattle.zero_one_rows.specs.Rows.{half, covers, below, above, bit, turned, coef, is_twenty}
 use Rattle.zero_one_rows.proofs.Listing.{filter_at, filter_from, get_member, member_get}
-use Rattle.zero_one_model.specs.Early.{Touches}
+use Rattle.zero_one_model.specs.Indexed.{Touches}
 use Rattle.zero_one_lists.specs.Grouping.{with_key, IsGrouped}
 use Rattle.zero_one_model.specs.Indexed.{IsCandidates}
-use Rattle.zero_one_model.proofs.Rising.{Rising, rising_append, rising_filter, rising_range, rising_get}
+use Rattle.program_rows.proofs.Rising.{Rising, rising_append, rising_filter, rising_range, rising_get}
 use Rattle.zero_one_model.proofs.Sized.{first_true, second_true}
 
 pub get_any : {X : Type 0} (xs : List X) (k : ℕ) (d e : X) → k < length xs → slice_index_or xs k d ≡ slice_index_or xs k e
@@ -132,6 +132,15 @@ support_near m i h x ne = go (covers (place m x.place) (half m h)) (covers (plac
     go true b e f = inl e
     go false true e f = inr f
     go false false e f = absurd (ne (rw (e, f) refl))
+
+pub twenty_near : (m : Voyage) (i h : ℕ) (x : Var) → coef m (Twenty i h) x ≢ pos 0 → (covers (place m x.place) (half m h) ≡ true) ⊎ (covers (place m x.place) (below (half m h)) ≡ true)
+twenty_near m i h x ne = go (is_twenty (kind m x.kind).long) (covers (place m x.place) (half m h)) (covers (place m x.place) (below (half m h))) refl refl refl
+  where
+    go : (t a b : Bool) → is_twenty (kind m x.kind).long ≡ t → covers (place m x.place) (half m h) ≡ a → covers (place m x.place) (below (half m h)) ≡ b → (covers (place m x.place) (half m h) ≡ true) ⊎ (covers (place m x.place) (below (half m h)) ≡ true)
+    go t true b d e f = inl e
+    go t false true d e f = inr f
+    go true false false d e f = absurd (ne (rw (d, e, f) refl))
+    go false false false d e f = absurd (ne (rw d refl))
 
 pub block_near : (m : Voyage) (i h : ℕ) (x : Var) → coef m (Block i h) x ≢ pos 0 → (covers (place m x.place) (half m h) ≡ true) ⊎ (covers (place m x.place) (above (half m h)) ≡ true)
 block_near m i h x ne = go (covers (place m x.place) (half m h)) (covers (place m x.place) (above (half m h))) refl refl

@@ -6,17 +6,17 @@ use Rattle.zero_one_rows.specs.declared.program.Var.{Var}
 use Rattle.zero_one_rows.specs.Variables.{Voyage, variables}
 use Rattle.zero_one_model.specs.declared.refusals.ModelNo.{ModelNo}
 use Rattle.zero_one_model.specs.declared.refusals.ModelNo.TheVariants.{TooLarge, NoMemory}
-use Rattle.zero_one_model.specs.Early.{early_rows}
+use Rattle.program_rows.specs.Counted.{all_rows}
 
 -- within the limits of variables and rows
 pub record IsWithin (m : Voyage) : Type 0 where
   pub vars : length (variables m) ≤ 200000
-  pub rows : length (early_rows m) ≤ 2000000
+  pub rows : length (all_rows m) ≤ 2000000
 
 -- the limit that is passed, first that of variables, then that of rows; and the number that passes it
 abbrev pub Passes : Voyage → Limit → ℕ → Type 0
 Passes m Variables n = (n ≡ length (variables m)) × (200000 < n)
-Passes m Rows n = (n ≡ length (early_rows m)) × (2000000 < n) × (length (variables m) ≤ 200000)
+Passes m Rows n = (n ≡ length (all_rows m)) × (2000000 < n) × (length (variables m) ≤ 200000)
 Passes m Calls n = ⊥
 Passes m Containers n = ⊥
 Passes m Places n = ⊥

@@ -1,5 +1,3 @@
-pub mod Early
 pub mod Building
 pub mod Built
 pub mod Indexed
-pub mod Touching

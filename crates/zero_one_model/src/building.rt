@@ -1,14 +1,13 @@
 //! The parts of a program, within its limits.
-ghost use Rattle.std.specs.Prelude.{◌≡◌, ◌+◌, ◌<◌, ◌≤◌, length, IfOk};
+ghost use Rattle.std.specs.Prelude.{◌≡◌, ◌+◌, ◌<◌, ◌≤◌, length};
 ghost use Rattle.stow_data.specs.Kinds.{AreKinds};
 ghost use Rattle.stow_data.specs.Ship.{places};
 ghost use Rattle.zero_one_model.specs.Building.{BuildsVariables};
-ghost use Rattle.zero_one_lists.specs.Counted.{IsRowLists, IsFew};
 
 use crate::refusals::ModelNo;
 use std::alloc::Global;
-use stow_data::{Cargo, Kinds, Limit, NoMemory, Seq, Ship};
-use zero_one_lists::{RowLists, gather_offers, list_rows, list_variables};
+use stow_data::{Cargo, Kinds, Limit, Seq, Ship};
+use zero_one_lists::{gather_offers, list_variables};
 use zero_one_rows::Var;
 
 /// The greatest number of variables.
@@ -37,18 +36,4 @@ pub fn built_variables(
         });
     }
     Ok(listing.vars)
-}
-
-/// What the rows of a voyage are counted by.
-pub fn built_rows(
-    alloc: Global,
-    ship: &Ship,
-    cargo: &Cargo,
-    kinds: &Kinds,
-) -> Result<RowLists, NoMemory>
-    requires { AreKinds ship.now.weight_step cargo.now.containers kinds.now }
-    ensures lists { IfOk result (λ r. IsRowLists (record { ship = ship.now; cargo = cargo.now }) r) }
-    ensures few { IfOk result (λ r. IsFew r) }
-{
-    list_rows(alloc, ship, cargo, kinds)
 }

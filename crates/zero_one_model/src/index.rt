@@ -1,24 +1,22 @@
-//! The variables and half-cells by what they touch.
+//! The variables by kind and tier.
 ghost use Rattle.std.specs.Prelude.{◌≡◌, ℕ, ◌+◌, ◌*◌, ◌<◌, ◌≤◌, ◌^◌, IfOk, All, [], length, map, slice_index_or};
-ghost use Rattle.stow_data.specs.Ship.{places, halves};
+ghost use Rattle.stow_data.specs.Ship.{places};
 ghost use Rattle.stow_data.specs.Plans.{no_place};
-ghost use Rattle.zero_one_model.specs.Indexed.{shelf, place_shelf, half_shelf, IsIndexOf, NamesHalf, first_of, second_of};
-ghost use Rattle.zero_one_model.specs.Touching.{group_before};
+ghost use Rattle.zero_one_model.specs.Indexed.{shelf, place_shelf, IsIndexOf, NamesHalf, is_indexed, first_of, second_of};
 
 use std::alloc::Global;
-use stow_data::{HalfNo, NoMemory, Seq, Ship, StackNo};
+use stow_data::{NoMemory, Seq, Ship, StackNo};
 use zero_one_lists::{Groups, group};
 use zero_one_rows::{Row, Var, half_at, place_at, under};
 
 /// Tiers that a stack has at most.
 const TIERS: usize = 40;
 
-/// The variables of each kind and of each tier of a stack, and the half-cells of each tier of a stack.
+/// The variables of each kind and of each tier of a stack.
 #[derive(Drop)]
 pub struct Index {
     pub by_kind: Groups,
     pub by_shelf: Groups,
-    pub halves: Groups,
 }
 
 /// The number of a tier of a stack.
@@ -52,34 +50,34 @@ fn shelf_keys(alloc: Global, ship: &Ship, vars: &[Var]) -> Result<Seq<usize>, No
     Ok(keys)
 }
 
-/// The tier of each half-cell.
-fn half_keys(alloc: Global, ship: &Ship) -> Result<Seq<usize>, NoMemory>
-    ensures { IfOk result (λ keys. keys ≡ map half_shelf (halves ship.now)) }
-{
-    let mut keys = Seq::new(alloc);
-    for h in 0..ship.halves() {
-        let half = half_at(ship, HalfNo(h));
-        keys.push(shelf_of(half.stack, half.tier))?;
-    }
-    Ok(keys)
-}
-
 /// The index of a voyage's variables.
 pub fn index_of(alloc: Global, ship: &Ship, kinds: u32, vars: &[Var]) -> Result<Index, NoMemory>
     requires places { All (λ v. v.place < length (places ship.now)) vars.now }
     requires few { length vars.now ≤ 200000 }
     ensures { IfOk result (λ x. IsIndexOf ship.now kinds vars.now x) }
 {
-    let _halves = ship.halves();
     let shelves = ship.stacks() as usize * TIERS;
     let by_kind = group(alloc, kind_keys(alloc, vars)?.as_slice(), kinds as usize)?;
     let by_shelf = group(alloc, shelf_keys(alloc, ship, vars)?.as_slice(), shelves)?;
-    let halves = group(alloc, half_keys(alloc, ship)?.as_slice(), shelves)?;
-    Ok(Index {
-        by_kind,
-        by_shelf,
-        halves,
-    })
+    Ok(Index { by_kind, by_shelf })
+}
+
+/// Whether the index holds the variables of a row of this family.
+pub fn is_found(row: &Row) -> bool
+    ensures { result ≡ is_indexed row.now }
+{
+    match row {
+        Row::Flow { .. }
+        | Row::Cell { .. }
+        | Row::Support { .. }
+        | Row::Twenty { .. }
+        | Row::Block { .. } => true,
+        Row::Start { .. }
+        | Row::Hatch { .. }
+        | Row::Weight { .. }
+        | Row::Apart { .. }
+        | Row::Cross { .. } => false,
+    }
 }
 
 impl Index {
@@ -90,12 +88,14 @@ impl Index {
     {
         match row {
             Row::Flow { kind, .. } => self.by_kind.of(kind.0 as usize),
-            Row::Cell { half, .. } | Row::Support { half, .. } | Row::Block { half, .. } => {
+            Row::Cell { half, .. }
+            | Row::Support { half, .. }
+            | Row::Twenty { half, .. }
+            | Row::Block { half, .. } => {
                 let h = half_at(ship, *half);
                 self.by_shelf.of(shelf_of(h.stack, h.tier))
             }
             Row::Start { .. }
-            | Row::Twenty { .. }
             | Row::Hatch { .. }
             | Row::Weight { .. }
             | Row::Apart { .. }
@@ -109,7 +109,7 @@ impl Index {
         ensures { result.now ≡ second_of ship.now self.now row.now }
     {
         match row {
-            Row::Support { half, .. } => {
+            Row::Support { half, .. } | Row::Twenty { half, .. } => {
                 let h = under(half_at(ship, *half));
                 self.by_shelf.of(shelf_of(h.stack, h.tier))
             }
@@ -120,36 +120,10 @@ impl Index {
             Row::Flow { .. }
             | Row::Start { .. }
             | Row::Cell { .. }
-            | Row::Twenty { .. }
             | Row::Hatch { .. }
             | Row::Weight { .. }
             | Row::Apart { .. }
             | Row::Cross { .. } => &[],
         }
-    }
-
-    /// The half-cells of the next tier up.
-    pub fn above(&self, shelf: usize) -> &[u32]
-        requires { shelf < 2 ^ 63 }
-        ensures { result.now ≡ slice_index_or self.now.halves (shelf + 1) [] }
-    {
-        self.halves.of(shelf + 1)
-    }
-
-    /// The half-cells of a tier.
-    pub fn level(&self, shelf: usize) -> &[u32]
-        ensures { result.now ≡ slice_index_or self.now.halves shelf [] }
-    {
-        self.halves.of(shelf)
-    }
-
-    /// The half-cells of the next tier down.
-    pub fn below(&self, shelf: usize) -> &[u32]
-        ensures { result.now ≡ group_before self.now.halves shelf }
-    {
-        if shelf == 0 {
-            return &[];
-        }
-        self.halves.of(shelf - 1)
     }
 }

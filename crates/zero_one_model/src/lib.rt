@@ -3,7 +3,6 @@
 
 mod boxes;
 mod building;
-mod has_row;
 mod index;
 mod model;
 mod refusals;

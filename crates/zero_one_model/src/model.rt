@@ -1,15 +1,14 @@
 //! The built program.
 ghost use Rattle.std.specs.Prelude.{◌≡◌, ℕ, ◌+◌, ◌-◌, ◌*◌, ◌<◌, ◌≤◌, ◌≢◌, ◌^◌, ◌↔◌, true, length, slice_get, Some, IfOk, MatchOption, OnOk, All, ◌++◌, ◌∷◌, [], filter, cond, Contains, pos, unsigned_abs};
-ghost use Rattle.std.specs.List.{AllPairs};
+ghost use Rattle.std.specs.List.{AllPairs, range_with_len};
 
-use crate::building::{MOST_ROWS, built_rows, built_variables};
-use crate::has_row::has_early;
-use crate::index::{Index, index_of, shelf_of};
+use crate::building::{MOST_ROWS, built_variables};
+use crate::index::{Index, index_of, is_found};
 use crate::refusals::ModelNo;
+use program_rows::{RowLists, count_rows, list_rows};
 use std::alloc::Global;
-use stow_data::{CallNo, Cargo, HalfNo, Kinds, Limit, NoMemory, Seq, Ship, VarNo, kinds};
-use zero_one_lists::RowLists;
-use zero_one_rows::{Row, RowList, Var, VarList, place_at};
+use stow_data::{Cargo, Kinds, Limit, NoMemory, Seq, Ship, VarNo, kinds};
+use zero_one_rows::{Row, RowList, Var, VarList};
 
 /// Appends a variable's number where it is wanted.
 fn push_var(list: &mut VarList, x: VarNo, wanted: bool) -> Result<(), NoMemory>
@@ -18,7 +17,7 @@ fn push_var(list: &mut VarList, x: VarNo, wanted: bool) -> Result<(), NoMemory>
     if wanted { list.push(x) } else { Ok(()) }
 }
 
-/// The 0-1 program of a voyage: the rows of the families flow, cell, support and block, for any ship and cargo. Contracts see the voyage.
+/// The 0-1 program of a voyage, with the rows of all ten families. Contracts see the voyage.
 #[derive(Drop)]
 pub struct Model<'a> {
     ship: &'a Ship,
@@ -26,6 +25,7 @@ pub struct Model<'a> {
     kinds: Kinds,
     vars: Seq<Var>,
     lists: RowLists,
+    base: u64,
     rows: u64,
     index: Index,
 }
@@ -43,11 +43,10 @@ impl<'a> std::marker::Model for Model<'a> {
 }
 
 impl<'a> Model<'a> {
-    ghost use Rattle.zero_one_rows.specs.Variables.{Voyage, place, variables, var, all_kinds, is_rehandled};
-    ghost use Rattle.zero_one_rows.specs.Rows.{bit, coef};
-    ghost use Rattle.zero_one_model.specs.Early.{early, early_rows, Touches};
-    ghost use Rattle.zero_one_model.specs.Indexed.{stands, place_shelf};
-    ghost use Rattle.zero_one_model.specs.Touching.{touching, flow_at, flows, rows_after, rows_on, rows_among};
+    ghost use Rattle.zero_one_rows.specs.Variables.{Voyage, variables, var, all_kinds, is_rehandled};
+    ghost use Rattle.zero_one_rows.specs.Rows.{bit, coef, rhs, has, whole};
+    ghost use Rattle.program_rows.specs.Counted.{base_rows, all_rows};
+    ghost use Rattle.zero_one_model.specs.Indexed.{Touches, stands, is_indexed};
     ghost use Rattle.zero_one_model.specs.Building.{Builds};
     ghost use Rattle.stow_data.specs.Ship.{places};
 
@@ -56,24 +55,26 @@ impl<'a> Model<'a> {
         requires arrival { length cargo.now.arrival ≡ length (places ship.now) }
         ensures { Builds (record { ship = ship.now; cargo = cargo.now }) result }
     {
+        let _places = ship.places();
         let kinds = kinds(alloc, ship, cargo)?;
         let vars = built_variables(alloc, ship, cargo, &kinds)?;
-        let index = index_of(alloc, ship, kinds.len(), vars.as_slice())?;
-        let lists = built_rows(alloc, ship, cargo, &kinds)?;
-        let rows = lists.len();
-        if rows > MOST_ROWS {
+        let counts = count_rows(ship, cargo, &kinds);
+        if counts.all > MOST_ROWS {
             return Err(ModelNo::TooLarge {
                 limit: Limit::Rows,
-                value: rows,
+                value: counts.all,
             });
         }
+        let lists = list_rows(alloc, ship, cargo, &kinds)?;
+        let index = index_of(alloc, ship, kinds.len(), vars.as_slice())?;
         Ok(Model {
             ship,
             cargo,
             kinds,
             vars,
             lists,
-            rows,
+            base: counts.base,
+            rows: counts.all,
             index,
         })
     }
@@ -88,7 +89,7 @@ impl<'a> Model<'a> {
 
     /// The number of rows.
     pub fn rows(&self) -> u64
-        ensures number { result ≡ length (early_rows self.now) }
+        ensures number { result ≡ length (all_rows self.now) }
         ensures size { result ≤ 2000000 }
     {
         self.rows
@@ -96,19 +97,18 @@ impl<'a> Model<'a> {
 
     /// The number of base rows; they come first.
     pub fn base_rows(&self) -> u64
-        ensures number { result ≡ length (early_rows self.now) }
-        ensures size { result ≤ 2000000 }
+        ensures { result ≡ length (base_rows self.now) }
     {
-        self.rows
+        self.base
     }
 
     /// The row with k rows before it in the order of rows.
     pub fn row_at(&self, k: u64) -> Row
-        requires { k < length (early_rows self.now) }
-        ensures place { slice_get (early_rows self.now) k ≡ Some result }
-        ensures has { (early self.now).has result ≡ true }
+        requires { k < length (all_rows self.now) }
+        ensures place { slice_get (all_rows self.now) k ≡ Some result }
+        ensures has { (whole self.now).has result ≡ true }
     {
-        self.lists.at(k)
+        self.lists.at(self.base, k)
     }
 
     /// The greatest number of rehandles that a voyage needs: each container once at each call but the last.
@@ -138,15 +138,15 @@ impl<'a> Model<'a> {
 
     /// Whether the program has this row.
     pub fn has_row(&self, r: &Row) -> bool
-        ensures { result ≡ (early self.now).has r.now }
+        ensures { result ≡ (whole self.now).has r.now }
     {
-        has_early(self.ship, self.cargo, &self.kinds, r)
+        zero_one_rows::has_row(self.ship, self.cargo, &self.kinds, r)
     }
 
     fn coefficient_of(&self, r: &Row, x: Var) -> i64
         ghost m: { Voyage }
         requires model { self.now ≡ m }
-        requires row { (early m).has r.now ≡ true }
+        requires row { (whole m).has r.now ≡ true }
         requires place { x.place < length (places m.ship) }
         requires kind { x.kind < length (all_kinds m) }
         ensures { result ≡ coef m r.now x }
@@ -158,9 +158,10 @@ impl<'a> Model<'a> {
     fn rhs_of(&self, r: &Row) -> i64
         ghost m: { Voyage }
         requires model { self.now ≡ m }
-        requires row { (early m).has r.now ≡ true }
-        ensures { result ≡ (early m).rhs r.now }
+        requires row { (whole m).has r.now ≡ true }
+        ensures { result ≡ (whole m).rhs r.now }
     {
+        let _places = self.ship.places();
         zero_one_rows::right_side(self.ship, self.cargo, &self.kinds, r)
     }
 
@@ -175,20 +176,23 @@ impl<'a> Model<'a> {
 
     /// The coefficient of a variable in a row.
     pub fn coefficient(&self, r: &Row, x: VarNo) -> i64
-        requires row { (early self.now).has r.now ≡ true }
+        requires row { (whole self.now).has r.now ≡ true }
         requires var { x < length (variables self.now) }
-        ensures value { result ≡ (early self.now).coef r.now x }
+        ensures value { result ≡ (whole self.now).coef r.now x }
         ensures size { unsigned_abs result ≤ 2 ^ 17 }
     {
+        let _places = self.ship.places();
+        let _calls = self.cargo.calls();
         self.coefficient_of(r, self.var(x))
     }
 
     /// The right side of a row.
     pub fn rhs(&self, r: &Row) -> i64
-        requires { (early self.now).has r.now ≡ true }
-        ensures value { result ≡ (early self.now).rhs r.now }
+        requires { (whole self.now).has r.now ≡ true }
+        ensures value { result ≡ (whole self.now).rhs r.now }
         ensures size { unsigned_abs result ≤ 2 ^ 37 }
     {
+        let _places = self.ship.places();
         let _calls = self.cargo.calls();
         self.rhs_of(r)
     }
@@ -196,7 +200,7 @@ impl<'a> Model<'a> {
     /// What a variable costs: 1 where it is lifted before its kind's destination, and else 0.
     pub fn cost(&self, x: VarNo) -> u32
         requires { x < length (variables self.now) }
-        ensures value { pos result ≡ (early self.now).cost x }
+        ensures value { pos result ≡ (whole self.now).cost x }
         ensures size { result ≤ 1 }
     {
         self.cost_of(self.var(x))
@@ -204,7 +208,7 @@ impl<'a> Model<'a> {
 
     /// Appends those of the variables whose coefficient in a row isn't 0.
     fn select(&self, list: &mut VarList, r: &Row, among: &[u32]) -> Result<(), NoMemory>
-        requires row { (early self.now).has r.now ≡ true }
+        requires row { (whole self.now).has r.now ≡ true }
         requires inside { All (λ v. v < length (variables self.now)) among.now }
         ensures { OnOk result (list.new ≡ list.old ++ filter (stands self.now r.now) among.now) }
     {
@@ -215,9 +219,21 @@ impl<'a> Model<'a> {
         Ok(())
     }
 
-    /// The variables whose coefficient in a row isn't 0, each once.
-    pub fn vars_of(&self, alloc: Global, r: &Row) -> Result<VarList, NoMemory>
-        requires { (early self.now).has r.now ≡ true }
+    /// Appends the variables whose coefficient in a row isn't 0.
+    fn select_all(&self, list: &mut VarList, r: &Row) -> Result<(), NoMemory>
+        requires { (whole self.now).has r.now ≡ true }
+        ensures { OnOk result (list.new ≡ list.old ++ filter (stands self.now r.now) (range_with_len 0 (length (variables self.now)))) }
+    {
+        for v in 0..self.vars() {
+            self.select(list, r, &[v])?;
+        }
+        Ok(())
+    }
+
+    /// The variables of a row of a family that the index holds.
+    fn found_vars(&self, alloc: Global, r: &Row) -> Result<VarList, NoMemory>
+        requires row { (whole self.now).has r.now ≡ true }
+        requires found { is_indexed r.now ≡ true }
         ensures each { IfOk result (λ xs. (x : ℕ) → Contains xs x ↔ Touches self.now r.now x) }
         ensures once { IfOk result (λ xs. AllPairs (λ x y. x ≢ y) xs) }
     {
@@ -228,105 +244,53 @@ impl<'a> Model<'a> {
         Ok(list)
     }
 
-    /// Appends a row where the program has it and the variable's coefficient in it isn't 0.
-    fn keep(&self, list: &mut RowList, r: Row, x: VarNo) -> Result<(), NoMemory>
-        requires { x < length (variables self.now) }
-        ensures { OnOk result (list.new ≡ list.old ++ filter (touching self.now x) (r ∷ [])) }
+    /// The variables of a row, of all that there are.
+    fn sought_vars(&self, alloc: Global, r: &Row) -> Result<VarList, NoMemory>
+        requires row { (whole self.now).has r.now ≡ true }
+        ensures each { IfOk result (λ xs. (x : ℕ) → Contains xs x ↔ Touches self.now r.now x) }
+        ensures once { IfOk result (λ xs. AllPairs (λ x y. x ≢ y) xs) }
     {
-        if self.has_row(&r) && self.coefficient(&r, x) != 0 {
+        let mut list = Seq::new(alloc);
+        self.select_all(&mut list, r)?;
+        Ok(list)
+    }
+
+    /// The variables whose coefficient in a row isn't 0, each once.
+    pub fn vars_of(&self, alloc: Global, r: &Row) -> Result<VarList, NoMemory>
+        requires { (whole self.now).has r.now ≡ true }
+        ensures each { IfOk result (λ xs. (x : ℕ) → Contains xs x ↔ Touches self.now r.now x) }
+        ensures once { IfOk result (λ xs. AllPairs (λ x y. x ≢ y) xs) }
+    {
+        if is_found(r) {
+            self.found_vars(alloc, r)
+        } else {
+            self.sought_vars(alloc, r)
+        }
+    }
+
+    /// Appends a row where the variable's coefficient in it isn't 0.
+    fn keep(&self, list: &mut RowList, r: Row, x: VarNo) -> Result<(), NoMemory>
+        requires row { (whole self.now).has r ≡ true }
+        requires var { x < length (variables self.now) }
+        ensures { OnOk result (list.new ≡ list.old ++ filter (λ row. stands self.now row x) (r ∷ [])) }
+    {
+        if self.coefficient(&r, x) != 0 {
             list.push(r)
         } else {
             Ok(())
         }
     }
 
-    /// Of the rows of the variable's kind, those of a call.
-    fn keep_flow(&self, list: &mut RowList, x: VarNo, call: CallNo) -> Result<(), NoMemory>
-        requires { x < length (variables self.now) }
-        ensures { OnOk result (list.new ≡ list.old ++ filter (touching self.now x) (flow_at (var self.now x).kind call)) }
-    {
-        let kind = self.var(x).kind;
-        self.keep(list, Row::Flow { q: 0, call, kind }, x)?;
-        self.keep(list, Row::Flow { q: 1, call, kind }, x)?;
-        Ok(())
-    }
-
-    /// Of the rows of the variable's kind, those of its put and its lifting.
-    fn keep_flows(&self, list: &mut RowList, x: VarNo) -> Result<(), NoMemory>
-        requires { x < length (variables self.now) }
-        ensures { OnOk result (list.new ≡ list.old ++ filter (touching self.now x) (flows (var self.now x))) }
-    {
-        let v = self.var(x);
-        self.keep_flow(list, x, v.put)?;
-        self.keep_flow(list, x, v.lifted)?;
-        Ok(())
-    }
-
-    /// Of the rows of a half-cell, those that speak of what is there after a call.
-    fn keep_after(
-        &self,
-        list: &mut RowList,
-        x: VarNo,
-        half: HalfNo,
-        call: CallNo,
-    ) -> Result<(), NoMemory>
-        requires var { x < length (variables self.now) }
-        requires call { call + 1 < 2 ^ 32 }
-        ensures { OnOk result (list.new ≡ list.old ++ filter (touching self.now x) (rows_after half call)) }
-    {
-        let next = CallNo(call.0 + 1);
-        self.keep(list, Row::Cell { call, half }, x)?;
-        self.keep(list, Row::Support { call, half }, x)?;
-        self.keep(list, Row::Block { call: next, half }, x)?;
-        Ok(())
-    }
-
-    /// Of the rows of a half-cell, those of the calls after which the variable's container is there.
-    fn keep_on(&self, list: &mut RowList, x: VarNo, half: HalfNo) -> Result<(), NoMemory>
-        requires { x < length (variables self.now) }
-        ensures { OnOk result (list.new ≡ list.old ++ filter (touching self.now x) (rows_on (var self.now x) half)) }
-    {
-        let v = self.var(x);
-        for i in v.put.0..v.lifted.0 {
-            self.keep_after(list, x, half, CallNo(i))?;
-        }
-        Ok(())
-    }
-
-    /// The same of several half-cells.
-    fn keep_among(&self, list: &mut RowList, x: VarNo, halves: &[u32]) -> Result<(), NoMemory>
-        requires { x < length (variables self.now) }
-        ensures { OnOk result (list.new ≡ list.old ++ filter (touching self.now x) (rows_among (var self.now x) halves.now)) }
-    {
-        for h in halves {
-            self.keep_on(list, x, HalfNo(*h))?;
-        }
-        Ok(())
-    }
-
-    /// The number of the tier at which a variable stands.
-    fn shelf_at(&self, x: VarNo) -> usize
-        requires { x < length (variables self.now) }
-        ensures value { result ≡ place_shelf (place self.now (var self.now x).place) }
-        ensures size { result < 2 ^ 63 }
-    {
-        let place = place_at(self.ship, self.var(x).place);
-        shelf_of(place.stack, place.tier)
-    }
-
-    /// The rows in which the coefficient of a variable isn't 0, each once.
+    /// The rows in which the coefficient of a variable isn't 0, each once, in their order. It looks at every row.
     pub fn rows_of(&self, alloc: Global, x: VarNo) -> Result<RowList, NoMemory>
         requires { x < length (variables self.now) }
         ensures each { IfOk result (λ rs. (r : Row) → Contains rs r ↔ Touches self.now r x) }
         ensures once { IfOk result (λ rs. AllPairs (λ r s. r ≢ s) rs) }
     {
-        let _places = self.ship.places();
-        let shelf = self.shelf_at(x);
         let mut list = Seq::new(alloc);
-        self.keep_flows(&mut list, x)?;
-        self.keep_among(&mut list, x, self.index.above(shelf))?;
-        self.keep_among(&mut list, x, self.index.level(shelf))?;
-        self.keep_among(&mut list, x, self.index.below(shelf))?;
+        for k in 0..self.rows() {
+            self.keep(&mut list, self.row_at(k), x)?;
+        }
         Ok(list)
     }
 }

@@ -63,7 +63,7 @@ pub fn columns(ship: &Ship, long: Length) -> u32
     ensures value { result ≡ columns_of ship.now long }
     ensures size { result ≤ 3000 }
 {
-    let _places = ship.places();
+    ship.obeys_rules();
     let mut count = 0;
     for s in 0..ship.stacks() {
         count += columns_in(long, stack_at(ship, StackNo(s)).lengths);
@@ -87,7 +87,7 @@ pub fn tallest(ship: &Ship, long: Length) -> u32
     ensures value { result ≡ tallest_of ship.now long }
     ensures size { result ≤ 39 }
 {
-    let _places = ship.places();
+    ship.obeys_rules();
     let mut most = 0;
     for s in 0..ship.stacks() {
         most = most.max(tiers_for(long, stack_at(ship, StackNo(s))));

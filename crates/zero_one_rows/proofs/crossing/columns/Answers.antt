@@ -15,5 +15,5 @@ loop-s-preserved c =
     let all = sum_by_more_le (λ (s : Stack). columns_in c.args.long s.lengths) c.args.ship.now.stacks c.loop-s.s no_stack lt in
     record {
       value = omega (arith, c.loop-s.invariant.value, here, more);
-      low = omega (arith, c.loop-s.invariant.value, here, all, columns_few c.args.ship.now c.args.long c.places-places.ensures.rules);
+      low = omega (arith, c.loop-s.invariant.value, here, all, columns_few c.args.ship.now c.args.long c.obeys_rules.ensures);
     }

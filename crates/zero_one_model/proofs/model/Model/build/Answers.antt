@@ -3,8 +3,7 @@ use Rattle.zero_one_rows.specs.declared.program.Var.{Var}
 use Rattle.zero_one_rows.specs.Variables.{Voyage, all_kinds}
 use Rattle.zero_one_model.specs.Indexed.{IsIndexOf}
 use Rattle.zero_one_model.proofs.Selected.{places_in}
-use Rattle.zero_one_model.specs.Early.{early_rows}
-use Rattle.zero_one_model.proofs.Rowed.{rows_listed}
+use Rattle.program_rows.specs.Counted.{all_rows}
 use Rattle.zero_one_model.proofs.model.Model.build.Goals as goal
 
 pub index_of-requires-clause-places : goal.index_of-requires-clause-places
@@ -12,30 +11,27 @@ index_of-requires-clause-places c =
     let m : Voyage = record { ship = c.args.ship.now; cargo = c.args.cargo.now } in
     places_in m c.args.ship.now c.as_slice.result.now refl (c.as_slice.ensures ∙ c.in_ok-vars.ensures.0)
 
-pub returns-then-rows-gt-MOST_ROWS : goal.returns-then-rows-gt-MOST_ROWS
-returns-then-rows-gt-MOST_ROWS c =
+pub returns-then-counts-gt-MOST_ROWS : goal.returns-then-counts-gt-MOST_ROWS
+returns-then-counts-gt-MOST_ROWS c =
     let m : Voyage = record { ship = c.args.ship.now; cargo = c.args.cargo.now } in
-    let rows : c.len-rows.result ≡ length (early_rows m) = c.len-rows.ensures ∙ ap length (sym (rows_listed m c.in_ok-lists.lists c.in_ok-lists.ensures.lists)) in
-    (rows, c.if-rows-gt-MOST_ROWS.true, c.in_ok-vars.ensures.1)
+    (c.count_rows-counts.ensures.all, c.if-counts-gt-MOST_ROWS.true, c.in_ok-vars.ensures.1)
 
 pub invariant_of-result : goal.invariant_of-result
 invariant_of-result c =
     let m : Voyage = record { ship = c.args.ship.now; cargo = c.args.cargo.now } in
-    let rows : c.len-rows.result ≡ length (early_rows m) = c.len-rows.ensures ∙ ap length (sym (rows_listed m c.in_ok-lists.lists c.in_ok-lists.ensures.lists)) in
     record {
       kinds = c.in_ok-kinds.ensures;
       vars = c.in_ok-vars.ensures.0;
-      lists = c.in_ok-lists.ensures.lists;
-      few = c.in_ok-lists.ensures.few;
-      rows = rows;
+      lists = c.in_ok-lists.ensures;
+      base = c.count_rows-counts.ensures.base;
+      rows = c.count_rows-counts.ensures.all;
       index =
           let a : IsIndexOf c.args.ship.now (length (all_kinds m)) c.as_slice.result.now c.in_ok-index.index = subst (λ (n : ℕ). IsIndexOf c.args.ship.now n c.as_slice.result.now c.in_ok-index.index) (c.len.ensures ∙ ap length c.in_ok-kinds.ensures.list) c.in_ok-index.ensures in
           subst (λ (xs : List Var). IsIndexOf c.args.ship.now (length (all_kinds m)) xs c.in_ok-index.index) (c.as_slice.ensures ∙ c.in_ok-vars.ensures.0) a;
-      within = record { vars = c.in_ok-vars.ensures.1; rows = omega (arith, rows, c.if-rows-gt-MOST_ROWS.false) };
+      within = record { vars = c.in_ok-vars.ensures.1; rows = omega (arith, c.count_rows-counts.ensures.all, c.if-counts-gt-MOST_ROWS.false) };
     }
 
 pub returns : goal.returns
 returns c =
     let m : Voyage = record { ship = c.args.ship.now; cargo = c.args.cargo.now } in
-    let rows : c.len-rows.result ≡ length (early_rows m) = c.len-rows.ensures ∙ ap length (sym (rows_listed m c.in_ok-lists.lists c.in_ok-lists.ensures.lists)) in
-    (refl, record { vars = c.in_ok-vars.ensures.1; rows = omega (arith, rows, c.if-rows-gt-MOST_ROWS.false) })
+    (refl, record { vars = c.in_ok-vars.ensures.1; rows = omega (arith, c.count_rows-counts.ensures.all, c.if-counts-gt-MOST_ROWS.false) })

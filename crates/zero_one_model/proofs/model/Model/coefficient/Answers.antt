@@ -5,7 +5,10 @@ use Rattle.stow_data.specs.Ship.{places}
 use Rattle.zero_one_rows.specs.declared.program.Var.{Var}
 use Rattle.zero_one_rows.specs.Variables.{all_kinds}
 use Rattle.zero_one_rows.proofs.Listing.{var_listed}
-use Rattle.zero_one_model.proofs.Sized.{coefficient_small}
+use Rattle.stow_data.specs.Profile.{IsShip}
+use Rattle.stow_data.specs.Shipment.{IsCargo}
+use Rattle.zero_one_rows.specs.Variables.{Voyage}
+use Rattle.zero_one_rows.proofs.Sizes.{coefficient_small}
 use Rattle.zero_one_model.proofs.model.Model.coefficient.Goals as goal
 
 pub coefficient_of-requires : goal.coefficient_of-requires
@@ -23,6 +26,8 @@ coefficient_of-requires c =
 
 pub returns-clause-size : goal.returns-clause-size
 returns-clause-size c =
+    let sound : IsShip c.args.self.now.ship = subst (λ (v : Voyage). IsShip v.ship) c.self.view_is c.places-places.ensures.rules in
+    let lawful : IsCargo c.args.self.now.cargo = subst (λ (v : Voyage). IsCargo v.cargo) c.self.view_is c.calls-calls.ensures.rules in
     let fits : FitsSigned w64 c.coefficient_of.result = search rules in
-    let small : unsigned_abs c.coefficient_of.result ≤ 2 ^ 17 = subst (λ (z : ℤ). unsigned_abs z ≤ 2 ^ 17) (sym c.coefficient_of.ensures) (coefficient_small c.args.self.now c.args.r.now c.var.result c.requires.row) in
+    let small : unsigned_abs c.coefficient_of.result ≤ 2 ^ 17 = subst (λ (z : ℤ). unsigned_abs z ≤ 2 ^ 17) (sym c.coefficient_of.ensures) (coefficient_small c.args.self.now c.args.r.now c.var.result sound lawful c.requires.row) in
     subst (λ (z : ℤ). unsigned_abs z ≤ 2 ^ 17) (sym (to_z-of_z w64 c.coefficient_of.result fits)) small

@@ -1,7 +1,8 @@
 use Rattle.std.proofs.Common.{◌≡◌, ◌∙◌, ap, subst}
 use Rattle.stow_data.specs.Profile.{IsShip}
 use Rattle.zero_one_rows.specs.Variables.{Voyage, all_kinds}
-use Rattle.zero_one_model.proofs.Sized.{early_in_range, halves_low}
+use Rattle.zero_one_rows.proofs.Sizes.{in_range}
+use Rattle.zero_one_model.proofs.Sized.{halves_low}
 use Rattle.zero_one_model.proofs.model.Model.coefficient_of.Goals as goal
 
 pub coefficient-requires : goal.coefficient-requires
@@ -11,7 +12,7 @@ coefficient-requires g c =
       (
         c.self.invariant.kinds.list ∙ ap all_kinds (c.self.view_is ∙ c.requires.0),
         (
-          early_in_range g.m c.args.r.now c.requires.1.0,
+          in_range g.m c.args.r.now (subst IsShip ship c.places-places.ensures.rules) c.requires.1.0,
           (
             c.requires.1.1.0,
             (

@@ -1,0 +1,9 @@
+pub mod Paired
+pub mod Numbered
+pub mod Parts
+pub mod Rising
+pub mod EveryChain
+pub mod EveryRow
+pub mod InOrder
+pub mod Counting
+pub mod Hatches

@@ -1,0 +1,4 @@
+pub mod Telling
+pub mod Holding
+mod Growing
+mod Turning

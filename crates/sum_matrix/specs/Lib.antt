@@ -1,0 +1,6 @@
+pub mod Numbers
+pub mod Classes
+pub mod Held
+pub mod Noted
+pub mod Matrix
+pub mod Built

@@ -1,4 +1,0 @@
-use Rattle.zero_one_model.proofs.building.built_rows.Given as goal
-
-abbrev pub ghost-list_rows : goal.ghost-list_rows
-ghost-list_rows a = record { ship = a.ship.now; cargo = a.cargo.now }
