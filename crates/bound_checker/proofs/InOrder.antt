@@ -5,7 +5,7 @@ use Rattle.std.proofs.lemmas.Grind.{common_steps}
 use Rattle.zero_one_rows.specs.declared.program.Row.{Row}
 use Rattle.zero_one_rows.specs.declared.program.Raise.{Raise}
 use Rattle.zero_one_rows.specs.Variables.{Voyage}
-use Rattle.zero_one_model.specs.Early.{early}
+use Rattle.zero_one_rows.specs.Rows.{whole}
 use Rattle.proof_trees.specs.Program.{Program}
 use Rattle.proof_trees.specs.Multipliers.{Multipliers}
 use Rattle.certificate.specs.declared.refusals.BoundNo.{BoundNo}
@@ -62,19 +62,19 @@ module _ (m : Voyage) (node : ℕ) where
   carried_stands (Err f) s h = h
 
   -- a raise that went well
-  pub carried_more : (o : Outcome) (x : Raise) (s s' : Sums) → Carried m o s → ((ms : Multipliers Row) → Carries m ms s → Stands m (raised_row (early m) node ms (raise_of x)) (Ok tt) s') → Carried m (after (early m) node o x) s'
+  pub carried_more : (o : Outcome) (x : Raise) (s s' : Sums) → Carried m o s → ((ms : Multipliers Row) → Carries m ms s → Stands m (raised_row (whole m) node ms (raise_of x)) (Ok tt) s') → Carried m (after (whole m) node o x) s'
   carried_more (Err f) x s s' h step = absurd h
-  carried_more (Ok ms) x s s' h step = stands_carried (raised_row (early m) node ms (raise_of x)) s' (step ms h)
+  carried_more (Ok ms) x s s' h step = stands_carried (raised_row (whole m) node ms (raise_of x)) s' (step ms h)
 
-  stands_on : (o : Outcome) (g : BoundNo) (rs : List (Row × ℤ)) (s : Sums) → Stands m o (Err g) s → Stands m (raised_rows (early m) node o rs) (Err g) s
-  stands_on (Ok ms) g rs s h = stands_none m (raised_rows (early m) node (Ok ms) rs) (Err g) s g refl h
-  stands_on (Err f) g rs s h = subst (λ (q : Outcome). Stands m q (Err g) s) (sym (failed (early m) node f rs)) h
+  stands_on : (o : Outcome) (g : BoundNo) (rs : List (Row × ℤ)) (s : Sums) → Stands m o (Err g) s → Stands m (raised_rows (whole m) node o rs) (Err g) s
+  stands_on (Ok ms) g rs s h = stands_none m (raised_rows (whole m) node (Ok ms) rs) (Err g) s g refl h
+  stands_on (Err f) g rs s h = subst (λ (q : Outcome). Stands m q (Err g) s) (sym (failed (whole m) node f rs)) h
 
   -- a raise that failed, and the raises behind it
-  pub fails_more : (o : Outcome) (x : Raise) (g : BoundNo) (rs : List (Row × ℤ)) (s s' : Sums) → Carried m o s → ((ms : Multipliers Row) → Carries m ms s → Stands m (raised_row (early m) node ms (raise_of x)) (Err g) s')
-      → Stands m (raised_rows (early m) node (after (early m) node o x) rs) (Err g) s'
+  pub fails_more : (o : Outcome) (x : Raise) (g : BoundNo) (rs : List (Row × ℤ)) (s s' : Sums) → Carried m o s → ((ms : Multipliers Row) → Carries m ms s → Stands m (raised_row (whole m) node ms (raise_of x)) (Err g) s')
+      → Stands m (raised_rows (whole m) node (after (whole m) node o x) rs) (Err g) s'
   fails_more (Err f) x g rs s s' h step = absurd h
-  fails_more (Ok ms) x g rs s s' h step = stands_on (raised_row (early m) node ms (raise_of x)) g rs s' (step ms h)
+  fails_more (Ok ms) x g rs s s' h step = stands_on (raised_row (whole m) node ms (raise_of x)) g rs s' (step ms h)
 
   pub carries_one : (o : Outcome) (s : Sums) → Carried m o s → (ms : Multipliers Row) × Carries m ms s
   carries_one (Ok ms) s h = (ms, h)

@@ -3,7 +3,7 @@ use Rattle.std.specs.Prelude.{ℕ, ◌+◌, true, false, cond, ◌&&◌, nat_lt,
 use Rattle.std.specs.Option.{is_none, ok_or, option_or}
 use Rattle.zero_one_rows.specs.declared.program.Row.{Row}
 use Rattle.zero_one_rows.specs.Variables.{Voyage}
-use Rattle.zero_one_model.specs.Early.{early}
+use Rattle.zero_one_rows.specs.Rows.{whole}
 use Rattle.certificate.specs.declared.tree.Record.{Record}
 use Rattle.proof_trees.specs.Program.{Program}
 use Rattle.proof_trees.specs.Boxes.{Box, at, fixed, tightened}
@@ -55,4 +55,4 @@ module _ (p : Program Row) where
 
 -- nodes count from 1
 abbrev pub first_fault : Voyage → List Record → ℕ → Option BoundNo
-first_fault m records bound = tree_fault (early m) bound 1 (root (early m) ∷ []) (map (entry_of m) records)
+first_fault m records bound = tree_fault (whole m) bound 1 (root (whole m) ∷ []) (map (entry_of m) records)

@@ -2,7 +2,7 @@
 use Rattle.std.specs.Prelude.{◌≡◌, ◌≢◌, ℕ, ◌<◌, ◌≤◌, ◌^◌, true, false, cond, nat_le, List, [], ◌∷◌, length, slice_index_or, Option, Some, None, Result, Ok, Err, ℤ, pos, negsuc, unsigned_abs}
 use Rattle.zero_one_rows.specs.declared.program.Row.{Row}
 use Rattle.zero_one_rows.specs.Variables.{Voyage, variables}
-use Rattle.zero_one_model.specs.Early.{early}
+use Rattle.zero_one_rows.specs.Rows.{whole}
 use Rattle.proof_trees.specs.Multipliers.{Multipliers, amount_of, weighed, weighed_rhs}
 use Rattle.certificate.specs.declared.refusals.BoundNo.{BoundNo}
 use Rattle.certificate.specs.declared.refusals.BoundNo.TheVariants.{NoMemory}
@@ -20,9 +20,9 @@ weight_at ws v = slice_index_or ws v (pos 0)
 
 -- a row of the program, of the sizes that rows have
 pub record IsSmall (m : Voyage) (r : Row) : Type 0 where
-  pub named : (early m).has r ≡ true
-  pub right : unsigned_abs ((early m).rhs r) ≤ 2 ^ 37
-  pub weights : (v : ℕ) → v < length (variables m) → unsigned_abs ((early m).coef r v) ≤ 2 ^ 17
+  pub named : (whole m).has r ≡ true
+  pub right : unsigned_abs ((whole m).rhs r) ≤ 2 ^ 37
+  pub weights : (v : ℕ) → v < length (variables m) → unsigned_abs ((whole m).coef r v) ≤ 2 ^ 17
 
 -- none of the rows is this one
 abbrev pub Lacks : Multipliers Row → Row → Type 0
@@ -37,9 +37,9 @@ AreSmall m (x ∷ xs) = IsSmall m x.0 × (x.1 ≤ 2 ^ 40) × Lacks xs x.0 × Are
 -- the sums are those of these multipliers
 pub record Carries (m : Voyage) (ms : Multipliers Row) (s : Sums) : Type 0 where
   pub amounts : (r : Row) → amount_of same_row s.amounts r ≡ amount_of same_row ms r
-  pub right : s.right ≡ weighed_rhs (early m) ms
+  pub right : s.right ≡ weighed_rhs (whole m) ms
   pub len : length s.weighed.items ≡ length (variables m)
-  pub weights : (v : ℕ) → v < length (variables m) → weight_at s.weighed.items v ≡ weighed (early m) ms v
+  pub weights : (v : ℕ) → v < length (variables m) → weight_at s.weighed.items v ≡ weighed (whole m) ms v
   pub small : AreSmall m ms
 
 -- small enough for one more row, and for the dual value

@@ -4,9 +4,8 @@ ghost use Rattle.proof_trees.specs.Program.{cost_of};
 ghost use Rattle.proof_trees.specs.Multipliers.{Multipliers};
 ghost use Rattle.zero_one_rows.specs.declared.program.Row.{Row as Rows};
 ghost use Rattle.zero_one_rows.specs.Variables.{variables};
-ghost use Rattle.zero_one_rows.specs.Rows.{base, IsSolution};
-ghost use Rattle.zero_one_model.specs.Early.{early};
-ghost use Rattle.bound_checker.specs.Entries.{ProvesBound, IsOneLeaf};
+ghost use Rattle.zero_one_rows.specs.Rows.{base, whole, IsSolution, CrossingRowsHold};
+ghost use Rattle.bound_checker.specs.Entries.{ProvesBound, IsOneLeaf, RaisesBase};
 ghost use Rattle.bound_checker.specs.Faults.{needed, short_fault, first_fault};
 ghost use Rattle.bound_checker.specs.Sums.{Carries, CarriesSome};
 
@@ -37,7 +36,7 @@ fn closes(model: &Model, b: &Box01, sums: &Sums, bound: u64, node: u32) -> Resul
     requires carries { CarriesSome model.now sums.now }
     requires whole { length b.now ≡ length (variables model.now) }
     ensures { (ms : Multipliers Rows) → Carries model.now ms sums.now
-        → MatchResult result (λ _. short_fault (early model.now) bound node b.now ms ≡ None) (λ fault. short_fault (early model.now) bound node b.now ms ≡ Some fault) }
+        → MatchResult result (λ _. short_fault (whole model.now) bound node b.now ms ≡ None) (λ fault. short_fault (whole model.now) bound node b.now ms ≡ Some fault) }
 {
     let value = sums.value(model, b);
     let needed = needed_value(bound);
@@ -51,11 +50,12 @@ fn closes(model: &Model, b: &Box01, sums: &Sums, bound: u64, node: u32) -> Resul
     Ok(())
 }
 
-/// Whether a tree of one leaf without steps proves a bound over the program's rows. Each refusal but want of memory names the first fault: raises in order, then the leaf.
+/// Whether a tree of one leaf without steps proves a bound over the program's rows. Each refusal but want of memory names the first fault: raises in order, then the leaf. Every solution costs at least a proved bound, where solutions meet the crossing rows, or where the tree raises base rows alone.
 pub fn check_bound(alloc: Global, model: &Model, tree: &Tree, bound: u64) -> Result<(), BoundNo>
     requires { IsOneLeaf tree.now }
     ensures proves { OnOk result (ProvesBound model.now tree.now bound) }
-    ensures costs { OnOk result ((x : ℕ → Bool) → IsSolution model.now x → pos bound ≤ℤ cost_of (base model.now) x) }
+    ensures costs { OnOk result (CrossingRowsHold model.now → (x : ℕ → Bool) → IsSolution model.now x → pos bound ≤ℤ cost_of (base model.now) x) }
+    ensures base_costs { OnOk result (RaisesBase tree.now → (x : ℕ → Bool) → IsSolution model.now x → pos bound ≤ℤ cost_of (base model.now) x) }
     ensures refused { IfErr result (λ fault. fault ≢ BoundNo.NoMemory → first_fault model.now tree.now bound ≡ Some fault) }
     ensures short { IfErr result (λ fault. fault ≢ BoundNo.NoMemory → ProvesBound model.now tree.now bound → ⊥) }
 {

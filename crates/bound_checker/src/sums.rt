@@ -6,7 +6,7 @@ ghost use Rattle.proof_trees.specs.Boxes.{at};
 ghost use Rattle.proof_trees.specs.Multipliers.{Multipliers, least, worth};
 ghost use Rattle.zero_one_rows.specs.Variables.{variables};
 ghost use Rattle.zero_one_rows.specs.declared.program.Row.{Row as Rows};
-ghost use Rattle.zero_one_model.specs.Early.{early};
+ghost use Rattle.zero_one_rows.specs.Rows.{whole};
 ghost use Rattle.bound_checker.specs.Entries.{raise_of};
 ghost use Rattle.bound_checker.specs.Faults.{raised_row, raised_rows};
 ghost use Rattle.bound_checker.specs.Sums.{in_range, weight_at, IsSmall, Carries, CarriesSome, HasRoom, Stands};
@@ -80,16 +80,16 @@ fn changed(old: u64, by: i64) -> Option<u64>
 
 // Adds so many times a row's coefficients at these variables.
 fn add_coefficients(model: &Model, row: &Row, by: i64, vars: &[VarNo], weighed: &mut Vec<i128>)
-    requires row { (early model.now).has row.now ≡ true }
+    requires row { (whole model.now).has row.now ≡ true }
     requires by { unsigned_abs by ≤ 2 ^ 41 }
     requires inside { All (λ v. v < length (variables model.now)) vars.now }
     requires once { AllPairs (λ v w. v ≢ w) vars.now }
     requires len { length weighed.old.items ≡ length (variables model.now) }
     requires room { (v : ℕ) → v < length (variables model.now) → unsigned_abs (weight_at weighed.old.items v) ≤ 2 ^ 78 }
     ensures len { length weighed.new.items ≡ length (variables model.now) }
-    ensures size { All (λ v. unsigned_abs ((early model.now).coef row.now v) ≤ 2 ^ 17) vars.now }
+    ensures size { All (λ v. unsigned_abs ((whole model.now).coef row.now v) ≤ 2 ^ 17) vars.now }
     ensures sums { (v : ℕ) → v < length (variables model.now)
-        → weight_at weighed.new.items v ≡ weight_at weighed.old.items v +ℤ where_set (list_any (nat_eq v) vars.now) (by *ℤ (early model.now).coef row.now v) }
+        → weight_at weighed.new.items v ≡ weight_at weighed.old.items v +ℤ where_set (list_any (nat_eq v) vars.now) (by *ℤ (whole model.now).coef row.now v) }
 {
     for var in vars {
         let v = var.0 as usize;
@@ -111,15 +111,15 @@ impl Sums {
 
     // Adds so many times a row.
     fn add_row(&mut self, alloc: Global, model: &Model, row: &Row, by: i64) -> Result<(), NoMemory>
-        requires row { (early model.now).has row.now ≡ true }
+        requires row { (whole model.now).has row.now ≡ true }
         requires by { unsigned_abs by ≤ 2 ^ 41 }
         requires room { HasRoom model.now self.old }
         ensures amounts { OnOk result (self.new.amounts ≡ self.old.amounts) }
         ensures small { OnOk result (IsSmall model.now row.now) }
         ensures len { OnOk result (length self.new.weighed.items ≡ length (variables model.now)) }
-        ensures right { OnOk result (self.new.right ≡ self.old.right +ℤ by *ℤ (early model.now).rhs row.now) }
+        ensures right { OnOk result (self.new.right ≡ self.old.right +ℤ by *ℤ (whole model.now).rhs row.now) }
         ensures weights { OnOk result ((v : ℕ) → v < length (variables model.now)
-            → weight_at self.new.weighed.items v ≡ weight_at self.old.weighed.items v +ℤ by *ℤ (early model.now).coef row.now v) }
+            → weight_at self.new.weighed.items v ≡ weight_at self.old.weighed.items v +ℤ by *ℤ (whole model.now).coef row.now v) }
     {
         let vars = model.vars_of(alloc, row)?;
         self.right = grown(self.right, by, model.rhs(row));
@@ -136,7 +136,7 @@ impl Sums {
         node: u32,
     ) -> Result<(), BoundNo>
         requires room { HasRoom model.now self.old }
-        ensures { (ms : Multipliers Rows) → Carries model.now ms self.old → Stands model.now (raised_row (early model.now) node ms (raise_of raise.now)) result self.new }
+        ensures { (ms : Multipliers Rows) → Carries model.now ms self.old → Stands model.now (raised_row (whole model.now) node ms (raise_of raise.now)) result self.new }
     {
         if !model.has_row(&raise.row) {
             return Err(BoundNo::StepRow { node });
@@ -158,7 +158,7 @@ impl Sums {
         node: u32,
     ) -> Result<(), BoundNo>
         requires carries { CarriesSome model.now self.old }
-        ensures { (ms : Multipliers Rows) → Carries model.now ms self.old → Stands model.now (raised_rows (early model.now) node (Ok ms) (map raise_of raises.now)) result self.new }
+        ensures { (ms : Multipliers Rows) → Carries model.now ms self.old → Stands model.now (raised_rows (whole model.now) node (Ok ms) (map raise_of raises.now)) result self.new }
     {
         let rows = model.rows();
         prove!(rows <= MOST_ROWS);
@@ -197,7 +197,7 @@ impl Sums {
         requires room { HasRoom model.now self.now }
         requires var { x < length (variables model.now) }
         requires whole { length b.now ≡ length (variables model.now) }
-        ensures value { result ≡ least (at b.now x) (pos 16 *ℤ (early model.now).cost x -ℤ weight_at self.now.weighed.items x) }
+        ensures value { result ≡ least (at b.now x) (pos 16 *ℤ (whole model.now).cost x -ℤ weight_at self.now.weighed.items x) }
         ensures size { unsigned_abs result ≤ 16 + 2 ^ 78 }
     {
         let reduced = reduced_cost(model.cost(x), self.weighed[x.0 as usize]);
@@ -208,7 +208,7 @@ impl Sums {
     pub fn value(&self, model: &Model, b: &Box01) -> i128
         requires carries { CarriesSome model.now self.now }
         requires whole { length b.now ≡ length (variables model.now) }
-        ensures { (ms : Multipliers Rows) → Carries model.now ms self.now → result ≡ worth (early model.now) b.now ms }
+        ensures { (ms : Multipliers Rows) → Carries model.now ms self.now → result ≡ worth (whole model.now) b.now ms }
     {
         let rows = model.rows();
         prove!(rows <= MOST_ROWS);

@@ -1,9 +1,10 @@
 //! The program of a stack of two tiers and two containers, 1 to 3 and 2 to 4 of four calls.
-ghost use Rattle.std.specs.Prelude.{◌≡◌, ◌<◌, length};
+ghost use Rattle.std.specs.Prelude.{◌≡◌, ◌<◌, ◌≤◌, length};
 ghost use Rattle.stow_data.specs.Ship.{places};
 ghost use Rattle.zero_one_rows.specs.Variables.{variables};
 
 use crate::voyage::{Trip, ship, two_containers};
+use chain_rows::Chain;
 use std::alloc::Global;
 use std::process::Abort;
 use std::test::Fail;
@@ -59,6 +60,23 @@ fn block(call: u32, half: u32) -> Row {
     }
 }
 
+fn weight(call: u32) -> Row {
+    Row::Weight {
+        call: CallNo(call),
+        stack: StackNo(0),
+    }
+}
+
+fn cross(price: u32, chain: &[u32]) -> Row
+    requires { length chain.now ≤ 12 }
+{
+    Row::Cross {
+        length: 40,
+        price,
+        chain: Chain::of(chain),
+    }
+}
+
 fn has_variables<R: Abort>(rt: &R, model: &Model) {
     assert!(rt; model.vars() == 12);
     assert!(rt; model.var(VarNo(6)) == variable(2, 1, 3, 0));
@@ -77,28 +95,25 @@ fn costs_a_rehandle<R: Abort>(rt: &R, model: &Model) {
     assert!(rt; model.cost(VarNo(2)) == 0);
 }
 
-/// Eight rows of flow, twelve cells, six supports and six blocks.
+/// Eight rows of flow, twelve cells, six supports, six twenties, six blocks and three weights; five chains at two prices.
 fn has_rows<R: Abort>(rt: &R, model: &Model) {
-    assert!(rt; model.rows() == 32);
-    assert!(rt; model.base_rows() == 32);
+    assert!(rt; model.rows() == 51);
+    assert!(rt; model.base_rows() == 41);
 }
 
 fn lists_rows<R: Abort>(rt: &R, model: &Model) {
-    assert!(rt; model.rows() == 32);
+    assert!(rt; model.rows() == 51);
     assert!(rt; model.row_at(0) == flow(1));
-    assert!(rt; model.row_at(31) == block(3, 1));
+    assert!(rt; model.row_at(37) == block(3, 1));
+    assert!(rt; model.row_at(40) == weight(3));
+    assert!(rt; model.row_at(50) == cross(2, &[1, 2, 3, 4]));
 }
 
 /// A container that isn't on its way has no row of flow, and the uppermost half-cells block nothing.
 fn lacks_rows<R: Abort>(rt: &R, model: &Model) {
     assert!(rt; model.has_row(&flow(2)) && !model.has_row(&flow(3)));
     assert!(rt; model.has_row(&block(3, 1)) && !model.has_row(&block(3, 2)));
-    assert!(rt;
-        !model.has_row(&Row::Weight {
-            call: CallNo(1),
-            stack: StackNo(0)
-        })
-    );
+    assert!(rt; !model.has_row(&cross(3, &[1, 2, 3, 4])));
 }
 
 /// The right side of a row and a variable's coefficient in it, where the program has both.
@@ -129,15 +144,15 @@ fn width(alloc: Global, model: &Model, r: &Row) -> Result<usize, NoMemory> {
 fn has_variables_of_rows<R: Abort>(rt: &R, alloc: Global, model: &Model) -> Result<(), NoMemory> {
     assert!(rt; width(alloc, model, &flow(1))? == 4);
     assert!(rt; width(alloc, model, &cell(0))? == 2);
-    assert!(rt; width(alloc, model, &block(2, 0))? == 2);
+    assert!(rt; width(alloc, model, &cross(1, &[1, 2, 3, 4]))? == 4);
     Ok(())
 }
 
 /// Two rows of flow at each call of the first variable; of its two half-cells cell and block, and support
-/// of those above.
+/// of those above; one weight; two chains with its load and destination, at two prices.
 fn has_rows_of_a_variable<R: Abort>(rt: &R, alloc: Global, model: &Model) -> Result<(), NoMemory> {
     assert!(rt; model.vars() == 12);
-    assert!(rt; model.rows_of(alloc, VarNo(0))?.len() == 10);
+    assert!(rt; model.rows_of(alloc, VarNo(0))?.len() == 15);
     Ok(())
 }
 

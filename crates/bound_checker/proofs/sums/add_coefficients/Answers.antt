@@ -4,7 +4,7 @@ use Rattle.std.specs.Int.RustNames.{unsigned_abs}
 use Rattle.std.proofs.lemmas.Int.{to_z-of_z, fits_signed_from_abs}
 use Rattle.std.proofs.lemmas.List.Elements.{All-more}
 use Rattle.zero_one_rows.specs.Variables.{variables}
-use Rattle.zero_one_model.specs.Early.{early}
+use Rattle.zero_one_rows.specs.Rows.{whole}
 use Rattle.bound_checker.specs.Sums.{weight_at}
 use Rattle.bound_checker.proofs.Adding.{read, old_low, added_more}
 use Rattle.bound_checker.proofs.sums.add_coefficients.Goals as goal
@@ -14,13 +14,13 @@ grown-requires-clause-total c =
     let here : c.var.inside.0 ≡ get_or c.args.vars.now c.loop-var.var-index 0 = c.var.view_is ∙ read c.args.vars.now c.loop-var.var-index c.var-item.result 0 c.loop-var-test.true c.var-item.is in
     let inside : c.var.inside.0 < length (variables c.args.model.now) = search rules in
     let b : SFits w64 c.args.by = search rules in
-    let low : unsigned_abs c.index.result.now ≤ 2 ^ 78 = old_low (λ (v : ℕ). c.args.by *ℤ (early c.args.model.now).coef c.args.row.now v) c.args.weighed.now.items c.args.vars.now (length (variables c.args.model.now)) c.loop-var.weighed.items c.loop-var.var-index c.var.inside.0 c.index.result.now (2 ^ 78) c.requires.once c.loop-var.invariant.len c.loop-var-test.true here inside (simp to_z-of_z at c.loop-var.invariant.sums) c.index.ensures c.requires.room in
+    let low : unsigned_abs c.index.result.now ≤ 2 ^ 78 = old_low (λ (v : ℕ). c.args.by *ℤ (whole c.args.model.now).coef c.args.row.now v) c.args.weighed.now.items c.args.vars.now (length (variables c.args.model.now)) c.loop-var.weighed.items c.loop-var.var-index c.var.inside.0 c.index.result.now (2 ^ 78) c.requires.once c.loop-var.invariant.len c.loop-var-test.true here inside (simp to_z-of_z at c.loop-var.invariant.sums) c.index.ensures c.requires.room in
     let r : SFits w128 c.index.result.now = fits_signed_from_abs w128 c.index.result.now (omega arith) in
     simp to_z-of_z (omega arith)
 
 pub loop-var-preserved : goal.loop-var-preserved
 loop-var-preserved c =
-    let coef : ℕ → ℤ = λ v. (early c.args.model.now).coef c.args.row.now v in
+    let coef : ℕ → ℤ = λ v. (whole c.args.model.now).coef c.args.row.now v in
     let part : ℕ → ℤ = λ v. c.args.by *ℤ coef v in
     let here : c.var.inside.0 ≡ get_or c.args.vars.now c.loop-var.var-index 0 = c.var.view_is ∙ read c.args.vars.now c.loop-var.var-index c.var-item.result 0 c.loop-var-test.true c.var-item.is in
     let inside : c.var.inside.0 < length (variables c.args.model.now) = search rules in

@@ -2,7 +2,7 @@ use Rattle.std.proofs.Common.{rules, SFits, w64, ◌≡◌, true, ℕ, List, Som
 use Rattle.std.proofs.lemmas.Int.{to_z-of_z}
 use Rattle.std.proofs.lemmas.Result.{err_from_is_err_and}
 use Rattle.zero_one_rows.specs.declared.program.Row.{Row}
-use Rattle.zero_one_model.specs.Early.{early}
+use Rattle.zero_one_rows.specs.Rows.{whole}
 use Rattle.proof_trees.specs.Multipliers.{amount_of}
 use Rattle.bound_checker.specs.Entries.{same_row}
 use Rattle.bound_checker.specs.Sums.{in_range}
@@ -17,7 +17,7 @@ returns-in_err-set c = λ ms carries. let p = err_from_is_err_and c.from_residua
 
 pub returns : goal.returns
 returns c = λ ms carries.
-    let has : (early c.args.model.now).has c.args.raise.now.row ≡ true = search rules in
+    let has : (whole c.args.model.now).has c.args.raise.now.row ≡ true = search rules in
     let f : SFits w64 c.args.raise.now.amount = search rules in
     let changed : in_range (pos (amount_of same_row c.args.self.now.amounts c.args.raise.now.row) +ℤ c.args.raise.now.amount) ≡ Some c.in-Some.amount =
     ap (λ (n : ℕ). in_range (pos n +ℤ c.args.raise.now.amount)) (sym c.at.ensures) ∙ sym (simp to_z-of_z at c.changed.ensures) ∙ c.in-Some.is in

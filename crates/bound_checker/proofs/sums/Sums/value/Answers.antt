@@ -3,7 +3,8 @@ use Rattle.std.specs.Int.{w128}
 use Rattle.std.proofs.lemmas.Int.{to_z-of_z, fits_signed_from_abs}
 use borrow.Author.Differences.{ints}
 use Rattle.zero_one_rows.specs.Variables.{variables}
-use Rattle.zero_one_model.specs.Early.{early, early_rows}
+use Rattle.zero_one_rows.specs.Rows.{whole}
+use Rattle.program_rows.specs.Counted.{all_rows}
 use Rattle.proof_trees.specs.Boxes.{at}
 use Rattle.proof_trees.specs.Multipliers.{least}
 use Rattle.bound_checker.specs.Sums.{HasRoom, weight_at}
@@ -13,7 +14,7 @@ use Rattle.bound_checker.proofs.sums.Sums.value.Goals as goal
 
 pub loop-var-init : goal.loop-var-init
 loop-var-init c =
-    let few : length (early_rows c.args.model.now) ≤ 2000000 = omega (arith, c.rows-rows.ensures.number, c.rows-rows.ensures.size) in
+    let few : length (all_rows c.args.model.now) ≤ 2000000 = omega (arith, c.rows-rows.ensures.number, c.rows-rows.ensures.size) in
     let room : HasRoom c.args.model.now c.args.self.now = has_room c.args.model.now c.requires.carries.0 c.args.self.now few c.requires.carries.1 in
     let f : SFits w128 c.args.self.now.right = fits_signed_from_abs w128 c.args.self.now.right (omega (arith, room.right)) in
     record {
@@ -23,7 +24,7 @@ loop-var-init c =
 
 pub part-requires-clause-room : goal.part-requires-clause-room
 part-requires-clause-room c =
-    let few : length (early_rows c.args.model.now) ≤ 2000000 = omega (arith, c.rows-rows.ensures.number, c.rows-rows.ensures.size) in
+    let few : length (all_rows c.args.model.now) ≤ 2000000 = omega (arith, c.rows-rows.ensures.number, c.rows-rows.ensures.size) in
     has_room c.args.model.now c.requires.carries.0 c.args.self.now few c.requires.carries.1
 
 pub loop-var-preserved : goal.loop-var-preserved
@@ -31,7 +32,7 @@ loop-var-preserved c =
     let f : SFits w128 c.sum_of-total.result = search rules in
     let g : SFits w128 c.part.result = search rules in
     record {
-      value = simp to_z-of_z (value_step c.loop-var.var (λ (v : ℕ). least (at c.args.b.now v) (pos 16 *ℤ (early c.args.model.now).cost v -ℤ weight_at c.args.self.now.weighed.items v)) c.args.self.now.right _ c.part.result c.sum_of-total.result c.loop-var.invariant.value c.part.ensures.value (simp to_z-of_z at c.sum_of-total.ensures.value));
+      value = simp to_z-of_z (value_step c.loop-var.var (λ (v : ℕ). least (at c.args.b.now v) (pos 16 *ℤ (whole c.args.model.now).cost v -ℤ weight_at c.args.self.now.weighed.items v)) c.args.self.now.right _ c.part.result c.sum_of-total.result c.loop-var.invariant.value c.part.ensures.value (simp to_z-of_z at c.sum_of-total.ensures.value));
       size = simp to_z-of_z (omega (arith, simp to_z-of_z at c.sum_of-total.ensures.size, c.part.ensures.size, c.loop-var.invariant.size));
     }
 
