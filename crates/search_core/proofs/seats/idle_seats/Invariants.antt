@@ -1,0 +1,6 @@
+use Rattle.std.proofs.Common.{◌≡◌, replicate}
+use Rattle.search_machine.specs.Machine.{idle}
+use Rattle.search_core.proofs.seats.idle_seats.Given as goal
+
+abbrev pub invariant-loop-worker : goal.invariant-loop-worker
+invariant-loop-worker l = l.seats.items ≡ replicate l._worker idle

@@ -1,0 +1,7 @@
+pub mod Bags
+pub mod Journals
+pub mod Machine
+pub mod Replays
+pub mod Outcomes
+pub mod Refusals
+pub mod Samples
