@@ -1,0 +1,4 @@
+pub mod Draws
+pub mod Words
+pub mod Profile
+pub mod Bookings
