@@ -5,8 +5,7 @@ use Rattle.proof_trees.specs.Program.{sum_to, where_set}
 use Rattle.proof_trees.specs.Boxes.{at, free_box}
 use Rattle.proof_trees.specs.Multipliers.{Closes, least, worth}
 use Rattle.zero_one_rows.specs.Variables.{Voyage, is_rehandled, var}
-use Rattle.zero_one_rows.specs.Rows.{base, bit}
-use Rattle.zero_one_model.specs.Early.{early}
+use Rattle.zero_one_rows.specs.Rows.{base, whole, bit}
 use Rattle.bound_checker.specs.Entries.{ProvesBound}
 use Rattle.stow_answers.specs.Work.{leaf}
 use Rattle.stow_answers.specs.Trees.{IsSettled, IsLean}
@@ -25,10 +24,10 @@ bit_from : (b : Bool) → pos 0 ≤ℤ (pos 16 *ℤ bit b -ℤ pos 0)
 bit_from true = omega (arith, ints)
 bit_from false = omega (arith, ints)
 
-leaf_closes : (m : Voyage) → Closes (early m) (free_box (early m)) [] 0
+leaf_closes : (m : Voyage) → Closes (whole m) (free_box (whole m)) [] 0
 leaf_closes m =
-    let worth_from : pos 0 ≤ℤ worth (early m) (free_box (early m)) [] =
-    omega (arith, ints, sum_from (early m).vars (λ v. least (at (free_box (early m)) v) (pos 16 *ℤ (early m).cost v -ℤ pos 0)) (λ v. least_from _ _ (bit_from (is_rehandled m (var m v))))) in
+    let worth_from : pos 0 ≤ℤ worth (whole m) (free_box (whole m)) [] =
+    omega (arith, ints, sum_from (whole m).vars (λ v. least (at (free_box (whole m)) v) (pos 16 *ℤ (whole m).cost v -ℤ pos 0)) (λ v. least_from _ _ (bit_from (is_rehandled m (var m v))))) in
     omega (arith, ints, worth_from)
 
 pub leaf_proves : (m : Voyage) → ProvesBound m (leaf ∷ []) 0

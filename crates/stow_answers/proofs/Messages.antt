@@ -3,8 +3,6 @@ use Rattle.std.proofs.Common.{◌≡◌, ℕ, zero, suc, ◌+◌, ◌≤◌, Lis
 use Rattle.std.specs.Prelude.{All, map, flat_map}
 use Rattle.plan_files.specs.Shown.{CellGroup}
 use Rattle.stow_data.specs.Plans.{Plan, IsKnown}
-use Rattle.bookings.specs.Rules.{IsBookings}
-use Rattle.bookings.specs.BookedCargo.{booked_cargo}
 use Rattle.plan_files.specs.DepartureFile.{Group, cells, groups, cell_group_of, message_of}
 use Rattle.baplie_model.specs.declared.parts.Message.{Message}
 use Rattle.plan_files.proofs.Departures.{reads_as}

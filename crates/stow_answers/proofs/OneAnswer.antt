@@ -1,5 +1,5 @@
 -- Over files that are told, the answers to an order exclude each other.
-use Rattle.std.proofs.Common.{◌≡◌, ◌≢◌, ℕ, ◌<◌, ◌≤◌, List, [], ◌∷◌, length, map, Option, Some, None, refl, sym, ap, subst, ◌∙◌, inl, inr, arith}
+use Rattle.std.proofs.Common.{◌≡◌, ◌≢◌, ℕ, List, [], ◌∷◌, map, Option, Some, None, refl, sym, ap, subst, ◌∙◌, inl, inr, arith}
 use Rattle.std.specs.Prelude.{◌⊎◌, true, false, Result, Ok, Err, IsOk, is_ok}
 use Rattle.stow_io.specs.Files.{Files}
 use Rattle.stow_data.specs.Ship.{Ship}
@@ -23,7 +23,7 @@ use Rattle.baplie_read.specs.declared.faults.BaplieFault.TheVariants.{Seg, At, N
 use Rattle.baplie_read.specs.Reading.{IsBaplieFault}
 use Rattle.zero_one_rows.specs.Variables.{Voyage}
 use Rattle.zero_one_model.specs.Building.{IsWithin, Passes}
-use Rattle.zero_one_model.specs.Early.{early}
+use Rattle.zero_one_rows.specs.Rows.{whole}
 use Rattle.certificate.specs.declared.faults.CertFault.{CertFault}
 use Rattle.certificate.specs.declared.tree.Head.{Head}
 use Rattle.certificate.specs.declared.tree.Record.{Record}
@@ -49,7 +49,7 @@ use Rattle.stow_answers.specs.Names.{Names, names_from}
 use Rattle.stow_answers.specs.Booked.{IsPlain, booked_voyage, voyage_of}
 use Rattle.stow_answers.specs.Inputs.{IsContent, AreInputs, TurnsDown, refused}
 use Rattle.stow_answers.specs.Work.{work_for, cert_name}
-use Rattle.stow_answers.specs.Answers.{Takes, Judges, IsTooLarge, PlanOf, HasCert, HasOtherCert, RefusesText, RefusesTree, Confirms, bound_text, CertOf, ReadsCert, IsLarge, CheckOf, RefusesFile, Lists, ShowOf, IsShown, IsAnswerTo}
+use Rattle.stow_answers.specs.Answers.{Takes, Judges, IsTooLarge, PlanOf, HasCert, HasOtherCert, RefusesText, RefusesTree, Confirms, bound_text, CertOf, CheckOf, Lists, ShowOf, IsAnswerTo}
 
 -- ## Inputs
 
@@ -189,7 +189,7 @@ work_same w x e f =
     ap with_files e ∙ ap with_report f
 
 proved_none : (m : Voyage) (tree : List Record) (bound : ℕ) → ProvesBound m tree bound → first_fault m tree bound ≡ None
-proved_none m tree bound h = checker.no_fault (early m) bound 1 (root (early m) ∷ []) (map (entry_of m) tree) h
+proved_none m tree bound h = checker.no_fault (whole m) bound 1 (root (whole m) ∷ []) (map (entry_of m) tree) h
 
 -- the heads and the trees of a text are one
 one_cert : (m : Voyage) (bytes : List ℕ) (P Q : ℕ → List Record → Type 0) (h : HasCert m bytes P) (k : HasCert m bytes Q) → (h.head ≡ k.head) × (h.tree ≡ k.tree)

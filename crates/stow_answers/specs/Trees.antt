@@ -6,7 +6,7 @@ use Rattle.proof_trees.specs.Multipliers.{Multipliers, Closes, raised_all}
 use Rattle.proof_trees.specs.Trees as trees
 use Rattle.zero_one_rows.specs.declared.program.Row.{Row}
 use Rattle.zero_one_rows.specs.Variables.{Voyage}
-use Rattle.zero_one_model.specs.Early.{early}
+use Rattle.zero_one_rows.specs.Rows.{whole}
 use Rattle.certificate.specs.declared.tree.Record.{Record}
 use Rattle.certificate.specs.declared.tree.End.{End}
 use Rattle.certificate.specs.declared.tree.End.TheVariants.{Leaf, Left, Branch}
@@ -44,7 +44,7 @@ module _ (p : Program Row) (bound : ℕ) where
 
 -- as a tree that proves the bound, but a box that was left open need not close at it
 abbrev pub IsSettled : Voyage → List Record → ℕ → Type 0
-IsSettled m tree bound = SettleAll (early m) bound (trees.root (early m) ∷ []) (map (entry_of m) tree)
+IsSettled m tree bound = SettleAll (whole m) bound (trees.root (whole m) ∷ []) (map (entry_of m) tree)
 
 -- ## Lean
 
@@ -69,4 +69,4 @@ module _ (p : Program Row) where
 
 -- each step forces at least one free variable at its turn, and a record has at most 4,096 raises at the root and 64 elsewhere
 abbrev pub IsLean : Voyage → List Record → Type 0
-IsLean m tree = LeanAll (early m) 4096 (free_box (early m) ∷ []) (map (entry_of m) tree)
+IsLean m tree = LeanAll (whole m) 4096 (free_box (whole m) ∷ []) (map (entry_of m) tree)

@@ -1,5 +1,5 @@
 -- What the files of a plan mean: the departures of a legal voyage, and their rehandle count.
-use Rattle.std.specs.Prelude.{◌≡◌, ℕ, Bool, codes, List, [], ◌∷◌, ◌++◌, map, flat_map, length, Option, Some, None, pos, ◌≤ℤ◌}
+use Rattle.std.specs.Prelude.{◌≡◌, ℕ, Bool, codes, List, [], ◌∷◌, ◌++◌, map, flat_map, Option, Some, None, pos, ◌≤ℤ◌}
 use Rattle.std.specs.Fmt.{decimal}
 use Rattle.stow_data.specs.Plans.{Plan}
 use Rattle.plan_files.specs.Shown.{CellGroup, IsLegalFileSet}

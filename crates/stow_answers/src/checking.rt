@@ -3,7 +3,7 @@ ghost use Rattle.std.specs.Prelude.{◌≡◌, ◌≤◌, ◌^◌, ◌++◌, [],
 ghost use Rattle.std.specs.Fmt.{decimal};
 ghost use Rattle.stow_io.specs.Causes.{Rose};
 ghost use Rattle.zero_one_model.specs.Building.{IsWithin};
-ghost use Rattle.bound_checker.specs.Entries.{IsOneLeaf};
+ghost use Rattle.bound_checker.specs.Entries.{IsOneLeaf, RaisesBase};
 ghost use Rattle.stow_answers.specs.Answers.{Judges, CheckOf, ReadsCert, CertOf, IsCheckRead, TreeOf, bound_text};
 ghost use Rattle.stow_answers.specs.Booked.{IsBooked, voyage_of};
 ghost use Rattle.stow_answers.specs.Named.{names_of, IsStop, IsQuiet};
@@ -114,6 +114,7 @@ fn cert_answer(alloc: Global, model: &Model, bytes: &[u8]) -> Result<Answer, NoM
 /// What a tree is answered that should prove the bound.
 fn tree_answer(alloc: Global, model: &Model, tree: &Tree, bound: u64) -> Result<Answer, NoMemory>
     requires leaf { IsOneLeaf tree.now }
+    requires base { RaisesBase tree.now }
     ensures { IfOk result (TreeOf model.now tree.now bound) }
 {
     match check_bound(alloc, model, tree, bound) {

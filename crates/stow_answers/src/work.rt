@@ -56,7 +56,7 @@ fn files_of(
     requires plans { ArePlans v.now plans.now }
     ensures { IfOk result (λ files. files ≡ files_of base.now v.now 1 plans.now) }
 {
-    let _calls = v.cargo.calls();
+    v.cargo.obeys_rules();
     let mut files = FileList::new(alloc);
     let mut call: u32 = 1;
     for plan in plans {

@@ -1,5 +1,5 @@
 -- A run ends as the one answer to its order says.
-use Rattle.std.proofs.Common.{◌≡◌, List, Option, Some, refl, ap, subst, inl, inr}
+use Rattle.std.proofs.Common.{◌≡◌, Option, Some, refl, ap, subst, inl, inr}
 use Rattle.std.specs.Prelude.{Result, Ok, Err}
 use Rattle.stow_io.specs.Files.{Files}
 use Rattle.program_ends.specs.Outside.{Outside, HasRisen}

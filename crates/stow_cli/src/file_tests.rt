@@ -61,8 +61,8 @@ const CHECKS: &[(&[u8], Status, &[u8])] = &[
     ),
     (
         b"stow-cert 1\noutcome no-plan\nrehandles none\nbound 3\nnodes 1\nn 0\nr 1 weight 1 0\nl\nend\n",
-        Status::Unbuilt,
-        b"unbuilt\n",
+        Status::No,
+        b"check no bound 4 1 -1000000 33\n",
     ),
     (
         b"stow-cert 1\noutcome no-plan\nrehandles none\nbound 3\nnodes 1\nn 0\nr 33 flow 0 1 0\nl\n",

@@ -2,9 +2,11 @@
 #![tactic(auto)]
 
 mod ending;
+mod process;
 mod status;
 mod top;
 
+pub use process::program;
 pub use status::Status;
 pub use top::{run, stow};
 

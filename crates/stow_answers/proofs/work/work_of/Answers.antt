@@ -1,5 +1,4 @@
-use Rattle.std.proofs.Common.{◌≡◌, ◌∙◌, List, ap, sym, subst, Some, None}
-use Rattle.stow_data.specs.Plans.{Plan}
+use Rattle.std.proofs.Common.{◌≡◌, ◌∙◌, ap, sym, subst, Some, None}
 use Rattle.greedy_loader.specs.Loader.{load}
 use Rattle.program_ends.specs.declared.files.Work.{Work}
 use Rattle.stow_answers.specs.Voyages.{Sails}

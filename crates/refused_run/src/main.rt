@@ -1,0 +1,10 @@
+//! The program once more, with the words and files of a run that ends by a refusal: the end that the shell sees is compared with its
+//! file `status`.
+#![tactic(auto)]
+
+use std::process::ExitCode;
+use stow_cli::program;
+
+fn main(rt: HostRuntime) -> ExitCode {
+    ExitCode::from(program(&rt).number())
+}
