@@ -1,7 +1,7 @@
 -- From one call to the next.
-use Rattle.std.proofs.Common.{◌≡◌, ℕ, suc, ◌<◌, ◌≤◌, Bool, true, false, cond, List, [], ◌∷◌, ℤ, ◌+ℤ◌, arith, refl, ◌⊎◌, length}
+use Rattle.std.proofs.Common.{◌≡◌, ℕ, suc, ◌<◌, ◌≤◌, Bool, true, false, cond, List, [], ◌∷◌, ℤ, ◌+ℤ◌, arith, refl, length}
 use Rattle.std.specs.Prelude.{◌==◌, ◌&&◌, not, nat_le, nat_lt}
-use Rattle.std.proofs.lemmas.Bool.{eq-eqb, lt-ltb, le-leb, and_parts, and_from, ltb-true, not-true}
+use Rattle.std.proofs.lemmas.Bool.{lt-ltb, and_parts, and_from, ltb-true, not-true}
 use Rattle.std.proofs.lemmas.Bool.Decides.{nat_tests}
 use borrow.Author.Differences.{ints}
 use Rattle.proof_trees.specs.Program.{sum_to, where_set}
@@ -11,10 +11,9 @@ use Rattle.stow_data.specs.declared.geometry.Place.{Place}
 use Rattle.stow_data.specs.declared.geometry.Half.{Half}
 use Rattle.stow_data.specs.Ship.{places, halves, HasHalf}
 use Rattle.solution_meaning.proofs.Words.{shown_kind}
-use Rattle.zero_one_rows.specs.Variables.{Voyage, place, variables, var, kind, all_kinds, calls}
+use Rattle.zero_one_rows.specs.Variables.{Voyage, place, variables, var, kind, all_kinds}
 use Rattle.zero_one_rows.specs.Rows.{stack, active, has, is_call}
 use Rattle.solution_meaning.proofs.Words.{fits, container, kind_at, begun}
-use Rattle.solution_meaning.proofs.Sums.{any_from}
 use Rattle.stow_data.proofs.Distinct.{Each}
 use Rattle.solution_meaning.proofs.Match.{total}
 

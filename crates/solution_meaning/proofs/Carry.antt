@@ -9,7 +9,7 @@ use Rattle.stow_data.specs.declared.cargoes.Container.{Container}
 use Rattle.stow_data.specs.Plans.{Plan}
 use Rattle.stowage_rules.specs.Plan.{Holds}
 use Rattle.stowage_rules.specs.Departure.{IsStowed}
-use Rattle.zero_one_rows.specs.Variables.{Voyage, variables, var, calls}
+use Rattle.zero_one_rows.specs.Variables.{Voyage, variables, var}
 use Rattle.solution_meaning.proofs.Words.{container, kind_at}
 use Rattle.zero_one_rows.specs.Rows.{active}
 use Rattle.stow_data.specs.Plans.{no_container}

@@ -19,7 +19,7 @@ use Rattle.plan_lifts.specs.Least.{IsOnCoverOf, IsClosed}
 use Rattle.stowage_rules.specs.Departure.{IsSupported}
 use Rattle.stowage_rules.proofs.Items.{slice_get_in}
 use Rattle.zero_one_rows.specs.declared.program.Row.TheVariants.{Block, Hatch}
-use Rattle.zero_one_rows.specs.Variables.{Voyage, variables, var, place, calls}
+use Rattle.zero_one_rows.specs.Variables.{Voyage, variables, var, place}
 use Rattle.zero_one_rows.specs.Rows.{half, stack, covers, above, stay, out, moved, is_call, IsSolution, bit, less, cover_joins}
 use Rattle.solution_meaning.proofs.Words.{at_half}
 use Rattle.stow_data.specs.Plans.{no_half, no_place}

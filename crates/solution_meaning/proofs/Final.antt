@@ -1,5 +1,5 @@
 -- A legal voyage gives an assignment that meets the base rows, whose cost is at most its rehandle count.
-use Rattle.std.proofs.Common.{◌≡◌, ℕ, zero, suc, ◌<◌, ◌≤◌, ◌+◌, ◌-◌, ◌*◌, Bool, true, false, cond, List, [], ◌∷◌, ℤ, pos, ◌+ℤ◌, ◌-ℤ◌, ◌≤ℤ◌, arith, refl, sym, ◌∙◌, ap, ⊎_elim, subst, length, Option, Some, None}
+use Rattle.std.proofs.Common.{◌≡◌, ℕ, zero, suc, ◌<◌, ◌≤◌, ◌+◌, ◌-◌, ◌*◌, Bool, true, false, cond, List, [], ◌∷◌, ℤ, pos, ◌+ℤ◌, ◌-ℤ◌, ◌≤ℤ◌, arith, refl, sym, ◌∙◌, ap, subst, length, Option, Some, None}
 use Rattle.std.specs.Prelude.{◌==◌, ◌&&◌, nat_lt, slice_get, slice_index_or}
 use Rattle.std.proofs.lemmas.Bool.{both_ways, lt-ltb, and_parts, ltb-true}
 use Rattle.std.proofs.lemmas.Option.{slice_get-get_or, get_or_from_slice_get, slice_get_within}
@@ -8,7 +8,7 @@ use Rattle.proof_trees.specs.Program.{sum_to, where_set, cost_of}
 use Rattle.stow_data.specs.Plans.{Plan, no_stack}
 use Rattle.stow_data.specs.Shipment.{IsShipped}
 use Rattle.stowage_rules.specs.Plan.{Holds}
-use Rattle.stowage_rules.specs.Departure.{IsStowed, IsDeparture}
+use Rattle.stowage_rules.specs.Departure.{IsStowed}
 use Rattle.voyage_meaning.specs.declared.moves.Move.{Move}
 use Rattle.voyage_meaning.specs.Moves.{leaves as goes_ashore, lift_count, rehandles}
 use Rattle.voyage_meaning.specs.Voyage.{start, LeadsTo, IsVoyage, IsLegalVoyage, count}
@@ -20,8 +20,8 @@ use Rattle.std.proofs.lemmas.List.Elements.{All-get_or}
 use Rattle.plan_lifts.proofs.Voyages.{leads_closed}
 use Rattle.zero_one_rows.specs.declared.program.Row.{Row}
 use Rattle.zero_one_rows.specs.declared.program.Row.TheVariants.{Flow, Start, Cell, Support, Twenty, Block, Hatch, Weight, Apart, Cross}
-use Rattle.zero_one_rows.specs.Variables.{Voyage, variables, var, kind, place, calls}
-use Rattle.zero_one_rows.specs.Rows.{base, half, stack, separation, cover_joins, has, is_base, rhs, coef, is_call, is_filled, IsSolution, bit}
+use Rattle.zero_one_rows.specs.Variables.{Voyage, variables, var, kind, calls}
+use Rattle.zero_one_rows.specs.Rows.{base, half, stack, cover_joins, has, is_base, rhs, coef, is_call, is_filled, IsSolution, bit}
 use Rattle.zero_one_rows.proofs.Listing.{var_listed}
 use Rattle.crossing_law.proofs.Worlds.{total_to}
 use Rattle.crossing_law.proofs.KindFacts.{total_front}

@@ -5,7 +5,7 @@ use Rattle.std.proofs.lemmas.Bool.{cases_eq, cases_Bool, both_ways, eqb-true, eq
 use borrow.Author.Differences.{ints}
 use Rattle.proof_trees.specs.Program.{sum_to, where_set}
 use Rattle.zero_one_rows.specs.declared.program.Row.TheVariants.{Flow}
-use Rattle.zero_one_rows.specs.Variables.{Voyage, variables, var, kind, all_kinds, calls}
+use Rattle.zero_one_rows.specs.Variables.{Voyage, variables, var, kind, all_kinds}
 use Rattle.solution_meaning.proofs.Words.{loads_are, begun_from, container, kind_at, loads, begun}
 use Rattle.zero_one_rows.specs.Rows.{coef, has, is_call, IsSolution, bit}
 use Rattle.solution_meaning.proofs.Sums.{same_sum, minus_sum, none_sum, no_term}

@@ -1,13 +1,12 @@
 -- What is known of kinds, containers and variables, from the ship's and the cargo's rules; the pairs of the arrival.
-use Rattle.std.proofs.Common.{◌≡◌, ℕ, zero, suc, ◌<◌, ◌≤◌, ◌-◌, Bool, true, false, cond, pos, ◌-ℤ◌, ◌≤ℤ◌, arith, refl, sym, ◌∙◌, ap, ⊎_elim, length, Option, Some, None}
-use Rattle.std.specs.Prelude.{slice_index_or, slice_get, ◌==◌, ◌&&◌, ◌||◌, not, nat_le, nat_lt, IsTrue}
+use Rattle.std.proofs.Common.{◌≡◌, ℕ, zero, suc, ◌<◌, ◌≤◌, ◌-◌, Bool, true, false, cond, pos, ◌-ℤ◌, ◌≤ℤ◌, arith, refl, sym, ◌∙◌, ap, ⊎_elim, length, Some, None}
+use Rattle.std.specs.Prelude.{slice_get, ◌==◌, ◌&&◌, ◌||◌, not, nat_le, nat_lt, IsTrue}
 use Rattle.std.proofs.lemmas.Bool.{cases_Bool, both_ways, cases_eq, and_parts, and_from, eqb-true, eq-eqb, ne_eqb, ltb-true, leb-true, lt-ltb}
 use Rattle.std.proofs.lemmas.Option.{same_Some, slice_get_within, slice_get-get_or, get_or_from_slice_get}
 use borrow.Author.Differences.{ints}
 use Rattle.proof_trees.specs.Program.{where_set}
 use Rattle.stow_data.specs.declared.cargoes.Container.{Container}
 use Rattle.stow_data.specs.declared.geometry.Span.{Span}
-use Rattle.stow_data.specs.declared.geometry.Span.TheVariants.{Fore, Aft, Both}
 use Rattle.stow_data.specs.declared.geometry.Length.{Length}
 use Rattle.stow_data.specs.declared.geometry.Length.TheVariants.{Twenty, Forty}
 use Rattle.stow_data.specs.Ship.{places, HasLength, same_length, length_in}
@@ -17,7 +16,7 @@ use Rattle.stowage_rules.specs.Plan.{Stands}
 use Rattle.stow_data.specs.declared.kind_list.Kind.{Kind}
 use Rattle.zero_one_rows.specs.declared.program.Row.TheVariants.{Start}
 use Rattle.stow_data.specs.Kinds.{kind_of}
-use Rattle.zero_one_rows.specs.Variables.{Voyage, variables, var, kind, all_kinds, place, arrived, no_kind, calls}
+use Rattle.zero_one_rows.specs.Variables.{Voyage, variables, var, kind, all_kinds, place, arrived, calls}
 use Rattle.solution_meaning.proofs.Words.{container, kind_at, fits, begun, has_length, shown_kind, kind_known, kind_is, box_at, stack_known, tier_low, half_known}
 use Rattle.stow_data.specs.Plans.{no_container, no_place}
 use Rattle.zero_one_rows.specs.Rows.{has, is_filled, IsSolution, bit}

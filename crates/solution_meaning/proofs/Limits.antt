@@ -1,14 +1,13 @@
 -- Weights and separations of the plan after a call.
-use Rattle.std.proofs.Common.{◌≡◌, ℕ, zero, suc, ◌<◌, ◌+◌, Bool, true, false, cond, List, ℤ, pos, ◌-ℤ◌, arith, refl, sym, ◌∙◌, ap, ◌⊎◌, inl, inr, ⊎_elim, length, Option, Some, None}
+use Rattle.std.proofs.Common.{◌≡◌, ℕ, zero, suc, ◌<◌, Bool, true, false, cond, List, ℤ, pos, ◌-ℤ◌, arith, refl, sym, ◌∙◌, ap, length, Option, Some}
 use Rattle.std.specs.Prelude.{◌==◌, ◌&&◌, slice_get, not, nat_eq}
 use Rattle.std.proofs.lemmas.Bool.{both_ways, eq-eqb, lt-ltb, le-leb, and_parts, and_from, not-true, false_from_ne_true}
-use Rattle.std.proofs.lemmas.Option.{none-some, same_Some, slice_get_within, slice_get-get_or, get_or_from_slice_get}
+use Rattle.std.proofs.lemmas.Option.{same_Some, slice_get_within, get_or_from_slice_get}
 use borrow.Author.Differences.{ints}
 use Rattle.proof_trees.specs.Program.{sum_to, where_set}
 use Rattle.stow_data.specs.declared.geometry.Stack.{Stack}
 use Rattle.stow_data.specs.declared.cargoes.Container.{Container}
 use Rattle.stow_data.specs.declared.geometry.Place.{Place}
-use Rattle.stow_data.specs.declared.geometry.Half.{Half}
 use Rattle.stow_data.specs.declared.geometry.Separation.{Separation}
 use Rattle.stow_data.specs.Ship.{places}
 use Rattle.stow_data.specs.Plans.{Plan}
@@ -19,7 +18,7 @@ use Rattle.stowage_rules.specs.Departure.{IsWithinLimits}
 use Rattle.stowage_rules.specs.Departure.{IsSeparated}
 use Rattle.stow_data.specs.declared.kind_list.Kind.{Kind}
 use Rattle.zero_one_rows.specs.declared.program.Row.TheVariants.{Weight, Apart}
-use Rattle.zero_one_rows.specs.Variables.{Voyage, variables, var, kind, place, calls}
+use Rattle.zero_one_rows.specs.Variables.{Voyage, variables, var, kind, place}
 use Rattle.solution_meaning.proofs.Words.{container}
 use Rattle.zero_one_rows.specs.Rows.{stack, separation, no_separation, active, occ_class, is_call, IsSolution, bit, less}
 use Rattle.stow_data.specs.Plans.{no_stack, no_place}
@@ -28,8 +27,8 @@ use Rattle.solution_meaning.proofs.Match.{same_total}
 use Rattle.stow_data.proofs.Members.{Member}
 use Rattle.stow_data.proofs.Distinct.{each_from}
 use Rattle.solution_meaning.proofs.Calls.{Facts, IsHeld}
-use Rattle.solution_meaning.proofs.Halves.{two_low, two_first, two_second, takes_true}
-use Rattle.solution_meaning.proofs.Plans.{spot, Shows, pair, kind_same, box_is, one_there}
+use Rattle.solution_meaning.proofs.Halves.{two_low, two_first, two_second}
+use Rattle.solution_meaning.proofs.Plans.{spot, Shows, pair, kind_same, box_is}
 use Rattle.solution_meaning.proofs.PlanSums.{shown_sum, stack_sum}
 use Rattle.std.specs.Option.{option_eq}
 use Rattle.std.specs.Cmp.{nat_eq_equiv}

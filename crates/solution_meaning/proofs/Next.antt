@@ -4,7 +4,7 @@ use Rattle.std.specs.Prelude.{◌==◌, ◌&&◌, not}
 use Rattle.std.proofs.lemmas.Bool.{both_ways, eqb-true, eq-eqb, eqb-false, and_parts}
 use borrow.Author.Differences.{ints}
 use Rattle.proof_trees.specs.Program.{sum_to, where_set}
-use Rattle.zero_one_rows.specs.Variables.{Voyage, variables, var, kind, calls}
+use Rattle.zero_one_rows.specs.Variables.{Voyage, variables, var, kind}
 use Rattle.solution_meaning.proofs.Words.{container, kind_at}
 use Rattle.zero_one_rows.specs.Rows.{active, is_call, IsSolution}
 use Rattle.solution_meaning.proofs.Sums.{same_sum, plus_sum}

@@ -9,9 +9,7 @@ use Rattle.proof_trees.specs.Program.{sum_to, where_set}
 use Rattle.stow_data.specs.declared.geometry.Length.{Length}
 use Rattle.stow_data.specs.declared.geometry.Length.TheVariants as long_of
 use Rattle.stow_data.specs.declared.cargoes.Container.{Container}
-use Rattle.stow_data.specs.declared.geometry.Separation.{Separation}
 use Rattle.stow_data.specs.declared.geometry.Stack.{Stack}
-use Rattle.stow_data.specs.declared.geometry.Place.{Place}
 use Rattle.stow_data.specs.Ship.{places}
 use Rattle.stow_data.specs.Plans.{Plan}
 use Rattle.stowage_rules.specs.Plan.{Holds}

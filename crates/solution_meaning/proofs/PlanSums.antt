@@ -10,7 +10,7 @@ use Rattle.stow_data.specs.Plans.{Plan}
 use Rattle.plan_lifts.specs.Least.{counted}
 use Rattle.stowage_rules.proofs.Items.{slice_get-set_other}
 use Rattle.stowage_rules.proofs.Items.{slice_get_in}
-use Rattle.zero_one_rows.specs.Variables.{Voyage, calls}
+use Rattle.zero_one_rows.specs.Variables.{Voyage}
 use Rattle.stow_data.specs.Plans.{no_place}
 use Rattle.stow_data.proofs.Distinct.{Each}
 use Rattle.solution_meaning.proofs.Match.{total}

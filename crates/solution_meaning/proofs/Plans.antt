@@ -25,7 +25,7 @@ use Rattle.zero_one_rows.specs.declared.program.Row.TheVariants.{Cell, Support, 
 use Rattle.solution_meaning.proofs.Words.{shown_kind}
 use Rattle.stow_data.specs.Kinds.{kind_of}
 use Rattle.crossing_law.proofs.KindFacts.{same_length_is}
-use Rattle.zero_one_rows.specs.Variables.{Voyage, variables, var, kind, place, calls}
+use Rattle.zero_one_rows.specs.Variables.{Voyage, variables, var, kind, place}
 use Rattle.solution_meaning.proofs.Words.{container, has_length, fits, at_half}
 use Rattle.zero_one_rows.specs.Rows.{active, half, covers, below, occ, occ20, is_twenty, is_call, IsSolution, bit, less}
 use Rattle.stow_data.specs.Plans.{no_half, no_place, no_container}

@@ -1,9 +1,9 @@
 -- Short words for the containers and kinds of a voyage.
-use Rattle.std.proofs.Common.{◌≡◌, ℕ, zero, suc, ◌<◌, ◌≤◌, Bool, true, false, ◌&&◌, List, Option, Some, None, length, map, ℤ, pos, arith, refl, sym, ap, subst, ◌∙◌, eqb, leb}
+use Rattle.std.proofs.Common.{◌≡◌, ℕ, zero, suc, ◌<◌, ◌≤◌, Bool, true, false, ◌&&◌, List, Option, Some, None, length, ℤ, pos, arith, refl, sym, ap, subst, ◌∙◌}
 use Rattle.std.specs.Prelude.{◌==◌, ◌||◌, nat_le, nat_eq, slice_get, slice_index_or}
 use Rattle.std.specs.Option.{option_eq}
 use Rattle.std.specs.Cmp.Lexicographic.{pointwise, same_text}
-use Rattle.std.proofs.lemmas.Bool.{and_parts, eqb-true, both_ways, false≢true, le-leb}
+use Rattle.std.proofs.lemmas.Bool.{and_parts, eqb-true, false≢true, le-leb}
 use Rattle.std.proofs.lemmas.Option.{slice_get-get_or, slice_get_within, get_or_from_slice_get}
 use borrow.Author.Differences.{ints}
 use Rattle.stow_data.specs.declared.geometry.Length.{Length}
@@ -21,11 +21,11 @@ use Rattle.stow_data.proofs.KindLemmas.{kind_in}
 use Rattle.stow_data.proofs.Listed.{place_from}
 use Rattle.stow_data.proofs.InOrder.{half_listed}
 use Rattle.stow_data.proofs.CellLemmas.{has_side}
-use Rattle.proof_trees.specs.Program.{sum_to, where_set}
+use Rattle.proof_trees.specs.Program.{sum_to}
 use Rattle.zero_one_rows.specs.declared.program.Var.{Var}
 use Rattle.zero_one_rows.specs.Variables.{Voyage, all_kinds, kind, place}
 use Rattle.zero_one_rows.specs.Rows.{bit, covers, stack}
-use Rattle.crossing_law.proofs.Worlds.{total_to, one_if, count_to}
+use Rattle.crossing_law.proofs.Worlds.{one_if, count_to}
 use Rattle.crossing_law.proofs.KindFacts.{kind_alike, kind_first, loads_total, same_length_is}
 
 -- a number below n passes

@@ -1,5 +1,5 @@
 -- Assignments that meet the base rows, and legal voyages.
-use Rattle.std.specs.Prelude.{ℕ, ◌+◌, ◌-◌, ◌*◌, ◌≤◌, Bool, List, length, pos, ◌≤ℤ◌}
+use Rattle.std.specs.Prelude.{ℕ, ◌-◌, ◌*◌, ◌≤◌, Bool, List, length, pos, ◌≤ℤ◌}
 use Rattle.stow_data.specs.Plans.{Plan}
 use Rattle.stow_data.specs.Profile.{IsShip}
 use Rattle.stow_data.specs.Shipment.{IsCargo}
