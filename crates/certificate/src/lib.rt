@@ -2,6 +2,7 @@
 #![tactic(auto)]
 
 mod faults;
+mod journals;
 mod laws;
 mod line_reader;
 mod lines;
@@ -14,6 +15,7 @@ mod words;
 mod writing;
 
 pub use faults::CertFault;
+pub use journals::{Entry, Journal, JournalList, Node, Path, PathList, RecordList};
 pub use laws::answers_are_determined;
 pub use lines::Line;
 pub use reading::read_cert;
