@@ -1,0 +1,4 @@
+mod Numbering
+mod Shuffles
+mod Order
+mod Samples

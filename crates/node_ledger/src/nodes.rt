@@ -1,0 +1,80 @@
+//! Nodes in one list, and their order.
+ghost use Rattle.std.specs.Prelude.{◌≡◌, ◌++◌, IfOk, OnOk, map};
+ghost use Rattle.std.specs.List.Sorted.{IsPermutation};
+ghost use Rattle.node_ledger.specs.Gathered.{entries};
+ghost use Rattle.node_ledger.specs.Preorder.{by_preorder, InPreorder, left_node};
+
+use certificate::{End, Entry, Journal, JournalList, Path, PathList, Record};
+use std::alloc::Global;
+use std::cmp::Ordering;
+use stow_data::NoMemory;
+use zero_one_rows::{RaiseList, RowList};
+
+/// Which of two nodes comes first in a tree: one above the other, or the one at value 1 of the branch at which their
+/// paths part.
+fn compare_paths(a: &[bool], b: &[bool]) -> Ordering
+    ensures { result ≡ by_preorder a.now b.now }
+{
+    a.iter()
+        .map(|value| !*value)
+        .cmp(b.iter().map(|value| !*value))
+}
+
+/// Sorts nodes into the order of a tree.
+pub fn sort_nodes(nodes: &mut Vec<Entry>)
+    ensures same { IsPermutation nodes.old.items nodes.new.items }
+    ensures order { InPreorder nodes.new.items }
+{
+    nodes.sort_unstable_by(|a, b| compare_paths(a.path.as_slice(), b.path.as_slice()));
+}
+
+/// Appends a journal's entries.
+fn add_journal(nodes: &mut Vec<Entry>, journal: Journal) -> Result<(), NoMemory>
+    ensures { OnOk result (nodes.new.items ≡ nodes.old.items ++ journal) }
+{
+    for entry in journal.into_items() {
+        nodes.push(entry)?;
+    }
+    Ok(())
+}
+
+/// Appends nodes that were left open.
+fn add_left(alloc: Global, nodes: &mut Vec<Entry>, left: PathList) -> Result<(), NoMemory>
+    ensures { OnOk result (nodes.new.items ≡ nodes.old.items ++ map left_node left) }
+{
+    for path in left.into_items() {
+        nodes.push(left_open(alloc, path))?;
+    }
+    Ok(())
+}
+
+/// A node that was left open.
+fn left_open(alloc: Global, path: Path) -> Entry
+    ensures { result ≡ left_node path }
+{
+    Entry {
+        path,
+        record_of: Record {
+            from_zero: false,
+            steps: RowList::new(alloc),
+            raises: RaiseList::new(alloc),
+            end: End::Left,
+        },
+    }
+}
+
+/// All entries and all nodes that were left, in no order.
+pub fn every_node(
+    alloc: Global,
+    journals: JournalList,
+    left: PathList,
+) -> Result<Vec<Entry>, NoMemory>
+    ensures { IfOk result (λ nodes. nodes.items ≡ entries journals ++ map left_node left) }
+{
+    let mut nodes = Vec::new(alloc);
+    for journal in journals.into_items() {
+        add_journal(&mut nodes, journal)?;
+    }
+    add_left(alloc, &mut nodes, left)?;
+    Ok(nodes)
+}
