@@ -64,7 +64,7 @@ bit_low : (b : Bool) → pos 0 ≤ℤ bit b
 bit_low true = omega (arith, ints)
 bit_low false = omega (arith, ints)
 
-often_low : {X : Type 0} (k : X → ℕ) (a : ℕ) (xs : List X) → pos 0 ≤ℤ often k a xs
+pub often_low : {X : Type 0} (k : X → ℕ) (a : ℕ) (xs : List X) → pos 0 ≤ℤ often k a xs
 often_low k a [] = omega (arith, ints)
 often_low k a (x ∷ xs) = omega (arith, ints, often_low k a xs, bit_low (k x == a))
 

@@ -9,11 +9,11 @@ use Rattle.proof_trees.specs.Program.{sum_to, where_set}
 use Rattle.stow_data.specs.declared.cargoes.Container.{Container}
 use Rattle.voyage_meaning.specs.declared.moves.Move.{Move}
 use Rattle.stow_data.specs.Plans.{Plan}
-use Rattle.voyage_meaning.specs.Moves.{lift_count}
+use Rattle.voyage_meaning.specs.Moves.{lift_count, rehandles}
 use Rattle.plan_lifts.specs.Least.{counted}
 use Rattle.stowage_rules.specs.Departure.{IsStowed}
 use Rattle.stowage_rules.specs.Departure.{IsDeparture}
-use Rattle.voyage_meaning.specs.Voyage.{IsVoyage}
+use Rattle.voyage_meaning.specs.Voyage.{start, LeadsTo, IsVoyage}
 use Rattle.voyage_meaning.specs.Voyage.{count}
 use Rattle.plan_lifts.specs.Least.{IsDivided}
 use Rattle.plan_lifts.proofs.Closed.{closed_leads}
@@ -27,7 +27,7 @@ use Rattle.stow_data.proofs.Members.{Member}
 use Rattle.stow_data.proofs.Distinct.{each_from}
 use Rattle.solution_meaning.proofs.Members.{differ_at}
 use Rattle.solution_meaning.proofs.Calls.{Facts, IsHeld, gone, kept}
-use Rattle.solution_meaning.proofs.Next.{next}
+use Rattle.solution_meaning.proofs.Next.{IsNext, next}
 use Rattle.solution_meaning.proofs.Plans.{spot, Shows, pair, stowed, shows_now, plan_now}
 use Rattle.solution_meaning.proofs.Ends.{ended, ended_from, ended_at, closed, only}
 use Rattle.solution_meaning.proofs.PlanSums.{shown_sum, counted_sum, spots_differ}
@@ -99,6 +99,27 @@ module _ (m : Voyage) (x : ℕ → Bool) where
   past_low : (i : ℕ) → pos 0 ≤ℤ ends_past i
   past_low i = low_sum (length (variables m)) _ (λ v. low_term (x v) _ _)
 
+  -- the moves of a call lead from one plan to the next, and count what ends there
+  pub record HasCall (i : ℕ) (old new : Plan) : Type 0 where
+    pub moves : List Move
+    pub leads : LeadsTo m.ship m.cargo (suc i) old moves new
+    pub counts : pos (rehandles m.cargo (suc i) (start m.ship m.cargo (suc i) old) moves) ≡ ends_at (suc i)
+
+  -- by any pairs after the call, and the plan that shows them
+  pub call_from : (facts : Facts m) (solution : IsSolution m x) → IsDivided m.ship → (i : ℕ) → is_call m (suc i) ≡ true → (held : List (ℕ × ℕ)) → IsHeld m x i held → (old : Plan) → Shows m held old → IsStowed m.ship m.cargo i old → (n : IsNext m x i held) (plan : Plan) → Shows m (kept m (suc i) held ++ n.pairs) plan → HasCall i old plan
+  call_from facts solution divided i call held is old shows before n plan shown =
+      let now = kept m (suc i) held ++ n.pairs in
+      let departs : IsDeparture m.ship m.cargo (suc i) plan = record {
+        stowed = stowed m x facts (suc i) now n.is solution call plan shown;
+        within = within m x facts (suc i) now n.is solution call plan shown;
+        separated = separated m x facts (suc i) now n.is solution call plan shown;
+      } in
+      let order = λ (c : ℕ) (box : Container) (known : slice_get m.cargo.containers c ≡ Some box). subst (λ (k : Container). k.load < k.dest) (get_or_from_slice_get m.cargo.containers c box no_container known) (facts.in_order c (slice_get_within m.cargo.containers c box known)) in
+      let leads = closed_leads m.ship m.cargo i old plan (ended m (suc i) held) divided order before departs
+      (closed m x facts solution i call held is old shows before.supported n.pairs n.is n.put_now plan shown)
+      (only m x facts solution i call held is old shows before.supported n.pairs n.is n.put_now plan shown) in
+      record { moves = leads.0; leads = leads.1; counts = ap pos leads.2 ∙ call_count facts solution i held is old shows }
+
   -- a legal voyage over the calls that are left, which counts at most what ends in them
   pub record HasVoyage (i left : ℕ) (old : Plan) : Type 0 where
     pub plans : List Plan
@@ -115,20 +136,14 @@ module _ (m : Voyage) (x : ℕ → Bool) where
       let now = kept m (suc i) held ++ n.pairs in
       let plan = plan_now m x facts (suc i) now n.is solution call in
       let shown = shows_now m x facts (suc i) now n.is solution call in
-      let departs : IsDeparture m.ship m.cargo (suc i) plan = record {
-        stowed = stowed m x facts (suc i) now n.is solution call plan shown;
-        within = within m x facts (suc i) now n.is solution call plan shown;
-        separated = separated m x facts (suc i) now n.is solution call plan shown;
-      } in
-      let order = λ (c : ℕ) (box : Container) (known : slice_get m.cargo.containers c ≡ Some box). subst (λ (k : Container). k.load < k.dest) (get_or_from_slice_get m.cargo.containers c box no_container known) (facts.in_order c (slice_get_within m.cargo.containers c box known)) in
-      let leads = closed_leads m.ship m.cargo i old plan (ended m (suc i) held) divided order before departs
-      (closed m x facts solution i call held is old shows before.supported n.pairs n.is n.put_now plan shown)
-      (only m x facts solution i call held is old shows before.supported n.pairs n.is n.put_now plan shown) in
+      let here = call_from facts solution divided i call held is old shows before n plan shown in
+      let leads = here.leads in
+      let departs = leads.departure in
       let rest = voyage_from facts solution divided left (suc i) (omega arith) now n.is plan shown departs.stowed in
       record {
         plans = plan ∷ rest.plans;
-        moves = leads.0 ∷ rest.moves;
+        moves = here.moves ∷ rest.moves;
         as_many = let a = rest.as_many in omega arith;
-        legal = (leads.1, rest.legal);
-        counts = let a = leads.2 in let b = rest.counts in let c = past_step i in let d = call_count facts solution i held is old shows in omega (arith, ints, a, b, c, d);
+        legal = (leads, rest.legal);
+        counts = let a = here.counts in let b = rest.counts in let c = past_step i in omega (arith, ints, a, b, c);
       }
