@@ -20,6 +20,12 @@ whole_as : (journals others : List (List Entry)) (left paths : List Path) → jo
 whole_as journals others left paths js ps w =
     (zero_for_all, subst (λ (l : List (List Entry)). AreWhole zero_for_all l left) (sym js) (subst (λ (l : List Path). AreWhole zero_for_all others l) (sym ps) w))
 
+pub single : {A : Type 0} (xs : List A) (a b : A) → xs ≡ a ∷ [] → a ≡ b → xs ≡ b ∷ []
+single xs a b is same = cc
+
+pub pair : {A : Type 0} (xs : List A) (a b c d : A) → xs ≡ a ∷ b ∷ [] → a ≡ c → b ≡ d → xs ≡ c ∷ d ∷ []
+pair xs a b c d is same other = cc
+
 no_halves : (h : Path → ℕ) (e : Entry) → e.record_of.end ≡ Leaf → halves h (placed zero_for_all e) ≡ 0
 no_halves h e is = ap (λ (x : End). cond (branches (end_of zero_for_all x)) (h (e.path ++ true ∷ []) + h (e.path ++ false ∷ [])) 0) is
 

@@ -62,11 +62,24 @@ fn pair_of<T: Drop>(alloc: Global, first: T, second: T) -> Result<Seq<T>, NoMemo
     Ok(list)
 }
 
-/// Whether the records have so many steps, and these ends.
-fn is_told(tree: &Tree, want: &[(usize, End)]) -> bool {
-    tree.len() == want.len()
-        && tree.iter().zip(want).all(|(record, (steps, end))| record.steps.len() == *steps
-            && record.end == *end)
+/// The letter for an end in a certificate.
+fn letter(end: End) -> u8 {
+    match end {
+        End::Leaf => b'l',
+        End::Left => b'o',
+        End::Branch(_) => b'b',
+    }
+}
+
+/// Whether the records have so many steps, and ends with these letters.
+fn is_told(tree: &Tree, steps: &[usize], ends: &[u8]) -> bool {
+    tree.iter()
+        .map(|record| record.steps.len())
+        .eq(steps.iter().copied())
+        && tree
+            .iter()
+            .map(|record| letter(record.end))
+            .eq(ends.iter().copied())
 }
 
 /// One record.
@@ -114,26 +127,13 @@ fn two_branches(alloc: Global, x: Var) -> Result<Tree, NoMemory> {
 #[test]
 fn journals_become_trees(rt: HostRuntime) -> Result<(), Fail> {
     let alloc = rt.alloc();
-    let x = some_variable();
-    let branch = End::Branch(x);
     let one = closed_root(alloc)?;
-    assert!(rt; is_told(&one, &[(1, End::Leaf)]));
-    let two = two_leaves(alloc, x)?;
-    assert!(rt; is_told(&two, &[(1, branch), (2, End::Leaf), (3, End::Leaf)]));
-    let left = left_half(alloc, x)?;
-    assert!(rt; is_told(&left, &[(1, branch), (0, End::Left), (2, End::Leaf)]));
-    let four = two_branches(alloc, x)?;
-    assert!(rt;
-        is_told(
-            &four,
-            &[
-                (1, branch),
-                (2, End::Leaf),
-                (3, branch),
-                (0, End::Left),
-                (4, End::Leaf)
-            ]
-        )
-    );
+    assert!(rt; is_told(&one, &[1], b"l"));
+    let two = two_leaves(alloc, some_variable())?;
+    assert!(rt; is_told(&two, &[1, 2, 3], b"bll"));
+    let left = left_half(alloc, some_variable())?;
+    assert!(rt; is_told(&left, &[1, 0, 2], b"bol"));
+    let four = two_branches(alloc, some_variable())?;
+    assert!(rt; is_told(&four, &[1, 2, 3, 0, 4], b"blbol"));
     Ok(())
 }
