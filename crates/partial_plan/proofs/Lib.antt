@@ -1,0 +1,5 @@
+pub mod Summing
+pub mod Landing
+pub mod Freeing
+pub mod Walking
+pub mod Rows
