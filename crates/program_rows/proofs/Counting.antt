@@ -10,8 +10,8 @@ use Rattle.stow_data.specs.declared.geometry.Lengths.{Lengths}
 use Rattle.stow_data.specs.declared.geometry.Lengths.TheVariants.{Forty, Twenty, Mixed, ForeOnly, AftOnly}
 use Rattle.stow_data.specs.Ship.{Ship, places, halves, sides, spans, tier_halves, tier_places, stack_halves, stack_places}
 use Rattle.stow_data.proofs.Members.{range-more}
-use Rattle.zero_one_lists.proofs.Filters.{filter_more}
-use Rattle.zero_one_lists.proofs.Added.{flat_more}
+use Rattle.program_rows.proofs.Filters.{filter_more}
+use Rattle.program_rows.proofs.Added.{flat_more}
 use Rattle.program_rows.specs.Counted.{flow_rows, start_rows, cell_rows, support_rows, twenty_rows, block_rows, hatch_rows, weight_rows, apart_rows, cross_rows, from_weights, from_hatches, from_blocks, from_twenties, from_supports, from_cells, from_starts, base_in, rows_in, rows_a_call, flow_of, hatch_of, apart_of, per_call}
 use Rattle.zero_one_rows.specs.declared.program.Row.TheVariants.{Start, Cell, Support, Twenty as TwentyOn, Block, Weight, Cross}
 use Rattle.program_rows.specs.declared.row_lists.RowLists.{RowLists}

@@ -1,3 +1,7 @@
+pub mod Filters
+pub mod Grouped
+pub mod Offered
+pub mod Added
 pub mod Paired
 pub mod Numbered
 pub mod Parts
@@ -7,3 +11,4 @@ pub mod EveryRow
 pub mod InOrder
 pub mod Counting
 pub mod Hatches
+pub mod ByLevel

@@ -5,7 +5,7 @@ use Rattle.std.specs.List.{range_with_len}
 use Rattle.std.proofs.lemmas.Grind.{flat_map-append}
 use Rattle.std.proofs.lemmas.List.{append-nil, map-append}
 use Rattle.stow_data.proofs.Members.{range-more}
-use Rattle.zero_one_lists.proofs.Filters.{filter_more}
+use Rattle.program_rows.proofs.Filters.{filter_more}
 
 pub wanted_more : (t : ℕ → Bool) (n : ℕ) (wanted : Bool) (old new : List ℕ) → wanted ≡ t n → new ≡ old ++ cond wanted (n ∷ []) [] → old ≡ filter t (range_with_len 0 n) → new ≡ filter t (range_with_len 0 (n + 1))
 wanted_more t n wanted old new w e h =

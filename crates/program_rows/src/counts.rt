@@ -2,11 +2,12 @@
 ghost use Rattle.std.specs.Prelude.{◌≡◌, ℕ, ◌+◌, ◌*◌, ◌<◌, ◌≤◌, ◌^◌, cond, length, filter, flat_map};
 ghost use Rattle.std.specs.List.{range_with_len};
 ghost use Rattle.std.specs.Option.{option_to_list};
-ghost use Rattle.stow_data.specs.Ship.{halves, places};
+ghost use Rattle.stow_data.specs.Ship.{halves};
 ghost use Rattle.zero_one_rows.specs.Variables.{Voyage, calls as number_of_calls, all_kinds};
-ghost use Rattle.program_rows.specs.Counted.{pairs_at, has_below, has_above, stands_at, hatches_of, near_to, near_by, all_chains, base_rows, all_rows, row_lists, rows_a_call};
+ghost use Rattle.program_rows.specs.Counted.{pairs_at, has_below, has_above, stands_at, hatches_of, near_by, all_chains, base_rows, all_rows, row_lists, rows_a_call};
 
-use crate::row_tests::{are_near, is_lower, is_running, is_taken, is_under_hatch, is_upper};
+use crate::levels::LevelCounts;
+use crate::row_tests::{is_lower, is_running, is_taken, is_under_hatch, is_upper, level_of};
 use chain_rows::{Chain, Chains};
 use stow_data::{CallNo, Cargo, HalfNo, KindNo, Kinds, Length, PlaceNo, Ship};
 use zero_one_rows::tallest;
@@ -19,7 +20,7 @@ pub struct RowCounts {
     pub all: u64,
 }
 
-fn as_one(wanted: bool) -> u64
+pub fn as_one(wanted: bool) -> u64
     ensures value { result ≡ cond wanted 1 0 }
     ensures low { result ≤ 1 }
 {
@@ -128,37 +129,6 @@ fn count_hatches(ship: &Ship) -> u64
     count
 }
 
-/// How many places are near a place by a separation.
-fn count_near_to(ship: &Ship, index: u32, first: PlaceNo) -> u64
-    ghost m: { Voyage }
-    requires ship { ship.now ≡ m.ship }
-    requires separation { index < length ship.now.separations }
-    requires place { first < length (places ship.now) }
-    ensures number { result ≡ length (near_to m index first) }
-    ensures size { result ≤ 3000 }
-{
-    let mut count = 0;
-    for q in 0..ship.places() {
-        count += as_one(are_near(ship, index, first, PlaceNo(q)));
-    }
-    count
-}
-
-/// How many pairs of places are near by a separation.
-fn count_near_by(ship: &Ship, index: u32) -> u64
-    ghost m: { Voyage }
-    requires ship { ship.now ≡ m.ship }
-    requires separation { index < length ship.now.separations }
-    ensures number { result ≡ length (near_by m index) }
-    ensures size { result ≤ 9000000 }
-{
-    let mut count = 0;
-    for p in 0..ship.places() {
-        count += count_near_to(ship, index, PlaceNo(p));
-    }
-    count
-}
-
 /// How many pairs of places have apart rows at a call.
 fn count_near(ship: &Ship) -> u64
     ghost m: { Voyage }
@@ -166,9 +136,10 @@ fn count_near(ship: &Ship) -> u64
     ensures number { result ≡ length (flat_map (near_by m) (range_with_len 0 (length m.ship.separations))) }
     ensures size { result ≤ 2 ^ 32 * 9000000 }
 {
+    let counts = LevelCounts::of(ship);
     let mut count = 0;
     for e in 0..ship.separations() {
-        count += count_near_by(ship, e);
+        count += counts.at(level_of(ship, e));
     }
     count
 }

@@ -1,12 +1,13 @@
 //! For what each family of rows has a row.
-ghost use Rattle.std.specs.Prelude.{◌≡◌, ℕ, ◌+◌, ◌<◌, ◌≤◌, ◌^◌, ◌++◌, cond, [], ◌∷◌, length, filter, flat_map, IfOk, OnOk};
+ghost use Rattle.std.specs.Prelude.{◌≡◌, ℕ, ◌+◌, ◌<◌, ◌≤◌, ◌^◌, ◌++◌, cond, [], ◌∷◌, length, map, filter, flat_map, IfOk, OnOk};
 ghost use Rattle.std.specs.List.{range_with_len};
 ghost use Rattle.std.specs.Option.{option_to_list};
-ghost use Rattle.stow_data.specs.Ship.{halves, places};
+ghost use Rattle.stow_data.specs.Ship.{halves};
 ghost use Rattle.zero_one_rows.specs.Variables.{Voyage, calls as number_of_calls, all_kinds};
-ghost use Rattle.program_rows.specs.Counted.{pairs_at, has_below, has_above, stands_at, hatches_of, near_to, near_by, all_chains, row_lists};
+ghost use Rattle.program_rows.specs.Counted.{pairs_at, has_below, has_above, stands_at, hatches_of, near_by, all_chains, row_lists};
 
-use crate::row_tests::{are_near, is_lower, is_running, is_taken, is_under_hatch, is_upper};
+use crate::levels::{LevelPairs, PlacePair};
+use crate::row_tests::{is_lower, is_running, is_taken, is_under_hatch, is_upper, level_of};
 use chain_rows::{Chain, Chains};
 use std::alloc::Global;
 use stow_data::{
@@ -60,7 +61,7 @@ pub struct RowLists {
 }
 
 /// Appends an item where it is wanted.
-fn push_item<T: Copy>(list: &mut Seq<T>, item: T, wanted: bool) -> Result<(), NoMemory>
+pub fn push_item<T: Copy>(list: &mut Seq<T>, item: T, wanted: bool) -> Result<(), NoMemory>
     ensures { OnOk result (list.new ≡ list.old ++ cond wanted (item ∷ []) []) }
 {
     if wanted { list.push(item) } else { Ok(()) }
@@ -174,43 +175,20 @@ fn list_hatches(alloc: Global, ship: &Ship) -> Result<Seq<HatchPair>, NoMemory>
     Ok(list)
 }
 
-/// Appends the pairs of a place with those that are near by a separation.
-fn push_near(
+/// Appends the pairs of places that are near by a separation, given those that are near by its level.
+fn push_separation(
     list: &mut Seq<NearPair>,
-    ship: &Ship,
     index: u32,
-    first: PlaceNo,
+    pairs: &[PlacePair],
 ) -> Result<(), NoMemory>
-    ghost m: { Voyage }
-    requires ship { ship.now ≡ m.ship }
-    requires separation { index < length ship.now.separations }
-    requires place { first < length (places ship.now) }
-    ensures { OnOk result (list.new ≡ list.old ++ near_to m index first) }
+    ensures { OnOk result (list.new ≡ list.old ++ map (λ p. record { index = index; first = p.first; second = p.second }) pairs.now) }
 {
-    for q in 0..ship.places() {
-        let wanted = are_near(ship, index, first, PlaceNo(q));
-        push_item(
-            list,
-            NearPair {
-                index,
-                first,
-                second: PlaceNo(q),
-            },
-            wanted,
-        )?;
-    }
-    Ok(())
-}
-
-/// Appends the pairs of places that are near by a separation.
-fn push_separation(list: &mut Seq<NearPair>, ship: &Ship, index: u32) -> Result<(), NoMemory>
-    ghost m: { Voyage }
-    requires ship { ship.now ≡ m.ship }
-    requires separation { index < length ship.now.separations }
-    ensures { OnOk result (list.new ≡ list.old ++ near_by m index) }
-{
-    for p in 0..ship.places() {
-        push_near(list, ship, index, PlaceNo(p))?;
+    for pair in pairs {
+        list.push(NearPair {
+            index,
+            first: pair.first,
+            second: pair.second,
+        })?;
     }
     Ok(())
 }
@@ -221,9 +199,10 @@ fn list_near(alloc: Global, ship: &Ship) -> Result<Seq<NearPair>, NoMemory>
     requires { ship.now ≡ m.ship }
     ensures { IfOk result (λ list. list ≡ flat_map (near_by m) (range_with_len 0 (length m.ship.separations))) }
 {
+    let pairs = LevelPairs::of(alloc, ship)?;
     let mut list = Seq::new(alloc);
     for e in 0..ship.separations() {
-        push_separation(&mut list, ship, e)?;
+        push_separation(&mut list, e, pairs.at(level_of(ship, e)))?;
     }
     Ok(list)
 }

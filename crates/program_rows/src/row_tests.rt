@@ -4,7 +4,8 @@ ghost use Rattle.stow_data.specs.Ship.{halves, places};
 ghost use Rattle.stow_data.specs.Plans.{no_stack};
 ghost use Rattle.zero_one_rows.specs.Variables.{Voyage, all_kinds};
 ghost use Rattle.zero_one_rows.specs.Rows.{is_filled, cover_joins, no_separation};
-ghost use Rattle.program_rows.specs.Counted.{runs, has_below, has_above, stands_at, is_hatch, is_near_by, is_one};
+ghost use Rattle.program_rows.specs.Counted.{runs, has_below, has_above, stands_at, is_hatch, is_one};
+ghost use Rattle.program_rows.specs.Levels.{near_at};
 
 use stow_data::{CallNo, Cargo, CoverNo, HalfNo, KindNo, Kinds, PlaceNo, Ship, StackNo};
 use stowage_rules::is_near;
@@ -86,26 +87,20 @@ pub fn is_under_hatch(ship: &Ship, h: HalfNo, d: HalfNo) -> bool
 
 /// The level of a separation.
 #[tactic(auto, using(std::proofs::lemmas::Option::get_or_from_slice_get))]
-fn level_of(ship: &Ship, index: u32) -> u32
+pub fn level_of(ship: &Ship, index: u32) -> u32
     requires { index < length ship.now.separations }
     ensures { result ≡ (slice_index_or ship.now.separations index no_separation).level }
 {
     ship.separation(index).level
 }
 
-/// Whether two places are near by a separation.
-pub fn are_near(ship: &Ship, index: u32, p: PlaceNo, q: PlaceNo) -> bool
+/// Whether two places are near by a level.
+pub fn are_near(ship: &Ship, level: u32, p: PlaceNo, q: PlaceNo) -> bool
     ghost m: { Voyage }
     requires ship { ship.now ≡ m.ship }
-    requires separation { index < length ship.now.separations }
     requires first { p < length (places ship.now) }
     requires second { q < length (places ship.now) }
-    ensures { result ≡ is_near_by m index p q }
+    ensures { result ≡ near_at m level p q }
 {
-    is_near(
-        ship,
-        level_of(ship, index),
-        &place_at(ship, p),
-        &place_at(ship, q),
-    )
+    is_near(ship, level, &place_at(ship, p), &place_at(ship, q))
 }

@@ -1,18 +1,18 @@
 -- The rows that a variable touches, of all rows.
-use Rattle.std.proofs.Common.{◌≡◌, ◌≢◌, ℕ, ◌<◌, ◌+◌, Bool, true, List, [], ◌∷◌, ◌++◌, arith, sym, ◌∙◌, ap, subst, length, ◌⊎◌, ⊎_elim, ◌↔◌, take, Some}
-use Rattle.std.specs.Prelude.{filter, pos, Contains, slice_get}
+use Rattle.std.proofs.Common.{◌≡◌, ◌≢◌, ℕ, ◌<◌, ◌+◌, Bool, true, List, [], ◌∷◌, ◌++◌, arith, refl, sym, ◌∙◌, ap, subst, length, ⊎_elim, ◌↔◌, take, Option, None, Some, false}
+use Rattle.std.specs.Prelude.{filter, pos, Contains, MatchOption, slice_get}
 use Rattle.std.specs.List.{AllPairs}
 use Rattle.std.specs.Ordering.{int_eq}
 use Rattle.std.specs.Cmp.{signed_Decides}
 use Rattle.std.proofs.lemmas.List.{take_more}
 use Rattle.std.proofs.lemmas.List.Elements.{filter-append}
 use Rattle.std.proofs.lemmas.List.Kept.{AllPairs-filter}
-use Rattle.std.proofs.lemmas.Option.{get_or_from_slice_get}
+use Rattle.std.proofs.lemmas.Option.{get_or_from_slice_get, slice_get-get_or}
 use Rattle.stow_data.proofs.Members.{Member}
 use Rattle.zero_one_rows.specs.declared.program.Row.{Row}
 use Rattle.zero_one_rows.specs.Variables.{Voyage, variables, var}
-use Rattle.zero_one_rows.specs.Rows.{coef}
-use Rattle.zero_one_rows.proofs.Listing.{filter_at, filter_from}
+use Rattle.zero_one_rows.specs.Rows.{coef, whole}
+use Rattle.zero_one_rows.proofs.Listing.{filter_at, filter_from, member_get}
 use Rattle.program_rows.specs.Counted.{all_rows}
 use Rattle.chain_rows.specs.Chains.{IsBefore}
 use Rattle.program_rows.specs.Ordered.{Precedes, family, numbers}
@@ -47,3 +47,14 @@ module _ (m : Voyage) (x : ℕ) (l : x < length (variables m)) (list : List Row)
 
   pub kept_once : AllPairs (λ r s. r ≢ s) list
   kept_once = subst (λ (xs : List Row). AllPairs (λ r s. r ≢ s) xs) (sym is) (λ i j d a b. differ _ _ (AllPairs-filter Precedes (λ row. stands m row x) (all_rows m) (rows_rise m) i j d a b))
+
+-- the number of a row that there is
+pub numbered : (m : Voyage) (o : Option ℕ) (rs : List Row) (r : Row) → rs ≡ all_rows m → MatchOption o ((k : ℕ) → slice_get rs k ≢ Some r) (λ k. slice_get rs k ≡ Some r) → MatchOption o ((whole m).has r ≡ false) (λ k. slice_get (all_rows m) k ≡ Some r)
+numbered m None rs r e h = go ((whole m).has r) refl
+  where
+    go : (b : Bool) → (whole m).has r ≡ b → (whole m).has r ≡ false
+    go false k = k
+    go true k =
+        let at = member_get (all_rows m) r r (row_listed m r k) in
+        absurd (h at.0 (ap (λ (xs : List Row). slice_get xs at.0) e ∙ slice_get-get_or (all_rows m) at.0 r at.1 ∙ ap (λ (x : Row). Some x) at.2))
+numbered m (Some k) rs r e h = ap (λ (xs : List Row). slice_get xs k) (sym e) ∙ h

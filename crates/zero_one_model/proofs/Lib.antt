@@ -4,4 +4,5 @@ pub mod Sized
 pub mod Touched
 pub mod Chosen
 pub mod Selected
+pub mod LotVariables
 pub mod Kept

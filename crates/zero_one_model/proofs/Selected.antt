@@ -19,14 +19,13 @@ use Rattle.zero_one_rows.specs.Variables.{Voyage, variables, var, no_var}
 use Rattle.zero_one_rows.specs.Rows.{coef}
 use Rattle.zero_one_rows.proofs.Listing.{filter_at, filter_from, get_member, var_listed}
 use Rattle.zero_one_rows.specs.Rows.{whole}
-use Rattle.zero_one_model.specs.Indexed.{Touches}
-use Rattle.zero_one_model.specs.Indexed.{IsIndex, IsCandidates, is_indexed, first_of, second_of, stands}
+use Rattle.zero_one_model.specs.Indexed.{Touches, IsIndex, IsCandidates, is_keyed, first_of, second_of, stands}
 use Rattle.zero_one_model.specs.declared.index.Index.{Index}
 use Rattle.zero_one_model.proofs.Touched.{contains_at, contains_from, get_any}
 use Rattle.zero_one_model.proofs.Chosen.{chosen}
 
-pub chosen_parts : (m : Voyage) → IsShip m.ship → (x : Index) → IsIndex m x → (r : Row) → is_indexed r ≡ true → (whole m).has r ≡ true → (a b : List ℕ) → a ≡ first_of m.ship x r → b ≡ second_of m.ship x r → IsCandidates m r (a ++ b)
-chosen_parts m rules x is r found has a b e f = rw (e, f) (chosen m rules x is r found has)
+pub chosen_parts : (m : Voyage) → IsShip m.ship → length m.cargo.arrival ≡ length (places m.ship) → (x : Index) → IsIndex m x → (r : Row) → is_keyed r ≡ true → (whole m).has r ≡ true → (a b : List ℕ) → a ≡ first_of m.ship x r → b ≡ second_of m.ship x r → IsCandidates m r (a ++ b)
+chosen_parts m rules arrival x is r found has a b e f = rw (e, f) (chosen m rules arrival x is r found has)
 
 pub not_true : (b : Bool) → not b ≡ true → b ≡ true → ⊥
 not_true true h k = false≢true h
@@ -71,19 +70,3 @@ places_in m ship vars s e k d l =
     let size = ap (λ (z : Ship). length (places z)) s in
     let at = ap (λ (x : Var). x.place) same in
     omega (arith, named.place, size, at)
-
--- all variables are candidates of every row
-pub sought : (m : Voyage) (r : Row) → IsCandidates m r (range_with_len 0 (length (variables m)) ++ [])
-sought m r = rw (append-nil (range_with_len 0 (length (variables m)))) (record {
-  inside = λ k d l. let q = range_at 0 (length (variables m)) (slice_index_or (range_with_len 0 (length (variables m))) k d) (get_member (range_with_len 0 (length (variables m))) k d l) in omega (arith, q.1);
-  each = λ v t. contains_from (range_with_len 0 (length (variables m))) v (range_from 0 (length (variables m)) v (omega arith) (let a = t.inside in omega (arith, a)));
-  once = λ a b d l q. let lt = rising_get (λ (x y : ℕ). x < y) (range_with_len 0 (length (variables m))) a b d (rising_range 0 (length (variables m))) l q in (λ e. omega (arith, lt, e));
-})
-
--- one more variable
-pub more_selected : (t : ℕ → Bool) (n : ℕ) (front old new : List ℕ) → old ≡ front ++ filter t (range_with_len 0 n) → new ≡ old ++ filter t (n ∷ []) → new ≡ front ++ filter t (range_with_len 0 (n + 1))
-more_selected t n front old new h e =
-    let last : 0 + n ≡ n = omega arith in
-    let more : range_with_len 0 (n + 1) ≡ range_with_len 0 n ++ n ∷ [] = range-more 0 n ∙ ap (λ (k : ℕ). range_with_len 0 n ++ k ∷ []) last in
-    e ∙ ap (λ (xs : List ℕ). xs ++ filter t (n ∷ [])) h ∙ append_assoc front (filter t (range_with_len 0 n)) (filter t (n ∷ []))
-    ∙ ap (λ (xs : List ℕ). front ++ xs) (sym (ap (filter t) more ∙ filter-append t (range_with_len 0 n) (n ∷ [])))

@@ -7,18 +7,18 @@ use Rattle.std.proofs.Math.IntN.{+ℤ_idl}
 use Rattle.std.proofs.lemmas.List.{get_or_past}
 use Rattle.stow_data.specs.declared.geometry.Stack.{Stack}
 use Rattle.stow_data.specs.declared.geometry.Half.{Half}
-use Rattle.stow_data.specs.Ship.{halves}
+use Rattle.stow_data.specs.Ship.{halves, places}
 use Rattle.stow_data.specs.Profile.{IsShip, IsStack, IsInHold, IsOnDeck}
 use Rattle.stow_data.specs.Shipment.{IsCargo}
 use Rattle.stow_data.specs.Kinds.{kind_number}
 use Rattle.stow_data.proofs.KindLemmas.{loads_few}
-use Rattle.stow_data.proofs.Listed.{half_from}
+use Rattle.stow_data.proofs.Listed.{half_from, place_from}
 use Rattle.zero_one_rows.specs.declared.program.Var.{Var}
 use Rattle.zero_one_rows.specs.declared.program.Row.{Row}
 use Rattle.zero_one_rows.specs.declared.program.Row.TheVariants.{Flow, Start, Cell, Support, Twenty, Block, Hatch, Weight, Apart, Cross}
-use Rattle.zero_one_rows.specs.Variables.{Voyage, all_kinds}
+use Rattle.zero_one_rows.specs.Variables.{Voyage, all_kinds, place}
 use Rattle.zero_one_rows.specs.Rows.{half, stack, bit, turned, coef, rhs}
-use Rattle.stow_data.specs.Plans.{no_half, no_stack}
+use Rattle.stow_data.specs.Plans.{no_half, no_stack, no_place}
 use Rattle.zero_one_rows.specs.Ranges.{InRange}
 use Rattle.zero_one_rows.specs.Rows.{whole}
 
@@ -58,3 +58,12 @@ above_low m rules h t l k =
     let is : IsStack (stack m (half m h).stack) = rules.each_stack (half m h).stack no_stack (half_in m rules h l) in
     let few = few_tiers (stack m (half m h).stack) is in
     omega (arith, few, k)
+
+pub place_in : (m : Voyage) → IsShip m.ship → (p : ℕ) → p < length (places m.ship) → ((place m p).stack < length m.ship.stacks) × ((place m p).tier < 40)
+place_in m rules p l =
+    let from = place_from m.ship p (place m p) (slice_get-get_or (places m.ship) p no_place l) in
+    let k = slice_get_within m.ship.stacks (place m p).stack from.stack_at from.is_stack in
+    let same = get_or_from_slice_get m.ship.stacks (place m p).stack from.stack_at from.stack_at from.is_stack in
+    let is : IsStack from.stack_at = subst IsStack same (rules.each_stack (place m p).stack from.stack_at k) in
+    let few = few_tiers from.stack_at is in
+    (k, omega (arith, few, from.low))

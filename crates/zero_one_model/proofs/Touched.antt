@@ -10,13 +10,12 @@ use Rattle.stow_data.proofs.Members.{Member, member_left, member_right, member_s
 use Rattle.stow_data.proofs.Distinct.{Each}
 use Rattle.zero_one_rows.specs.declared.program.Var.{Var}
 use Rattle.zero_one_rows.specs.declared.program.Row.{Row}
-use Rattle.zero_one_rows.specs.declared.program.Row.TheVariants.{Flow, Cell, Support, Twenty, Block}
+use Rattle.zero_one_rows.specs.declared.program.Row.TheVariants.{Flow, Start, Cell, Support, Twenty, Block, Hatch, Weight, Apart}
 use Rattle.zero_one_rows.specs.Variables.{Voyage, place, kind, variables, var, no_var}
-use Rattle.zero_one_rows.specs.Rows.{half, covers, below, above, bit, turned, coef, is_twenty}
+use Rattle.zero_one_rows.specs.Rows.{half, covers, below, above, bit, turned, coef, is_twenty, active}
 use Rattle.zero_one_rows.proofs.Listing.{filter_at, filter_from, get_member, member_get}
-use Rattle.zero_one_model.specs.Indexed.{Touches}
-use Rattle.zero_one_lists.specs.Grouping.{with_key, IsGrouped}
-use Rattle.zero_one_model.specs.Indexed.{IsCandidates}
+use Rattle.program_rows.specs.Grouping.{with_key, IsGrouped}
+use Rattle.zero_one_model.specs.Indexed.{Touches, IsCandidates, other_of}
 use Rattle.program_rows.proofs.Rising.{Rising, rising_append, rising_filter, rising_range, rising_get}
 use Rattle.zero_one_model.proofs.Sized.{first_true, second_true}
 
@@ -25,7 +24,7 @@ get_any [] k d e l = absurd (omega arith)
 get_any (x ∷ xs) zero d e l = refl
 get_any (x ∷ xs) (suc k) d e l = get_any xs k d e (omega arith)
 
-get_mapped_or : {X Y : Type 0} (f : X → Y) (xs : List X) (k : ℕ) (d : X) (e : Y) → k < length xs → slice_index_or (map f xs) k e ≡ f (slice_index_or xs k d)
+pub get_mapped_or : {X Y : Type 0} (f : X → Y) (xs : List X) (k : ℕ) (d : X) (e : Y) → k < length xs → slice_index_or (map f xs) k e ≡ f (slice_index_or xs k d)
 get_mapped_or f [] k d e l = absurd (omega arith)
 get_mapped_or f (x ∷ xs) zero d e l = refl
 get_mapped_or f (x ∷ xs) (suc k) d e l = get_mapped_or f xs k d e (omega arith)
@@ -71,8 +70,8 @@ different x y l e = omega (arith, l, e)
 
 -- the variables of one key, and of two keys
 module _ (m : Voyage) (r : Row) (f : Var → ℕ) (n : ℕ) (groups : List (List ℕ)) (g : IsGrouped (map f (variables m)) n groups) where
-  pub two_keys : (j k : ℕ) → j < n → k < n → j ≢ k → ((v : ℕ) → Touches m r v → (f (var m v) ≡ j) ⊎ (f (var m v) ≡ k)) → IsCandidates m r (slice_index_or groups j [] ++ slice_index_or groups k [])
-  two_keys j k lj lk ne near = record {
+  apart_keys : (j k : ℕ) → j < n → k < n → j ≢ k → ((v : ℕ) → Touches m r v → (f (var m v) ≡ j) ⊎ (f (var m v) ≡ k)) → IsCandidates m r (slice_index_or groups j [] ++ slice_index_or groups k [])
+  apart_keys j k lj lk ne near = record {
     inside = all_from (λ (v : ℕ). v < length (variables m)) (slice_index_or groups j [] ++ slice_index_or groups k []) (λ v h. ⊎_elim
         (λ (a : Member v (slice_index_or groups j [])). (group_at f (variables m) no_var n j v groups g lj a).0)
         (λ (b : Member v (slice_index_or groups k [])). (group_at f (variables m) no_var n k v groups g lk b).0)
@@ -96,6 +95,12 @@ module _ (m : Voyage) (r : Row) (f : Var → ℕ) (n : ℕ) (groups : List (List
     once = λ a b d l q. rising_get (λ (x y : ℕ). x ≢ y) (slice_index_or groups k []) a b d
         (rising_weaker (λ (x y : ℕ). x < y) (λ (x y : ℕ). x ≢ y) (slice_index_or groups k []) different (group_rises (map f (variables m)) n k groups g lk)) l q;
   })
+
+  pub two_keys : (j k : ℕ) → j < n → k < n → ((v : ℕ) → Touches m r v → (f (var m v) ≡ j) ⊎ (f (var m v) ≡ k)) → IsCandidates m r (slice_index_or groups j [] ++ other_of groups j k)
+  two_keys j k lj lk near = ⊎_elim
+      (λ (e : k ≡ j). rw (eq-eqb k j e) (one_key j lj (λ v t. ⊎_elim (λ (a : f (var m v) ≡ j). a) (λ (b : f (var m v) ≡ k). b ∙ e) (near v t))))
+      (λ (ne : k ≡ j → ⊥). rw (ne_eqb k j ne) (apart_keys j k lj lk (λ q. ne (sym q)) near))
+      (cases_eq k j)
 
 -- a coefficient that isn't 0 shows where the variable stands
 flow_none : (q : ℕ) (a b : Bool) → turned q (bit (a && false) -ℤ bit (b && false)) ≡ pos 0
@@ -149,3 +154,39 @@ block_near m i h x ne = go (covers (place m x.place) (half m h)) (covers (place 
     go true b e f = inl e
     go false true e f = inr f
     go false false e f = absurd (ne (rw (e, f) refl))
+
+start_none : (q : ℕ) (a : Bool) → turned q (bit (a && false)) ≡ pos 0
+start_none zero true = refl
+start_none zero false = refl
+start_none (suc q) true = refl
+start_none (suc q) false = refl
+
+pub start_near : (m : Voyage) (q p : ℕ) (x : Var) → coef m (Start q p) x ≢ pos 0 → x.place ≡ p
+start_near m q p x h = ⊎_elim
+    (λ (e : x.place ≡ p). e)
+    (λ (ne : x.place ≡ p → ⊥). absurd (h (rw (ne_eqb x.place p ne) (start_none q (x.put == 0)))))
+    (cases_eq x.place p)
+
+pub hatch_near : (m : Voyage) (w j h d : ℕ) (x : Var) → coef m (Hatch w j h d) x ≢ pos 0 → (covers (place m x.place) (half m h) ≡ true) ⊎ (covers (place m x.place) (half m d) ≡ true)
+hatch_near m w j h d x ne = go (w == 0) (covers (place m x.place) (half m h)) (covers (place m x.place) (half m d)) refl refl refl
+  where
+    go : (z a b : Bool) → (w == 0) ≡ z → covers (place m x.place) (half m h) ≡ a → covers (place m x.place) (half m d) ≡ b → (covers (place m x.place) (half m h) ≡ true) ⊎ (covers (place m x.place) (half m d) ≡ true)
+    go z true b e f g = inl f
+    go z false true e f g = inr g
+    go true false false e f g = absurd (ne (rw (e, f, g) refl))
+    go false false false e f g = absurd (ne (rw (e, f, g) refl))
+
+pub weight_near : (m : Voyage) (i k : ℕ) (x : Var) → coef m (Weight i k) x ≢ pos 0 → (place m x.place).stack ≡ k
+weight_near m i k x h = ⊎_elim
+    (λ (e : (place m x.place).stack ≡ k). e)
+    (λ (ne : (place m x.place).stack ≡ k → ⊥). absurd (h (rw (ne_eqb (place m x.place).stack k ne) refl)))
+    (cases_eq (place m x.place).stack k)
+
+pub apart_near : (m : Voyage) (i e p q : ℕ) (x : Var) → coef m (Apart i e p q) x ≢ pos 0 → (x.place ≡ p) ⊎ (x.place ≡ q)
+apart_near m i e p q x h = ⊎_elim
+    (λ (a : x.place ≡ p). inl a)
+    (λ (np : x.place ≡ p → ⊥). ⊎_elim
+    (λ (b : x.place ≡ q). inr b)
+    (λ (nq : x.place ≡ q → ⊥). absurd (h (rw (ne_eqb x.place p np, ne_eqb x.place q nq) refl)))
+    (cases_eq x.place q))
+    (cases_eq x.place p)

@@ -7,7 +7,7 @@ ghost use Rattle.zero_one_model.specs.Building.{BuildsVariables};
 use crate::refusals::ModelNo;
 use std::alloc::Global;
 use stow_data::{Cargo, Kinds, Limit, Seq, Ship};
-use zero_one_lists::{gather_offers, list_variables};
+use program_rows::{gather_offers, list_variables};
 use zero_one_rows::Var;
 
 /// The greatest number of variables.

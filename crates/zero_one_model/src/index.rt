@@ -1,29 +1,38 @@
-//! The variables by kind and tier.
+//! The variables by kind, tier, stack and lot.
 ghost use Rattle.std.specs.Prelude.{◌≡◌, ℕ, ◌+◌, ◌*◌, ◌<◌, ◌≤◌, ◌^◌, IfOk, All, [], length, map, slice_index_or};
-ghost use Rattle.stow_data.specs.Ship.{places};
+ghost use Rattle.stow_data.specs.Ship.{halves, places};
 ghost use Rattle.stow_data.specs.Plans.{no_place};
-ghost use Rattle.zero_one_model.specs.Indexed.{shelf, place_shelf, IsIndexOf, NamesHalf, is_indexed, first_of, second_of};
+ghost use Rattle.zero_one_model.specs.Indexed.{shelf, lot, place_shelf, half_key, place_key, below_key, above_key, other_of, IsIndexOf, NamesCells, is_keyed, first_of, second_of};
 
+use program_rows::{Groups, group};
 use std::alloc::Global;
-use stow_data::{NoMemory, Seq, Ship, StackNo};
-use zero_one_lists::{Groups, group};
+use stow_data::{CallNo, HalfNo, KindNo, NoMemory, PlaceNo, Seq, Ship, StackNo};
 use zero_one_rows::{Row, Var, half_at, place_at, under};
 
 /// Tiers that a stack has at most.
 const TIERS: usize = 40;
 
-/// The variables of each kind and of each tier of a stack.
+/// The variables of each kind, of each tier of a stack, of each stack, and of each lot: what of a kind is put at a call.
 #[derive(Drop)]
 pub struct Index {
     pub by_kind: Groups,
     pub by_shelf: Groups,
+    pub by_stack: Groups,
+    pub by_lot: Groups,
 }
 
 /// The number of a tier of a stack.
-pub fn shelf_of(stack: StackNo, tier: u32) -> usize
+fn shelf_of(stack: StackNo, tier: u32) -> usize
     ensures { result ≡ shelf stack tier }
 {
     stack.0 as usize * TIERS + tier as usize
+}
+
+/// The number of a lot, where there are so many kinds.
+fn lot_of(kinds: u32, put: CallNo, kind: KindNo) -> usize
+    ensures { result ≡ lot kinds put kind }
+{
+    put.0 as usize * kinds as usize + kind.0 as usize
 }
 
 /// The kind of each variable.
@@ -50,80 +59,171 @@ fn shelf_keys(alloc: Global, ship: &Ship, vars: &[Var]) -> Result<Seq<usize>, No
     Ok(keys)
 }
 
-/// The index of a voyage's variables.
-pub fn index_of(alloc: Global, ship: &Ship, kinds: u32, vars: &[Var]) -> Result<Index, NoMemory>
-    requires places { All (λ v. v.place < length (places ship.now)) vars.now }
-    requires few { length vars.now ≤ 200000 }
-    ensures { IfOk result (λ x. IsIndexOf ship.now kinds vars.now x) }
+/// The stack in which each variable stands.
+fn stack_keys(alloc: Global, ship: &Ship, vars: &[Var]) -> Result<Seq<usize>, NoMemory>
+    requires { All (λ v. v.place < length (places ship.now)) vars.now }
+    ensures { IfOk result (λ keys. keys ≡ map (λ v. (slice_index_or (places ship.now) v.place no_place).stack) vars.now) }
 {
-    let shelves = ship.stacks() as usize * TIERS;
-    let by_kind = group(alloc, kind_keys(alloc, vars)?.as_slice(), kinds as usize)?;
-    let by_shelf = group(alloc, shelf_keys(alloc, ship, vars)?.as_slice(), shelves)?;
-    Ok(Index { by_kind, by_shelf })
+    let mut keys = Seq::new(alloc);
+    for x in vars {
+        keys.push(place_at(ship, x.place).stack.0 as usize)?;
+    }
+    Ok(keys)
 }
 
-/// Whether the index holds the variables of a row of this family.
-pub fn is_found(row: &Row) -> bool
-    ensures { result ≡ is_indexed row.now }
+/// The lot of each variable.
+fn lot_keys(alloc: Global, kinds: u32, vars: &[Var]) -> Result<Seq<usize>, NoMemory>
+    ensures { IfOk result (λ keys. keys ≡ map (λ v. lot kinds v.put v.kind) vars.now) }
+{
+    let mut keys = Seq::new(alloc);
+    for x in vars {
+        keys.push(lot_of(kinds, x.put, x.kind))?;
+    }
+    Ok(keys)
+}
+
+/// The index of a voyage's variables.
+pub fn index_of(
+    alloc: Global,
+    ship: &Ship,
+    calls: u32,
+    kinds: u32,
+    vars: &[Var],
+) -> Result<Index, NoMemory>
+    requires places { All (λ v. v.place < length (places ship.now)) vars.now }
+    requires few { length vars.now ≤ 200000 }
+    ensures { IfOk result (λ x. IsIndexOf ship.now calls kinds vars.now x) }
+{
+    let shelves = ship.stacks() as usize * TIERS;
+    let lots = calls as usize * kinds as usize;
+    let by_kind = group(alloc, kind_keys(alloc, vars)?.as_slice(), kinds as usize)?;
+    let by_shelf = group(alloc, shelf_keys(alloc, ship, vars)?.as_slice(), shelves)?;
+    let by_stack = group(alloc, stack_keys(alloc, ship, vars)?.as_slice(), ship.stacks() as usize)?;
+    let by_lot = group(alloc, lot_keys(alloc, kinds, vars)?.as_slice(), lots)?;
+    Ok(Index {
+        by_kind,
+        by_shelf,
+        by_stack,
+        by_lot,
+    })
+}
+
+/// Whether the variables of a row of this family are found by one or two keys.
+pub fn has_keys(row: &Row) -> bool
+    ensures { result ≡ is_keyed row.now }
 {
     match row {
         Row::Flow { .. }
+        | Row::Start { .. }
         | Row::Cell { .. }
         | Row::Support { .. }
         | Row::Twenty { .. }
-        | Row::Block { .. } => true,
-        Row::Start { .. }
+        | Row::Block { .. }
         | Row::Hatch { .. }
         | Row::Weight { .. }
-        | Row::Apart { .. }
-        | Row::Cross { .. } => false,
+        | Row::Apart { .. } => true,
+        Row::Cross { .. } => false,
     }
 }
 
+/// The tier of a place.
+fn key_of_place(ship: &Ship, p: PlaceNo) -> usize
+    requires { p < length (places ship.now) }
+    ensures { result ≡ place_key ship.now p }
+{
+    let place = place_at(ship, p);
+    shelf_of(place.stack, place.tier)
+}
+
+/// The tier of a half-cell.
+fn key_of_half(ship: &Ship, h: HalfNo) -> usize
+    requires { h < length (halves ship.now) }
+    ensures { result ≡ half_key ship.now h }
+{
+    let half = half_at(ship, h);
+    shelf_of(half.stack, half.tier)
+}
+
+/// The tier below a half-cell; that of the lowest one itself.
+fn key_below(ship: &Ship, h: HalfNo) -> usize
+    requires { h < length (halves ship.now) }
+    ensures { result ≡ below_key ship.now h }
+{
+    let half = under(half_at(ship, h));
+    shelf_of(half.stack, half.tier)
+}
+
+/// The tier above a half-cell.
+fn key_above(ship: &Ship, h: HalfNo) -> usize
+    requires { h < length (halves ship.now) }
+    ensures { result ≡ above_key ship.now h }
+{
+    let half = half_at(ship, h);
+    shelf_of(half.stack, half.tier) + 1
+}
+
+/// The group of a second key, unless it is the first.
+fn other(groups: &Groups, first: usize, second: usize) -> &[u32]
+    ensures { result.now ≡ other_of groups.now first second }
+{
+    if second == first {
+        return &[];
+    }
+    groups.of(second)
+}
+
 impl Index {
-    /// The variables of a row's kind, or of the tier of its half-cell.
+    /// The variables of a row's kind or stack, or of the tier of its first half-cell or place.
     pub fn first(&self, ship: &Ship, row: &Row) -> &[u32]
-        requires { NamesHalf ship.now row.now }
+        requires { NamesCells ship.now row.now }
         ensures { result.now ≡ first_of ship.now self.now row.now }
     {
         match row {
             Row::Flow { kind, .. } => self.by_kind.of(kind.0 as usize),
+            Row::Weight { stack, .. } => self.by_stack.of(stack.0 as usize),
+            Row::Start { place, .. } | Row::Apart { first: place, .. } => {
+                self.by_shelf.of(key_of_place(ship, *place))
+            }
             Row::Cell { half, .. }
             | Row::Support { half, .. }
             | Row::Twenty { half, .. }
-            | Row::Block { half, .. } => {
-                let h = half_at(ship, *half);
-                self.by_shelf.of(shelf_of(h.stack, h.tier))
-            }
-            Row::Start { .. }
-            | Row::Hatch { .. }
-            | Row::Weight { .. }
-            | Row::Apart { .. }
-            | Row::Cross { .. } => &[],
+            | Row::Block { half, .. }
+            | Row::Hatch { half, .. } => self.by_shelf.of(key_of_half(ship, *half)),
+            Row::Cross { .. } => &[],
         }
     }
 
-    /// The variables of the tier below or above, where a row speaks of it.
+    /// Those of the tier of the second half-cell or place, where the row speaks of two.
     pub fn second(&self, ship: &Ship, row: &Row) -> &[u32]
-        requires { NamesHalf ship.now row.now }
+        requires { NamesCells ship.now row.now }
         ensures { result.now ≡ second_of ship.now self.now row.now }
     {
+        let shelves = &self.by_shelf;
         match row {
             Row::Support { half, .. } | Row::Twenty { half, .. } => {
-                let h = under(half_at(ship, *half));
-                self.by_shelf.of(shelf_of(h.stack, h.tier))
+                other(shelves, key_of_half(ship, *half), key_below(ship, *half))
             }
             Row::Block { half, .. } => {
-                let h = half_at(ship, *half);
-                self.by_shelf.of(shelf_of(h.stack, h.tier) + 1)
+                other(shelves, key_of_half(ship, *half), key_above(ship, *half))
+            }
+            Row::Hatch { half, lowest, .. } => {
+                other(shelves, key_of_half(ship, *half), key_of_half(ship, *lowest))
+            }
+            Row::Apart { first, second, .. } => {
+                other(shelves, key_of_place(ship, *first), key_of_place(ship, *second))
             }
             Row::Flow { .. }
             | Row::Start { .. }
             | Row::Cell { .. }
-            | Row::Hatch { .. }
             | Row::Weight { .. }
-            | Row::Apart { .. }
             | Row::Cross { .. } => &[],
         }
+    }
+
+    /// The variables of a lot, where there are so many kinds.
+    pub fn lot(&self, kinds: u32, put: CallNo, kind: KindNo) -> &[u32]
+        ensures { result.now ≡ slice_index_or self.now.by_lot (lot kinds put kind) [] }
+    {
+        self.by_lot.of(lot_of(kinds, put, kind))
     }
 }

@@ -4,6 +4,7 @@
 mod boxes;
 mod building;
 mod index;
+mod lots;
 mod model;
 mod refusals;
 

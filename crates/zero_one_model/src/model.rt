@@ -1,13 +1,14 @@
 //! The built program.
-ghost use Rattle.std.specs.Prelude.{◌≡◌, ℕ, ◌+◌, ◌-◌, ◌*◌, ◌<◌, ◌≤◌, ◌≢◌, ◌^◌, ◌↔◌, true, length, slice_get, Some, IfOk, MatchOption, OnOk, All, ◌++◌, ◌∷◌, [], filter, cond, Contains, pos, unsigned_abs};
+ghost use Rattle.std.specs.Prelude.{◌≡◌, ℕ, ◌+◌, ◌-◌, ◌*◌, ◌<◌, ◌≤◌, ◌≢◌, ◌^◌, ◌↔◌, true, false, length, slice_get, Some, IfOk, MatchOption, OnOk, All, ◌++◌, ◌∷◌, [], filter, flat_map, cond, Contains, pos, unsigned_abs};
 ghost use Rattle.std.specs.List.{AllPairs, range_with_len};
 
 use crate::building::{MOST_ROWS, built_variables};
-use crate::index::{Index, index_of, is_found};
+use crate::index::{Index, has_keys, index_of};
+use crate::lots::may_touch;
 use crate::refusals::ModelNo;
 use program_rows::{RowLists, count_rows, list_rows};
 use std::alloc::Global;
-use stow_data::{Cargo, Kinds, Limit, NoMemory, Seq, Ship, VarNo, kinds};
+use stow_data::{CallNo, Cargo, KindNo, Kinds, Limit, NoMemory, Seq, Ship, VarNo, kinds};
 use zero_one_rows::{Row, RowList, Var, VarList};
 
 /// Appends a variable's number where it is wanted.
@@ -43,10 +44,11 @@ impl<'a> std::marker::Model for Model<'a> {
 }
 
 impl<'a> Model<'a> {
-    ghost use Rattle.zero_one_rows.specs.Variables.{Voyage, variables, var, all_kinds, is_rehandled};
+    ghost use Rattle.zero_one_rows.specs.declared.program.Var.{Var};
+    ghost use Rattle.zero_one_rows.specs.Variables.{Voyage, calls, variables, var, all_kinds, is_rehandled};
     ghost use Rattle.zero_one_rows.specs.Rows.{bit, coef, rhs, has, whole};
     ghost use Rattle.program_rows.specs.Counted.{base_rows, all_rows};
-    ghost use Rattle.zero_one_model.specs.Indexed.{Touches, stands, is_indexed};
+    ghost use Rattle.zero_one_model.specs.Indexed.{Touches, stands, is_keyed, lot_of};
     ghost use Rattle.zero_one_model.specs.Building.{Builds};
     ghost use Rattle.stow_data.specs.Ship.{places};
 
@@ -66,7 +68,7 @@ impl<'a> Model<'a> {
             });
         }
         let lists = list_rows(alloc, ship, cargo, &kinds)?;
-        let index = index_of(alloc, ship, kinds.len(), vars.as_slice())?;
+        let index = index_of(alloc, ship, cargo.calls(), kinds.len(), vars.as_slice())?;
         Ok(Model {
             ship,
             cargo,
@@ -206,7 +208,7 @@ impl<'a> Model<'a> {
         self.cost_of(self.var(x))
     }
 
-    /// Appends those of the variables whose coefficient in a row isn't 0.
+    /// Appends those of some variables whose coefficient in a row isn't 0.
     fn select(&self, list: &mut VarList, r: &Row, among: &[u32]) -> Result<(), NoMemory>
         requires row { (whole self.now).has r.now ≡ true }
         requires inside { All (λ v. v < length (variables self.now)) among.now }
@@ -219,39 +221,79 @@ impl<'a> Model<'a> {
         Ok(())
     }
 
-    /// Appends the variables whose coefficient in a row isn't 0.
-    fn select_all(&self, list: &mut VarList, r: &Row) -> Result<(), NoMemory>
-        requires { (whole self.now).has r.now ≡ true }
-        ensures { OnOk result (list.new ≡ list.old ++ filter (stands self.now r.now) (range_with_len 0 (length (variables self.now)))) }
+    fn may_touch_lot(&self, r: &Row, put: CallNo, kind: KindNo) -> bool
+        ghost m: { Voyage }
+        requires model { self.now ≡ m }
+        requires kind { kind < length (all_kinds m) }
+        ensures { result ≡ false → (x : Var) → x.put ≡ put → x.kind ≡ kind → coef m r.now x ≡ pos 0 }
     {
-        for v in 0..self.vars() {
-            self.select(list, r, &[v])?;
+        may_touch(&self.kinds, r, put, kind)
+    }
+
+    /// Appends those of a lot.
+    fn select_lot(
+        &self,
+        list: &mut VarList,
+        r: &Row,
+        put: CallNo,
+        kind: KindNo,
+    ) -> Result<(), NoMemory>
+        requires row { (whole self.now).has r.now ≡ true }
+        requires put { put < calls self.now }
+        requires kind { kind < length (all_kinds self.now) }
+        ensures { OnOk result (list.new ≡ list.old ++ filter (stands self.now r.now) (lot_of self.now put kind)) }
+    {
+        if !self.may_touch_lot(r, put, kind) {
+            return Ok(());
+        }
+        self.select(list, r, self.index.lot(self.kinds.len(), put, kind))
+    }
+
+    /// Appends those that are put at a call.
+    fn select_put(&self, list: &mut VarList, r: &Row, put: CallNo) -> Result<(), NoMemory>
+        requires row { (whole self.now).has r.now ≡ true }
+        requires put { put < calls self.now }
+        ensures { OnOk result (list.new ≡ list.old ++ filter (stands self.now r.now) (flat_map (lot_of self.now put) (range_with_len 0 (length (all_kinds self.now))))) }
+    {
+        for g in 0..self.kinds.len() {
+            self.select_lot(list, r, put, KindNo(g))?;
         }
         Ok(())
     }
 
-    /// The variables of a row of a family that the index holds.
-    fn found_vars(&self, alloc: Global, r: &Row) -> Result<VarList, NoMemory>
+    /// Appends those of all lots.
+    fn select_lots(&self, list: &mut VarList, r: &Row) -> Result<(), NoMemory>
+        requires { (whole self.now).has r.now ≡ true }
+        ensures { OnOk result (list.new ≡ list.old ++ filter (stands self.now r.now) (flat_map (λ put. flat_map (lot_of self.now put) (range_with_len 0 (length (all_kinds self.now)))) (range_with_len 0 (calls self.now)))) }
+    {
+        for put in 0..self.cargo.calls() {
+            self.select_put(list, r, CallNo(put))?;
+        }
+        Ok(())
+    }
+
+    /// The variables of a row, found by its one or two keys.
+    fn vars_by_keys(&self, alloc: Global, r: &Row) -> Result<VarList, NoMemory>
         requires row { (whole self.now).has r.now ≡ true }
-        requires found { is_indexed r.now ≡ true }
+        requires keyed { is_keyed r.now ≡ true }
         ensures each { IfOk result (λ xs. (x : ℕ) → Contains xs x ↔ Touches self.now r.now x) }
         ensures once { IfOk result (λ xs. AllPairs (λ x y. x ≢ y) xs) }
     {
-        let _places = self.ship.places();
+        self.ship.obeys_rules();
         let mut list = Seq::new(alloc);
         self.select(&mut list, r, self.index.first(self.ship, r))?;
         self.select(&mut list, r, self.index.second(self.ship, r))?;
         Ok(list)
     }
 
-    /// The variables of a row, of all that there are.
-    fn sought_vars(&self, alloc: Global, r: &Row) -> Result<VarList, NoMemory>
+    /// The variables of a row, found lot by lot.
+    fn vars_by_lots(&self, alloc: Global, r: &Row) -> Result<VarList, NoMemory>
         requires row { (whole self.now).has r.now ≡ true }
         ensures each { IfOk result (λ xs. (x : ℕ) → Contains xs x ↔ Touches self.now r.now x) }
         ensures once { IfOk result (λ xs. AllPairs (λ x y. x ≢ y) xs) }
     {
         let mut list = Seq::new(alloc);
-        self.select_all(&mut list, r)?;
+        self.select_lots(&mut list, r)?;
         Ok(list)
     }
 
@@ -261,10 +303,10 @@ impl<'a> Model<'a> {
         ensures each { IfOk result (λ xs. (x : ℕ) → Contains xs x ↔ Touches self.now r.now x) }
         ensures once { IfOk result (λ xs. AllPairs (λ x y. x ≢ y) xs) }
     {
-        if is_found(r) {
-            self.found_vars(alloc, r)
+        if has_keys(r) {
+            self.vars_by_keys(alloc, r)
         } else {
-            self.sought_vars(alloc, r)
+            self.vars_by_lots(alloc, r)
         }
     }
 

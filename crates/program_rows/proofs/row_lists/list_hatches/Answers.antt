@@ -1,7 +1,7 @@
 use Rattle.std.proofs.Common.{◌∙◌, ◌++◌, ap, sym, List}
 use Rattle.program_rows.specs.Counted.{hatches_of}
 use Rattle.program_rows.specs.declared.row_lists.HatchPair.{HatchPair}
-use Rattle.zero_one_lists.proofs.Added.{flat_more}
+use Rattle.program_rows.proofs.Added.{flat_more}
 use Rattle.program_rows.proofs.row_lists.list_hatches.Goals as goal
 
 pub loop-h-preserved : goal.loop-h-preserved

@@ -4,8 +4,8 @@ use Rattle.std.specs.List.{range_with_len}
 use Rattle.program_rows.specs.Counted.{near_by}
 use Rattle.program_rows.proofs.row_lists.list_near.Given as goal
 
-abbrev pub ghost-push_separation : goal.ghost-push_separation
-ghost-push_separation g a = g.m
+abbrev pub ghost-of : goal.ghost-of
+ghost-of g a = g.m
 
 abbrev pub invariant-loop-e : goal.invariant-loop-e
 invariant-loop-e g l = l.list ≡ flat_map (near_by g.m) (range_with_len 0 l.e)

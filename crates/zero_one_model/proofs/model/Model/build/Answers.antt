@@ -1,6 +1,6 @@
 use Rattle.std.proofs.Common.{ℕ, List, subst, ◌≡◌, ◌∙◌, ap, sym, length, arith, refl}
 use Rattle.zero_one_rows.specs.declared.program.Var.{Var}
-use Rattle.zero_one_rows.specs.Variables.{Voyage, all_kinds}
+use Rattle.zero_one_rows.specs.Variables.{Voyage, calls, all_kinds}
 use Rattle.zero_one_model.specs.Indexed.{IsIndexOf}
 use Rattle.zero_one_model.proofs.Selected.{places_in}
 use Rattle.program_rows.specs.Counted.{all_rows}
@@ -20,14 +20,16 @@ pub invariant_of-result : goal.invariant_of-result
 invariant_of-result c =
     let m : Voyage = record { ship = c.args.ship.now; cargo = c.args.cargo.now } in
     record {
+      arrival = c.requires.arrival;
       kinds = c.in_ok-kinds.ensures;
       vars = c.in_ok-vars.ensures.0;
       lists = c.in_ok-lists.ensures;
       base = c.count_rows-counts.ensures.base;
       rows = c.count_rows-counts.ensures.all;
       index =
-          let a : IsIndexOf c.args.ship.now (length (all_kinds m)) c.as_slice.result.now c.in_ok-index.index = subst (λ (n : ℕ). IsIndexOf c.args.ship.now n c.as_slice.result.now c.in_ok-index.index) (c.len.ensures ∙ ap length c.in_ok-kinds.ensures.list) c.in_ok-index.ensures in
-          subst (λ (xs : List Var). IsIndexOf c.args.ship.now (length (all_kinds m)) xs c.in_ok-index.index) (c.as_slice.ensures ∙ c.in_ok-vars.ensures.0) a;
+          let a : IsIndexOf c.args.ship.now c.calls.result (length (all_kinds m)) c.as_slice.result.now c.in_ok-index.index = subst (λ (n : ℕ). IsIndexOf c.args.ship.now c.calls.result n c.as_slice.result.now c.in_ok-index.index) (c.len.ensures ∙ ap length c.in_ok-kinds.ensures.list) c.in_ok-index.ensures in
+          let b : IsIndexOf c.args.ship.now (calls m) (length (all_kinds m)) c.as_slice.result.now c.in_ok-index.index = subst (λ (n : ℕ). IsIndexOf c.args.ship.now n (length (all_kinds m)) c.as_slice.result.now c.in_ok-index.index) c.calls.ensures.number a in
+          subst (λ (xs : List Var). IsIndexOf c.args.ship.now (calls m) (length (all_kinds m)) xs c.in_ok-index.index) (c.as_slice.ensures ∙ c.in_ok-vars.ensures.0) b;
       within = record { vars = c.in_ok-vars.ensures.1; rows = omega (arith, c.count_rows-counts.ensures.all, c.if-counts-gt-MOST_ROWS.false) };
     }
 

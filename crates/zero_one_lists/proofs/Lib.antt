@@ -1,4 +1,0 @@
-pub mod Filters
-pub mod Grouped
-pub mod Offered
-pub mod Added
