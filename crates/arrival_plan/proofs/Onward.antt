@@ -49,19 +49,19 @@ first_call_is : (rotation : List (List ℕ)) (port : List ℕ) (call : ℕ) → 
 unfolding first_call
 first_call_is rotation port call h = call_is rotation port (position (λ name. bytes_eq name port) rotation) call (first_is rotation port) h
 
-has_number : (ship : Ship) (cell : ℕ × ℕ × ℕ) (p : ℕ) → place_of ship cell ≡ Some p → HasNumber ship p cell
+pub has_number : (ship : Ship) (cell : ℕ × ℕ × ℕ) (p : ℕ) → place_of ship cell ≡ Some p → HasNumber ship p cell
 unfolding place_of
 has_number ship cell p h =
     let at = position-Some (λ place. is_same_cell (cell_of ship place) cell) (places ship) p no_place h in
     number_from ship cell p (get_or (places ship) p no_place) (slice_get-get_or (places ship) p no_place at.0) at.1
 
-record IsOf (ship : Ship) (bookings : Bookings) (i : ℕ) (g : CellGroup) (f : Facts) (p : Placed) : Type 0 where
-  call : ℕ
-  first : IsFirstCall bookings.rotation f.dest call
-  container : p.container ≡ container_of i f call
-  cell : HasNumber ship p.place (g.bay, g.row, g.tier)
+pub record IsOf (ship : Ship) (bookings : Bookings) (i : ℕ) (g : CellGroup) (f : Facts) (p : Placed) : Type 0 where
+  pub call : ℕ
+  pub first : IsFirstCall bookings.rotation f.dest call
+  pub container : p.container ≡ container_of i f call
+  pub cell : HasNumber ship p.place (g.bay, g.row, g.tier)
 
-is_of : (ship : Ship) (bookings : Bookings) (before : Stowage) (i : ℕ) (g : CellGroup) (f : Facts) (p : Placed) → placed ship bookings before i g f ≡ Ok p → IsOf ship bookings i g f p
+pub is_of : (ship : Ship) (bookings : Bookings) (before : Stowage) (i : ℕ) (g : CellGroup) (f : Facts) (p : Placed) → placed ship bookings before i g f ≡ Ok p → IsOf ship bookings i g f p
 unfolding placed
 is_of ship bookings before i g f p h =
     let cell : ℕ × ℕ × ℕ = (g.bay, g.row, g.tier) in

@@ -49,17 +49,17 @@ set_get [] i x y h = absurd (none-some y h)
 set_get (z ∷ zs) zero x y h = sym (same_Some x y h)
 set_get (z ∷ zs) (suc i) x y h = set_get zs i x y h
 
-get_replicated : {X : Type 0} (n k : ℕ) (x y : X) → slice_get (replicate n x) k ≡ Some y → y ≡ x
+pub get_replicated : {X : Type 0} (n k : ℕ) (x y : X) → slice_get (replicate n x) k ≡ Some y → y ≡ x
 get_replicated zero k x y h = absurd (none-some y h)
 get_replicated (suc n) zero x y h = sym (same_Some x y h)
 get_replicated (suc n) (suc k) x y h = get_replicated n k x y h
 
-length_replicated : {X : Type 0} (n : ℕ) (x : X) → length (replicate n x) ≡ n
+pub length_replicated : {X : Type 0} (n : ℕ) (x : X) → length (replicate n x) ≡ n
 length_replicated zero x = refl
 length_replicated (suc n) x = ap suc (length_replicated n x)
 
 -- what stands after a put: the container that was put, or what stood elsewhere
-put_from : (plan : Plan) (p c q d : ℕ) → Holds (slice_set plan p (Some c)) q d → ((q ≡ p) × (d ≡ c)) ⊎ ((q ≡ p → ⊥) × Holds plan q d)
+pub put_from : (plan : Plan) (p c q d : ℕ) → Holds (slice_set plan p (Some c)) q d → ((q ≡ p) × (d ≡ c)) ⊎ ((q ≡ p → ⊥) × Holds plan q d)
 put_from plan p c q d h = ⊎_elim
     (λ (e : q ≡ p). inl (e, same_Some d c (set_get plan p (Some c) (Some d) (subst (λ (n : ℕ). slice_get (slice_set plan p (Some c)) n ≡ Some (Some d)) e h))))
     (λ (ne : q ≡ p → ⊥). inr (ne, sym (slice_get-set_other plan p q (Some c) ne) ∙ h))
@@ -69,7 +69,7 @@ or_false : (a b : Bool) → (a || b) ≡ false → (a ≡ false) × (b ≡ false
 or_false true b h = absurd (both_ways true h refl)
 or_false false b h = (refl, h)
 
-some_side : (span : Span) → (side : Bool) × TakesSide span side
+pub some_side : (span : Span) → (side : Bool) × TakesSide span side
 some_side Fore = (false, refl)
 some_side Aft = (true, refl)
 some_side Both = (false, tt)

@@ -9,6 +9,7 @@ mod law;
 mod settling;
 mod stowage;
 
+pub use cells::{is_taken, place_of, takes};
 pub use faults::ArrivalFault;
 pub use law::{none_left_ashore, read_can_be_settled};
 pub use settling::settle;

@@ -11,7 +11,8 @@ use Rattle.stow_data.specs.Shipment.{Cargo}
 use Rattle.stow_data.proofs.Members.{range-more as range-more-one}
 use Rattle.bookings.specs.declared.shipment.Bookings.{Bookings}
 use Rattle.stow_data.specs.Plans.{Plan, held}
-use Rattle.plan_files.specs.DepartureFile.{Group, group_at}
+use Rattle.plan_files.specs.DepartureFile.{group_at}
+use Rattle.baplie_model.specs.declared.parts.CellGroup.{CellGroup}
 
 pub compose_more : {B : Type 0} (f : B → List ℕ) (xs : List B) (i : ℕ) (d : B) (front list new : List (List (List ℕ))) → i < length xs → list ≡ front ++ map f (take i xs) ∷ [] → new ≡ on_last (λ e. e ++ f (get_or xs i d) ∷ []) list → new ≡ front ++ map f (take (i + 1) xs) ∷ []
 compose_more f xs i d front list new l e m =
@@ -22,11 +23,11 @@ pub pushed : {X : Type 0} (x : X) (list new more : List X) → new ≡ list ++ x
 pushed x list new more e = ap (λ z. z ++ more) e ∙ append_assoc list (x ∷ []) more
 
 -- the groups of the places below a number
-abbrev pub groups_below : Ship → Cargo → Bookings → Plan → ℕ → List Group
-groups_below ship cargo bookings plan n = flat_map (λ p. group_at ship cargo bookings p (held plan p)) (range_with_len 0 n)
+abbrev pub groups_below : Ship → Cargo → Bookings → List CellGroup → Plan → ℕ → List CellGroup
+groups_below ship cargo bookings arrived plan n = flat_map (λ p. group_at ship cargo bookings arrived p (held plan p)) (range_with_len 0 n)
 
-pub groups_more : (ship : Ship) (cargo : Cargo) (bookings : Bookings) (plan : Plan) (n : ℕ) → groups_below ship cargo bookings plan (n + 1) ≡ groups_below ship cargo bookings plan n ++ group_at ship cargo bookings n (held plan n)
-groups_more ship cargo bookings plan n =
-    let f = λ (p : ℕ). group_at ship cargo bookings p (held plan p) in
+pub groups_more : (ship : Ship) (cargo : Cargo) (bookings : Bookings) (arrived : List CellGroup) (plan : Plan) (n : ℕ) → groups_below ship cargo bookings arrived plan (n + 1) ≡ groups_below ship cargo bookings arrived plan n ++ group_at ship cargo bookings arrived n (held plan n)
+groups_more ship cargo bookings arrived plan n =
+    let f = λ (p : ℕ). group_at ship cargo bookings arrived p (held plan p) in
     let z : 0 + n ≡ n = omega arith in
-    ap (flat_map f) (range-more-one 0 n) ∙ flat_map-append f (range_with_len 0 n) ((0 + n) ∷ []) ∙ ap (λ (k : ℕ). groups_below ship cargo bookings plan n ++ (f k ++ [])) z ∙ ap (λ (x : List Group). groups_below ship cargo bookings plan n ++ x) (append-nil (f n))
+    ap (flat_map f) (range-more-one 0 n) ∙ flat_map-append f (range_with_len 0 n) ((0 + n) ∷ []) ∙ ap (λ (k : ℕ). groups_below ship cargo bookings arrived plan n ++ (f k ++ [])) z ∙ ap (λ (x : List CellGroup). groups_below ship cargo bookings arrived plan n ++ x) (append-nil (f n))

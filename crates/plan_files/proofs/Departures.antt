@@ -1,13 +1,9 @@
 -- The departure file of a call is the text of a message that can be written.
-use Rattle.std.proofs.Common.{◌≡◌, ℕ, ◌+◌, ◌^◌, ◌≤◌, ◌<◌, List, [], ◌∷◌, ◌++◌, length, length-append, map, codes, refl, sym, ap, subst, ◌∙◌, arith}
-use Rattle.std.proofs.lemmas.List.Elements.{All-nil, All-cons, All-append}
-use Rattle.std.proofs.lemmas.Fmt.{decimal_digit}
+use Rattle.std.proofs.Common.{◌≡◌, ℕ, ◌+◌, ◌^◌, ◌≤◌, ◌<◌, List, ◌∷◌, ◌++◌, length, length-append, map, codes, refl, ap, ◌∙◌, arith}
+use Rattle.std.proofs.lemmas.List.Elements.{All-cons, All-append}
 use Rattle.std.specs.Prelude.{All}
-use Rattle.std.specs.Fmt.{decimal}
-use Rattle.std.specs.List.{flat_map, list_any}
-use Rattle.edifact_segments.specs.Canonical.{canonical}
+use Rattle.std.specs.List.{list_any}
 use Rattle.edifact_segments.specs.ReadBack.{IsWritable}
-use Rattle.edifact_segments.specs.Written.{written}
 use Rattle.edifact_segments.specs.declared.segments.Segment.{Segment}
 use Rattle.stow_data.specs.Shipment.{Cargo}
 use Rattle.bookings.specs.declared.shipment.Bookings.{Bookings}
@@ -18,24 +14,16 @@ use Rattle.baplie_model.specs.Groups.{cell_group}
 use Rattle.baplie_model.specs.Segments.{closes}
 use Rattle.baplie_model.specs.Messages.{IsMessageOf}
 use Rattle.plan_files.specs.DepartureFile as file
-use Rattle.plan_files.specs.DepartureFile.{Group, port_of, group_segments, file_text, cell_group_of, message_of}
-use Rattle.plan_files.specs.DepartureSegments.{one, unb, unh, bgm, dtm, tdt, loc, cell_segment, mea, temperature_segments, rff, eqd, goods_segments}
+use Rattle.plan_files.specs.DepartureFile.{port_of, file_text, message_of}
+use Rattle.plan_files.specs.DepartureSegments.{unb, unh, bgm, dtm, tdt, loc}
 use Rattle.baplie_write.specs.Whole.{IsWhole, content, segments_of}
 use Rattle.baplie_write.proofs.Built.{AreParts, read_by_parts}
 use Rattle.baplie_write.proofs.Parts.{interchange}
-use Rattle.plan_files.proofs.Groups.{all_told, head-groups, groups-groups, open-groups, length-groups}
-use Rattle.plan_files.proofs.Quiet.{IsBookedGroup, AllBooked, groups_quiet}
+use Rattle.plan_files.proofs.Good.{AllGood, joined, all_told, groups_quiet, groups-writable, head-groups, groups-groups, open-groups}
 use Rattle.plan_files.proofs.Texts.{IsText, IsDate, closed}
-use Rattle.plan_files.proofs.Writable.{EachWritable, writable-append, writable-unb, writable-unh, writable-bgm, writable-dtm, writable-tdt, writable-loc, writable-cell, writable-mea, writable-temperature, writable-rff, writable-eqd, writable-goods}
+use Rattle.plan_files.proofs.Writable.{all_writable, writable-unb, writable-unh, writable-bgm, writable-dtm, writable-tdt, writable-loc}
 
--- ## The content
-
-kept-segments : (gs : List Group) → flat_map (λ (g : CellGroup). g.segments) (map cell_group_of gs) ≡ flat_map group_segments gs
-kept-segments [] = refl
-kept-segments (g ∷ gs) = ap (λ xs. group_segments g ++ xs) (kept-segments gs)
-
-content-is : (cargo : Cargo) (bookings : Bookings) (call : ℕ) (gs : List Group) → content (message_of cargo bookings call gs) ≡ file.head cargo bookings call ++ flat_map group_segments gs
-content-is cargo bookings call gs = ap (λ xs. file.head cargo bookings call ++ xs) (kept-segments gs)
+-- ## The head
 
 -- none of the six opens a group, and none closes
 front-head : (cargo : Cargo) (bookings : Bookings) (call : ℕ) (xs : List Segment) → faults.head (file.head cargo bookings call ++ xs) ≡ file.head cargo bookings call ++ faults.head xs
@@ -63,10 +51,6 @@ pub record IsBookedHead (cargo : Cargo) (bookings : Bookings) (call : ℕ) : Typ
   pub next : IsText 35 (port_of cargo (call + 1))
   pub small : call < 2 ^ 64
 
-all_writable : (xs : List Segment) → EachWritable xs → All IsWritable xs
-all_writable [] w = All-nil IsWritable
-all_writable (x ∷ xs) w = All-cons IsWritable x xs w.0 (all_writable xs w.1)
-
 front-writable : (cargo : Cargo) (bookings : Bookings) (call : ℕ) → IsBookedHead cargo bookings call → All IsWritable (file.head cargo bookings call)
 unfolding file.head
 front-writable cargo bookings call h = all_writable (file.head cargo bookings call) (
@@ -86,52 +70,33 @@ front-writable cargo bookings call h = all_writable (file.head cargo bookings ca
   ),
 )
 
-group-writable : (g : Group) → IsBookedGroup g → All IsWritable (group_segments g)
-unfolding group_segments
-group-writable g p =
-    let b = g.booking in
-    let last : EachWritable (eqd g.cell.id b.iso b.empty ∷ goods_segments b.class b.unno) = (writable-eqd g.cell.id b.iso b.empty p.identified.some p.typed.some p.identified.calm p.typed.calm, writable-goods b.class b.unno p.classed) in
-    let ports : EachWritable (loc (codes "9") g.load_port ∷ loc (codes "11") g.cell.port ∷ rff ∷ eqd g.cell.id b.iso b.empty ∷ goods_segments b.class b.unno) =
-    (writable-loc (codes "9") g.load_port (omega arith) (closed (codes "9") refl) p.loaded.calm, (writable-loc (codes "11") g.cell.port (omega arith) (closed (codes "11") refl) p.discharged.calm, (writable-rff, last))) in
-    all_writable (group_segments g) (
-      writable-cell (g.cell.bay, g.cell.row, g.cell.tier),
-      (writable-mea b.vgm g.kg (omega (arith, p.kg)), writable-append (temperature_segments b.temperature) _ (writable-temperature b.temperature p.temperature_from p.temperature_to) ports),
-    )
-
-groups-writable : (gs : List Group) → AllBooked gs → All IsWritable (flat_map group_segments gs)
-groups-writable [] p = All-nil IsWritable
-groups-writable (g ∷ gs) p = All-append IsWritable (group_segments g) (flat_map group_segments gs) (group-writable g p.0) (groups-writable gs p.1)
-
-are_parts : (cargo : Cargo) (bookings : Bookings) (call : ℕ) (gs : List Group) → IsBookedHead cargo bookings call → AllBooked gs → length gs ≤ 3000 → AreParts (message_of cargo bookings call gs)
+are_parts : (cargo : Cargo) (bookings : Bookings) (call : ℕ) (gs : List CellGroup) → IsBookedHead cargo bookings call → AllGood gs → length (joined gs) ≤ 2 ^ 29 + 24000 → AreParts (message_of cargo bookings call gs)
 unfolding unh file.head
 are_parts cargo bookings call gs h p few =
-    let is = content-is cargo bookings call gs in
-    let head : faults.head (content (message_of cargo bookings call gs)) ≡ file.head cargo bookings call = ap faults.head is ∙ front-head cargo bookings call (flat_map group_segments gs) ∙ ap (λ xs. file.head cargo bookings call ++ xs) (head-groups gs) in
-    let groups : faults.groups (content (message_of cargo bookings call gs)) ≡ map group_segments gs = ap faults.groups is ∙ front-groups cargo bookings call (flat_map group_segments gs) ∙ groups-groups gs in
+    let head : faults.head (content (message_of cargo bookings call gs)) ≡ file.head cargo bookings call = front-head cargo bookings call (joined gs) ∙ ap (λ xs. file.head cargo bookings call ++ xs) (head-groups gs p) in
+    let groups : faults.groups (content (message_of cargo bookings call gs)) ≡ map (λ (g : CellGroup). g.segments) gs = front-groups cargo bookings call (joined gs) ∙ groups-groups gs p in
     record {
       titled = refl;
-      open_content = ap (λ xs. list_any closes xs) is ∙ front-open cargo bookings call (flat_map group_segments gs) ∙ open-groups gs;
+      open_content = front-open cargo bookings call (joined gs) ∙ open-groups gs p;
       head_is = head;
       groups_are = ap (λ xs. map cell_group xs) groups ∙ all_told gs p;
       faultless_groups = ap (λ xs. groups_fault (3 + length (faults.head (content (message_of cargo bookings call gs)))) xs) groups ∙ groups_quiet gs (3 + length (faults.head (content (message_of cargo bookings call gs)))) p;
-      few = omega (arith, ap length is, length-append (file.head cargo bookings call) (flat_map group_segments gs), length-groups gs);
+      few = omega (arith, length-append (file.head cargo bookings call) (joined gs));
       canonical_title = writable-unh.1;
       canonical_service = (writable-unb bookings call h.dated h.sender h.recipient h.small).1;
     }
 
-pub is_whole : (cargo : Cargo) (bookings : Bookings) (call : ℕ) (gs : List Group) → IsBookedHead cargo bookings call → AllBooked gs → length gs ≤ 3000 → IsWhole (message_of cargo bookings call gs)
+pub is_whole : (cargo : Cargo) (bookings : Bookings) (call : ℕ) (gs : List CellGroup) → IsBookedHead cargo bookings call → AllGood gs → length (joined gs) ≤ 2 ^ 29 + 24000 → IsWhole (message_of cargo bookings call gs)
 unfolding unb
 is_whole cargo bookings call gs h p few =
-    let Q : List Segment → Type 0 = λ xs. All IsWritable xs in
-    let all : All IsWritable (content (message_of cargo bookings call gs)) =
-    subst Q (sym (content-is cargo bookings call gs)) (All-append IsWritable (file.head cargo bookings call) (flat_map group_segments gs) (front-writable cargo bookings call h) (groups-writable gs p)) in
+    let all : All IsWritable (content (message_of cargo bookings call gs)) = All-append IsWritable (file.head cargo bookings call) (joined gs) (front-writable cargo bookings call h) (groups-writable gs p) in
     record {
       headed = refl;
       writable = All-cons IsWritable (unb bookings call) (unh ∷ content (message_of cargo bookings call gs)) (writable-unb bookings call h.dated h.sender h.recipient h.small) (All-cons IsWritable unh (content (message_of cargo bookings call gs)) writable-unh all);
       read = read_by_parts (message_of cargo bookings call gs) (are_parts cargo bookings call gs h p few);
     }
 
-pub reads_as : (cargo : Cargo) (bookings : Bookings) (call : ℕ) (gs : List Group) → IsWhole (message_of cargo bookings call gs) → IsMessageOf (file_text cargo bookings call gs) (message_of cargo bookings call gs)
+pub reads_as : (cargo : Cargo) (bookings : Bookings) (call : ℕ) (gs : List CellGroup) → IsWhole (message_of cargo bookings call gs) → IsMessageOf (file_text cargo bookings call gs) (message_of cargo bookings call gs)
 unfolding file_text
 reads_as cargo bookings call gs w =
     let m = message_of cargo bookings call gs in

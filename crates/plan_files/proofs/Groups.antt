@@ -1,22 +1,22 @@
--- The groups of a departure file tell their containers, and are cut where they begin.
-use Rattle.std.proofs.Common.{◌≡◌, ℕ, ◌*◌, ◌≤◌, Bool, true, false, cond, List, [], ◌∷◌, ◌++◌, length, length-append, map, codes, ℤ, Option, Some, None, IfSome, refl, ap, ◌∙◌, arith}
-use Rattle.std.specs.Prelude.{find, is_some, unwrap_or}
-use Rattle.std.proofs.lemmas.List.{append-nil}
-use Rattle.std.specs.List.{flat_map, list_any}
+-- The group of a booked container tells it, and is read without a fault.
+use Rattle.std.proofs.Common.{◌≡◌, ℕ, ◌≤◌, Bool, true, false, cond, List, [], ◌∷◌, ◌++◌, length, codes, ℤ, Option, Some, None, IfSome, refl, ap, ◌∙◌, arith}
+use Rattle.std.specs.Prelude.{All, find, is_some, unwrap_or}
+use Rattle.std.specs.List.{list_any}
+use Rattle.edifact_segments.specs.ReadBack.{IsWritable}
 use Rattle.edifact_segments.specs.declared.segments.Segment.{Segment}
 use Rattle.bookings.specs.declared.shipment.Booking.{Booking}
-use Rattle.baplie_model.specs.Faults.{head, groups}
 use Rattle.baplie_model.specs.Groups.{cell_group, cell_in, class_from, class_in, facts_from, is_long, long_of_bay, name_of, text_in, weight_in}
 use Rattle.baplie_model.specs.Segments.{closes, element, is_container, is_cooled, is_one, names_port, opens}
 use Rattle.baplie_model.specs.Texts.{cell_of, long_of}
 use Rattle.baplie_model.specs.declared.parts.CellGroup.{CellGroup}
+use Rattle.baplie_model.proofs.CellDigits.{cell-known}
 use Rattle.plan_files.specs.DepartureFile.{Group, group_segments, cell_group_of}
 use Rattle.plan_files.specs.DepartureSegments.{loc, cell_text, cell_segment, mea, tmp, temperature_segments, rff, eqd, dgs, goods_segments}
-use Rattle.baplie_write.proofs.Scans.{neither, any-append}
-use Rattle.baplie_model.proofs.CellDigits.{cell-known}
+use Rattle.plan_files.proofs.Good.{IsGood}
 use Rattle.plan_files.proofs.Known.{weight-known}
-use Rattle.plan_files.proofs.Quiet.{IsBookedGroup, AllBooked, not_long, parts}
-use Rattle.plan_files.proofs.Texts.{IsText}
+use Rattle.plan_files.proofs.Quiet.{IsBookedGroup, group_quiet, not_long, parts}
+use Rattle.plan_files.proofs.Texts.{IsText, closed}
+use Rattle.plan_files.proofs.Writable.{EachWritable, all_writable, writable-append, writable-loc, writable-cell, writable-mea, writable-temperature, writable-rff, writable-eqd, writable-goods}
 
 named : (t : List ℕ) → is_long t ≡ false → name_of t ≡ t
 named t h = ap (λ x. cond x [] t) h
@@ -115,11 +115,7 @@ told g p = ap with_container (found-container number b.vgm g.kg b.temperature g.
     dest : name_of (text_in (find names_port whole) 2 1) ≡ g.cell.port
     dest = found-port number b.vgm g.kg b.temperature g.load_port g.cell.port g.cell.id b.iso b.empty b.class b.unno p.discharged
 
-pub all_told : (gs : List Group) → AllBooked gs → map cell_group (map group_segments gs) ≡ map cell_group_of gs
-all_told [] p = refl
-all_told (g ∷ gs) p = ap (λ x. x ∷ map cell_group (map group_segments gs)) (told g p.0) ∙ ap (λ xs. cell_group_of g ∷ xs) (all_told gs p.1)
-
--- ## The cuts
+-- ## The segments behind the first
 
 -- the segments of a group behind the first
 abbrev behind : Bool → ℕ → Option ℤ → List ℕ → List ℕ → List ℕ → List ℕ → Bool → Option (List ℕ) → ℕ → List Segment
@@ -150,45 +146,40 @@ few-behind vgm kg None load port id iso empty (Some c) unno = omega arith
 few-behind vgm kg (Some z) load port id iso empty None unno = omega arith
 few-behind vgm kg (Some z) load port id iso empty (Some c) unno = omega arith
 
--- segments that open no group
-head-past : (xs ys : List Segment) → list_any opens xs ≡ false → head (xs ++ ys) ≡ xs ++ head ys
-head-past [] ys h = refl
-head-past (x ∷ xs) ys h =
-    let p = neither (opens x) (list_any opens xs) h in
-    ap (λ t. cond t [] (x ∷ head (xs ++ ys))) p.0 ∙ ap (λ zs. x ∷ zs) (head-past xs ys p.1)
-
-groups-past : (xs ys : List Segment) → list_any opens xs ≡ false → groups (xs ++ ys) ≡ groups ys
-groups-past [] ys h = refl
-groups-past (x ∷ xs) ys h =
-    let p = neither (opens x) (list_any opens xs) h in
-    ap (λ t. cond t ((x ∷ head (xs ++ ys)) ∷ groups (xs ++ ys)) (groups (xs ++ ys))) p.0 ∙ groups-past xs ys p.1
-
-pub head-groups : (gs : List Group) → head (flat_map group_segments gs) ≡ []
-unfolding group_segments cell_segment
-head-groups [] = refl
-head-groups (g ∷ gs) = refl
-
-pub groups-groups : (gs : List Group) → groups (flat_map group_segments gs) ≡ map group_segments gs
-unfolding group_segments cell_segment
-groups-groups [] = refl
-groups-groups (g ∷ gs) =
-    let b = g.booking in
-    let first = cell_segment (g.cell.bay, g.cell.row, g.cell.tier) in
-    let more = flat_map group_segments gs in
-    let shut = none-opens b.vgm g.kg b.temperature g.load_port g.cell.port g.cell.id b.iso b.empty b.class b.unno in
-    ap (λ xs. (first ∷ xs) ∷ groups (others g ++ more)) (head-past (others g) more shut ∙ ap (λ xs. others g ++ xs) (head-groups gs) ∙ append-nil (others g))
-    ∙ ap (λ xs. (first ∷ others g) ∷ xs) (groups-past (others g) more shut ∙ groups-groups gs)
-
-pub open-groups : (gs : List Group) → list_any closes (flat_map group_segments gs) ≡ false
-unfolding group_segments cell_segment
-open-groups [] = refl
-open-groups (g ∷ gs) =
-    let b = g.booking in
-    any-append closes (others g) (flat_map group_segments gs) (none-closes b.vgm g.kg b.temperature g.load_port g.cell.port g.cell.id b.iso b.empty b.class b.unno) (open-groups gs)
-
-pub length-groups : (gs : List Group) → length (flat_map group_segments gs) ≤ 8 * length gs
+group-writable : (g : Group) → IsBookedGroup g → All IsWritable (group_segments g)
 unfolding group_segments
-length-groups [] = omega arith
-length-groups (g ∷ gs) =
+group-writable g p =
     let b = g.booking in
-    omega (arith, length-append (others g) (flat_map group_segments gs), few-behind b.vgm g.kg b.temperature g.load_port g.cell.port g.cell.id b.iso b.empty b.class b.unno, length-groups gs)
+    let last : EachWritable (eqd g.cell.id b.iso b.empty ∷ goods_segments b.class b.unno) = (writable-eqd g.cell.id b.iso b.empty p.identified.some p.typed.some p.identified.calm p.typed.calm, writable-goods b.class b.unno p.classed) in
+    let ports : EachWritable (loc (codes "9") g.load_port ∷ loc (codes "11") g.cell.port ∷ rff ∷ eqd g.cell.id b.iso b.empty ∷ goods_segments b.class b.unno) =
+    (writable-loc (codes "9") g.load_port (omega arith) (closed (codes "9") refl) p.loaded.calm, (writable-loc (codes "11") g.cell.port (omega arith) (closed (codes "11") refl) p.discharged.calm, (writable-rff, last))) in
+    all_writable (group_segments g) (
+      writable-cell (g.cell.bay, g.cell.row, g.cell.tier),
+      (writable-mea b.vgm g.kg (omega (arith, p.kg)), writable-append (temperature_segments b.temperature) _ (writable-temperature b.temperature p.temperature_from p.temperature_to) ports),
+    )
+
+-- a container of bookings in its cell
+pub booked_good : (g : Group) → IsBookedGroup g → IsGood (cell_group_of g)
+unfolding group_segments cell_segment
+booked_good g p =
+    let b = g.booking in
+    record {
+      cut = record {
+        first = cell_segment (g.cell.bay, g.cell.row, g.cell.tier);
+        others = others g;
+        begins = refl;
+        opening = refl;
+        first_open = refl;
+        shut = none-opens b.vgm g.kg b.temperature g.load_port g.cell.port g.cell.id b.iso b.empty b.class b.unno;
+        open_end = none-closes b.vgm g.kg b.temperature g.load_port g.cell.port g.cell.id b.iso b.empty b.class b.unno;
+        writable = group-writable g p;
+      };
+      told = told g p;
+      quiet = λ n. group_quiet g n p;
+    }
+
+pub few_segments : (g : Group) → length (group_segments g) ≤ 8
+unfolding group_segments
+few_segments g =
+    let b = g.booking in
+    omega (arith, few-behind b.vgm g.kg b.temperature g.load_port g.cell.port g.cell.id b.iso b.empty b.class b.unno)

@@ -1,11 +1,11 @@
 -- What the cell and the weight of a group of a departure file read as.
-use Rattle.std.proofs.Common.{◌≡◌, ℕ, ◌+◌, ◌*◌, ◌/◌, ◌^◌, ◌≤◌, ◌<◌, ◌&&◌, Bool, true, false, not, cond, List, [], ◌∷◌, length, Option, Some, None, refl, ap, ◌∙◌, arith}
+use Rattle.std.proofs.Common.{◌≡◌, ℕ, ◌+◌, ◌^◌, ◌≤◌, ◌<◌, Bool, true, false, not, cond, List, [], ◌∷◌, length, Option, Some, None, refl, ap, ◌∙◌, arith}
 use Rattle.std.proofs.lemmas.Bool.{eq-eqb, le-leb}
 use Rattle.std.proofs.lemmas.Bool.Decides.{nat_tests}
 use Rattle.std.proofs.lemmas.Fmt.{digits_decimal}
 use Rattle.std.specs.Fmt.{decimal}
 use Rattle.std.specs.List.{list_all, position_or_len}
-use Rattle.baplie_model.specs.Texts.{is_digit, digit_of, cell_of, is_mark, number_of, read_at, at_most, weight_of}
+use Rattle.baplie_model.specs.Texts.{is_digit, is_mark, number_of, read_at, at_most, weight_of}
 use Rattle.baplie_write.proofs.Counts.{both, numerals, number_of-decimal}
 
 -- digits have no decimal mark

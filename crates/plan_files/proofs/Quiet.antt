@@ -1,15 +1,14 @@
 -- The segments of a group of a departure file are no fault.
-use Rattle.std.proofs.Common.{◌≡◌, ℕ, suc, ◌+◌, ◌≤◌, ◌<◌, ◌==◌, Bool, true, false, List, [], ◌∷◌, ◌++◌, length, map, codes, ℤ, pos, negsuc, ◌≤ℤ◌, Option, Some, None, IfSome, refl, sym, ap, subst, ◌∙◌, arith}
+use Rattle.std.proofs.Common.{◌≡◌, ℕ, suc, ◌+◌, ◌≤◌, ◌<◌, ◌==◌, Bool, true, false, List, [], ◌∷◌, ◌++◌, length, codes, ℤ, pos, negsuc, ◌≤ℤ◌, Option, Some, None, IfSome, refl, sym, ap, subst, ◌∙◌, arith}
 use Rattle.std.proofs.lemmas.Bool.Decides.{nat_tests}
 use Rattle.std.specs.Prelude.{find, is_none, nat_lt}
 use Rattle.std.specs.List.{list_any}
-use Rattle.std.specs.Option.{option_or}
 use Rattle.edifact_segments.specs.declared.segments.Segment.{Segment}
 use Rattle.stow_data.specs.declared.geometry.Length.{Length}
 use Rattle.baplie_model.specs.declared.causes.Cause.{Cause}
 use Rattle.baplie_model.specs.declared.causes.Cause.TheVariants.{NotBaplie, BadCell, NameTooLong, LengthLeftOut, BadWeight, NoWeightOrPort}
 use Rattle.baplie_model.specs.declared.causes.Prior.{Prior}
-use Rattle.baplie_model.specs.Finding.{scan, group_causes, group_cause, groups_fault}
+use Rattle.baplie_model.specs.Finding.{scan, group_causes, group_cause}
 use Rattle.baplie_model.specs.Groups.{is_long, lacks, prior, shows}
 use Rattle.baplie_model.specs.Segments.{is_container, is_danger, names_port}
 use Rattle.baplie_model.specs.Texts.{long_of}
@@ -41,7 +40,7 @@ not_long high t h k = test (length t) (omega (arith, k.short))
     test : (n : ℕ) → n ≤ 35 → nat_lt 35 n ≡ false
     test n e = grind (arith, nat_tests)
 
-none_found : (f : Cause → Bool) (cs : List Cause) → ((c : Cause) → f c ≡ false) → find f cs ≡ None
+pub none_found : (f : Cause → Bool) (cs : List Cause) → ((c : Cause) → f c ≡ false) → find f cs ≡ None
 none_found f [] h = refl
 none_found f (c ∷ cs) h = rw (h c) (none_found f cs h)
 
@@ -224,12 +223,3 @@ unfolding group_segments
 group_quiet g n p =
     let b = g.booking in
     scan-quiet (group_segments g) n [] (group_segments g) (quiet-parts g.cell.bay g.cell.row g.cell.tier b.vgm g.kg b.temperature g.load_port g.cell.port g.cell.id b.iso b.long b.empty b.class b.unno p.bay p.row p.tier p.kg p.discharged.some (not_long 35 g.cell.port (omega arith) p.discharged) p.identified.some (not_long 17 g.cell.id (omega arith) p.identified) (not_long 10 b.iso (omega arith) p.typed) p.long p.classed)
-
-abbrev pub AllBooked : List Group → Type 0
-AllBooked [] = Unit {0}
-AllBooked (g ∷ gs) = IsBookedGroup g × AllBooked gs
-
-pub groups_quiet : (gs : List Group) (n : ℕ) → AllBooked gs → groups_fault n (map group_segments gs) ≡ None
-groups_quiet [] n p = refl
-groups_quiet (g ∷ gs) n p =
-    ap (λ r. option_or r (groups_fault (n + length (group_segments g)) (map group_segments gs))) (group_quiet g n p.0) ∙ groups_quiet gs (n + length (group_segments g)) p.1

@@ -1,5 +1,5 @@
 -- The groups of a departure show it, and the groups of all departures are a legal file set.
-use Rattle.std.proofs.Common.{◌≡◌, ◌≢◌, ℕ, zero, suc, ◌+◌, ◌-◌, ◌<◌, ◌≤◌, List, [], ◌∷◌, length, get_or, map, Option, Some, None, refl, sym, ◌∙◌, ap, subst, arith, inl, inr, ⊎_elim}
+use Rattle.std.proofs.Common.{◌≡◌, ◌≢◌, ℕ, suc, ◌+◌, ◌-◌, ◌<◌, ◌≤◌, List, [], ◌∷◌, length, get_or, map, Option, Some, None, refl, sym, ◌∙◌, ap, subst, arith, inl, inr, ⊎_elim}
 use Rattle.std.specs.Prelude.{slice_get, slice_index_or}
 use Rattle.std.proofs.lemmas.Bool.{cases_eq, cases_lt}
 use Rattle.std.proofs.lemmas.Option.{get_or_from_slice_get, slice_get-get_or, slice_get_within}
@@ -9,33 +9,32 @@ use Rattle.stow_data.specs.declared.cargoes.Container.{Container}
 use Rattle.stow_data.specs.Ship.{Ship, places, number_in, HasNumber}
 use Rattle.stow_data.specs.Profile.{IsShip}
 use Rattle.stow_data.specs.Shipment.{Cargo, IsCargo, IsShipped}
-use Rattle.stow_data.proofs.Members.{Member, member_of, index_of, flat_at, flat_from, map_at, map_from, range_from}
+use Rattle.stow_data.proofs.Members.{Member, member_of, index_of, flat_at, flat_from, range_from}
 use Rattle.stow_data.proofs.Listed.{place_from}
 use Rattle.stowage_rules.specs.Plan.{Holds, Fills}
 use Rattle.stowage_rules.specs.Departure.{IsStowed, AreDepartures}
 use Rattle.plan_files.specs.Shown.{CellGroup, Says, SomeSays, IsAboardGroup, SharesHalf, Shows, ShowAll, IsLegalFileSet}
-use Rattle.bookings.specs.declared.shipment.Bookings.{Bookings}
 use Rattle.stow_data.specs.Plans.{Plan, place_at, container_at, held, place_numbers, no_place, no_container, no_stack}
-use Rattle.plan_files.specs.DepartureFile.{Group, group_of, group_at, groups, cells, number_at, port_of}
+use Rattle.plan_files.specs.DepartureFile.{cell_at, cells, number_at, port_of, shown_from}
 use Rattle.stow_data.proofs.PlanLookups.{held_is, is_held, place_is}
-use Rattle.plan_files.proofs.Pairs.{InPairs, pairs_flat, pairs_map, pairs_range, all_pairs, all_pairs_at}
+use Rattle.plan_files.proofs.Pairs.{InPairs, pairs_flat, pairs_range, all_pairs, all_pairs_at}
 use Rattle.plan_files.proofs.Numbers.{number_once}
 
 -- the cell group of a container at a place
-abbrev cell_of : Ship → Cargo → Bookings → ℕ → ℕ → CellGroup
-cell_of ship cargo bookings p c = (group_of ship cargo bookings p (container_at cargo c)).cell
+abbrev cell_of : Ship → Cargo → ℕ → ℕ → CellGroup
+cell_of ship cargo p c = cell_at ship cargo p (container_at cargo c)
 
-in_group : (ship : Ship) (cargo : Cargo) (bookings : Bookings) (p : ℕ) (o : Option ℕ) (g : Group) → Member g (group_at ship cargo bookings p o) → (c : ℕ) × (o ≡ Some c) × (g ≡ group_of ship cargo bookings p (container_at cargo c))
-in_group ship cargo bookings p None g m = absurd m
-in_group ship cargo bookings p (Some c) g (inl e) = (c, refl, e)
-in_group ship cargo bookings p (Some c) g (inr n) = absurd n
+in_group : (ship : Ship) (cargo : Cargo) (p : ℕ) (o : Option ℕ) (g : CellGroup) → Member g (shown_from ship cargo p o) → (c : ℕ) × (o ≡ Some c) × (g ≡ cell_of ship cargo p c)
+in_group ship cargo p None g m = absurd m
+in_group ship cargo p (Some c) g (inl e) = (c, refl, e)
+in_group ship cargo p (Some c) g (inr n) = absurd n
 
-one_group : (ship : Ship) (cargo : Cargo) (bookings : Bookings) (p : ℕ) (o : Option ℕ) (R : Group → Group → Type 0) → InPairs R (group_at ship cargo bookings p o)
-one_group ship cargo bookings p None R = tt
-one_group ship cargo bookings p (Some c) R = (λ y m. absurd m, tt)
+one_group : (ship : Ship) (cargo : Cargo) (p : ℕ) (o : Option ℕ) (R : CellGroup → CellGroup → Type 0) → InPairs R (shown_from ship cargo p o)
+one_group ship cargo p None R = tt
+one_group ship cargo p (Some c) R = (λ y m. absurd m, tt)
 
 -- an id is that of one container alone
-id_once : (cargo : Cargo) (c d : ℕ) (x y : Container) → IsCargo cargo → slice_get cargo.containers c ≡ Some x → slice_get cargo.containers d ≡ Some y → x.id ≡ y.id → c ≡ d
+pub id_once : (cargo : Cargo) (c d : ℕ) (x y : Container) → IsCargo cargo → slice_get cargo.containers c ≡ Some x → slice_get cargo.containers d ≡ Some y → x.id ≡ y.id → c ≡ d
 id_once cargo c d x y shipped h k same = ⊎_elim (λ (e : c ≡ d). e)
     (λ (ne : c ≡ d → ⊥). ⊎_elim
     (λ (l : c < d). absurd (all_pairs_at (λ (a b : Container). a.id ≢ b.id) cargo.containers c d x y shipped.ids_differ h k l same))
@@ -44,7 +43,7 @@ id_once cargo c d x y shipped h k same = ⊎_elim (λ (e : c ≡ d). e)
     (cases_eq c d)
 
 -- a container's port of discharge is one of the rotation
-has_port : (cargo : Cargo) (c : ℕ) (x : Container) → IsCargo cargo → slice_get cargo.containers c ≡ Some x → slice_get cargo.rotation (x.dest - 1) ≡ Some (port_of cargo x.dest)
+pub has_port : (cargo : Cargo) (c : ℕ) (x : Container) → IsCargo cargo → slice_get cargo.containers c ≡ Some x → slice_get cargo.rotation (x.dest - 1) ≡ Some (port_of cargo x.dest)
 has_port cargo c x shipped h =
     let r : IsShipped (length cargo.rotation) x = subst (IsShipped (length cargo.rotation)) (get_or_from_slice_get cargo.containers c x x h) (shipped.each_shipped c x (slice_get_within cargo.containers c x h)) in
     slice_get-get_or cargo.rotation (x.dest - 1) [] (omega (arith, r.later, r.in_rotation))
@@ -64,37 +63,34 @@ numbered ship p place h =
       is_number = ap (λ (z : Stack). number_in z place) (sym stack) ∙ ap (λ (z : Place). number_in (slice_index_or ship.stacks (place_at ship p).stack no_stack) z) (sym same);
     }
 
-module _ (ship : Ship) (cargo : Cargo) (bookings : Bookings) (call : ℕ) (plan : Plan) (rules : IsShip ship) (shipped : IsCargo cargo) (stowed : IsStowed ship cargo call plan) where
+module _ (ship : Ship) (cargo : Cargo) (call : ℕ) (plan : Plan) (rules : IsShip ship) (shipped : IsCargo cargo) (stowed : IsStowed ship cargo call plan) where
   -- a cell group is that of a container at its place
   record IsCell (g : CellGroup) (p c : ℕ) : Type 0 where
     holds : Holds plan p c
-    is_cell : g ≡ cell_of ship cargo bookings p c
+    is_cell : g ≡ cell_of ship cargo p c
 
   place_of : (p c : ℕ) → Holds plan p c → (place : Place) × (slice_get (places ship) p ≡ Some place)
   place_of p c h =
       let l : p < length plan = slice_get_within plan p (Some c) h in
       (place_at ship p, slice_get-get_or (places ship) p no_place (omega (arith, stowed.well_formed.each_place)))
 
-  cell_from : (g : CellGroup) → Member g (cells ship cargo bookings plan) → (p : ℕ) × (c : ℕ) × IsCell g p c
-  unfolding groups
+  cell_from : (g : CellGroup) → Member g (cells ship cargo plan) → (p : ℕ) × (c : ℕ) × IsCell g p c
+  unfolding cells
   cell_from g m =
-      let a = map_at (λ (x : Group). x.cell) (groups ship cargo bookings plan) g m in
-      let b = flat_at (λ (p : ℕ). group_at ship cargo bookings p (held plan p)) (place_numbers ship) a.0 a.1 in
-      let d = in_group ship cargo bookings b.0 (held plan b.0) a.0 b.2 in
-      (b.0, d.0, record { holds = is_held plan b.0 d.0 d.1; is_cell = a.2 ∙ ap (λ (x : Group). x.cell) d.2 })
+      let b = flat_at (λ (p : ℕ). shown_from ship cargo p (held plan p)) (place_numbers ship) g m in
+      let d = in_group ship cargo b.0 (held plan b.0) g b.2 in
+      (b.0, d.0, record { holds = is_held plan b.0 d.0 d.1; is_cell = d.2 })
 
-  cell_in : (p c : ℕ) → Holds plan p c → Member (cell_of ship cargo bookings p c) (cells ship cargo bookings plan)
-  unfolding groups
+  cell_in : (p c : ℕ) → Holds plan p c → Member (cell_of ship cargo p c) (cells ship cargo plan)
+  unfolding cells
   cell_in p c h =
       let at : held plan p ≡ Some c = held_is plan p (Some c) h in
       let l : p < length plan = slice_get_within plan p (Some c) h in
-      let g = group_of ship cargo bookings p (container_at cargo c) in
-      map_from (λ (x : Group). x.cell) (groups ship cargo bookings plan) g
-      (flat_from (λ (q : ℕ). group_at ship cargo bookings q (held plan q)) (place_numbers ship) p g
+      flat_from (λ (q : ℕ). shown_from ship cargo q (held plan q)) (place_numbers ship) p (cell_of ship cargo p c)
       (range_from 0 (length (places ship)) p (omega arith) (omega (arith, stowed.well_formed.each_place)))
-      (subst (λ (o : Option ℕ). Member (group_of ship cargo bookings p (container_at cargo c)) (group_at ship cargo bookings p o)) (sym at) (inl refl)))
+      (subst (λ (o : Option ℕ). Member (cell_of ship cargo p c) (shown_from ship cargo p o)) (sym at) (inl refl))
 
-  says : (p c : ℕ) → Holds plan p c → Says ship cargo (cell_of ship cargo bookings p c) p c
+  says : (p c : ℕ) → Holds plan p c → Says ship cargo (cell_of ship cargo p c) p c
   says p c h =
       let known = stowed.well_formed.known p c h in
       let same : container_at cargo c ≡ known.0 = get_or_from_slice_get cargo.containers c known.0 no_container known.1 in
@@ -118,23 +114,23 @@ module _ (ship : Ship) (cargo : Cargo) (bookings : Bookings) (call : ℕ) (plan 
       let container : c ≡ d = id_once cargo c d own.container s.container shipped own.is_container s.is_container id in
       subst (λ (z : ℕ). Holds plan z d) place (subst (λ (z : ℕ). Holds plan p z) container cell.holds)
 
-  aboard_group : (g : CellGroup) → Member g (cells ship cargo bookings plan) → IsAboardGroup ship cargo call g
+  aboard_group : (g : CellGroup) → Member g (cells ship cargo plan) → IsAboardGroup ship cargo call g
   aboard_group g m =
       let f = cell_from g m in
       let s : Says ship cargo g f.0 f.1 = subst (λ (z : CellGroup). Says ship cargo z f.0 f.1) (sym f.2.is_cell) (says f.0 f.1 f.2.holds) in
       record { place = f.0; number = f.1; says = s; aboard = (stowed.aboard f.1 s.container s.is_container).0 (f.0, f.2.holds) }
 
-  cells_pairs : (R : CellGroup → CellGroup → Type 0) → ((p q c d : ℕ) → p < q → Holds plan p c → Holds plan q d → R (cell_of ship cargo bookings p c) (cell_of ship cargo bookings q d)) → InPairs R (cells ship cargo bookings plan)
-  unfolding groups
-  cells_pairs R h = pairs_map R (λ (x : Group). x.cell) (groups ship cargo bookings plan)
-      (pairs_flat (λ (x y : Group). R x.cell y.cell) (λ (q : ℕ). group_at ship cargo bookings q (held plan q)) (place_numbers ship) (λ q. one_group ship cargo bookings q (held plan q) _)
+  cells_pairs : (R : CellGroup → CellGroup → Type 0) → ((p q c d : ℕ) → p < q → Holds plan p c → Holds plan q d → R (cell_of ship cargo p c) (cell_of ship cargo q d)) → InPairs R (cells ship cargo plan)
+  unfolding cells
+  cells_pairs R h =
+      pairs_flat R (λ (q : ℕ). shown_from ship cargo q (held plan q)) (place_numbers ship) (λ q. one_group ship cargo q (held plan q) _)
       (pairs_range _ 0 (length (places ship)) (λ i j l x y a b.
-      let c = in_group ship cargo bookings i (held plan i) x a in
-      let d = in_group ship cargo bookings j (held plan j) y b in
-      let r : R (cell_of ship cargo bookings i c.0) (cell_of ship cargo bookings j d.0) = h i j c.0 d.0 l (is_held plan i c.0 c.1) (is_held plan j d.0 d.1) in
-      subst (λ (z : Group). R z.cell y.cell) (sym c.2) (subst (λ (z : Group). R (cell_of ship cargo bookings i c.0) z.cell) (sym d.2) r))))
+      let c = in_group ship cargo i (held plan i) x a in
+      let d = in_group ship cargo j (held plan j) y b in
+      let r : R (cell_of ship cargo i c.0) (cell_of ship cargo j d.0) = h i j c.0 d.0 l (is_held plan i c.0 c.1) (is_held plan j d.0 d.1) in
+      subst (λ (z : CellGroup). R z y) (sym c.2) (subst (λ (z : CellGroup). R (cell_of ship cargo i c.0) z) (sym d.2) r)))
 
-  one_id : (p q c d : ℕ) → p < q → Holds plan p c → Holds plan q d → (cell_of ship cargo bookings p c).id ≢ (cell_of ship cargo bookings q d).id
+  one_id : (p q c d : ℕ) → p < q → Holds plan p c → Holds plan q d → (cell_of ship cargo p c).id ≢ (cell_of ship cargo q d).id
   one_id p q c d l h k same =
       let x = says p c h in
       let y = says q d k in
@@ -142,7 +138,7 @@ module _ (ship : Ship) (cargo : Cargo) (bookings : Bookings) (call : ℕ) (plan 
       let once : p ≡ q = stowed.well_formed.once p q d (subst (λ (z : ℕ). Holds plan p z) e h) k in
       absurd (omega arith)
 
-  no_half : (p q c d : ℕ) → p < q → Holds plan p c → Holds plan q d → SharesHalf ship (cell_of ship cargo bookings p c) (cell_of ship cargo bookings q d) → ⊥
+  no_half : (p q c d : ℕ) → p < q → Holds plan p c → Holds plan q d → SharesHalf ship (cell_of ship cargo p c) (cell_of ship cargo q d) → ⊥
   no_half p q c d l h k s =
       let x = says p c h in
       let y = says q d k in
@@ -153,32 +149,32 @@ module _ (ship : Ship) (cargo : Cargo) (bookings : Bookings) (call : ℕ) (plan 
       let same : s.has_first.number ≡ s.has_second.number = stowed.well_formed.apart s.half c d first second in
       omega arith
 
-  some_says : (p c : ℕ) → Holds plan p c → SomeSays ship cargo (cells ship cargo bookings plan) p c
+  some_says : (p c : ℕ) → Holds plan p c → SomeSays ship cargo (cells ship cargo plan) p c
   some_says p c h =
-      let i = index_of (cells ship cargo bookings plan) (cell_of ship cargo bookings p c) (cell_in p c h) in
-      record { index = i.0; group = cell_of ship cargo bookings p c; is_group = i.1; says = says p c h }
+      let i = index_of (cells ship cargo plan) (cell_of ship cargo p c) (cell_in p c h) in
+      record { index = i.0; group = cell_of ship cargo p c; is_group = i.1; says = says p c h }
 
-  said : (p c : ℕ) → SomeSays ship cargo (cells ship cargo bookings plan) p c → Holds plan p c
+  said : (p c : ℕ) → SomeSays ship cargo (cells ship cargo plan) p c → Holds plan p c
   said p c s =
-      let f = cell_from s.group (member_of (cells ship cargo bookings plan) s.index s.group s.is_group) in
+      let f = cell_from s.group (member_of (cells ship cargo plan) s.index s.group s.is_group) in
       says_that s.group f.0 f.1 p c f.2 s.says
 
 -- the groups of a departure show it
-pub groups_show : (ship : Ship) (cargo : Cargo) (bookings : Bookings) (call : ℕ) (plan : Plan) → IsShip ship → IsCargo cargo → IsStowed ship cargo call plan → Shows ship cargo call (cells ship cargo bookings plan) plan
-groups_show ship cargo bookings call plan rules shipped stowed = record {
-  each_aboard = λ k d l. aboard_group ship cargo bookings call plan rules shipped stowed _ (member_of (cells ship cargo bookings plan) k (get_or (cells ship cargo bookings plan) k d) (slice_get-get_or (cells ship cargo bookings plan) k d l));
-  ids_differ = all_pairs _ (cells ship cargo bookings plan) (cells_pairs ship cargo bookings call plan rules shipped stowed (λ (g h : CellGroup). g.id ≢ h.id) (one_id ship cargo bookings call plan rules shipped stowed));
-  halves_differ = all_pairs _ (cells ship cargo bookings plan) (cells_pairs ship cargo bookings call plan rules shipped stowed (λ (g h : CellGroup). SharesHalf ship g h → ⊥) (no_half ship cargo bookings call plan rules shipped stowed));
-  all_aboard = λ c container known aboard. let at = (stowed.aboard c container known).1 aboard in (at.0, some_says ship cargo bookings call plan rules shipped stowed at.0 c at.1);
+pub groups_show : (ship : Ship) (cargo : Cargo) (call : ℕ) (plan : Plan) → IsShip ship → IsCargo cargo → IsStowed ship cargo call plan → Shows ship cargo call (cells ship cargo plan) plan
+groups_show ship cargo call plan rules shipped stowed = record {
+  each_aboard = λ k d l. aboard_group ship cargo call plan rules shipped stowed _ (member_of (cells ship cargo plan) k (get_or (cells ship cargo plan) k d) (slice_get-get_or (cells ship cargo plan) k d l));
+  ids_differ = all_pairs _ (cells ship cargo plan) (cells_pairs ship cargo call plan rules shipped stowed (λ (g h : CellGroup). g.id ≢ h.id) (one_id ship cargo call plan rules shipped stowed));
+  halves_differ = all_pairs _ (cells ship cargo plan) (cells_pairs ship cargo call plan rules shipped stowed (λ (g h : CellGroup). SharesHalf ship g h → ⊥) (no_half ship cargo call plan rules shipped stowed));
+  all_aboard = λ c container known aboard. let at = (stowed.aboard c container known).1 aboard in (at.0, some_says ship cargo call plan rules shipped stowed at.0 c at.1);
   each_place = stowed.well_formed.each_place;
-  holds = λ p c. (some_says ship cargo bookings call plan rules shipped stowed p c, said ship cargo bookings call plan rules shipped stowed p c);
+  holds = λ p c. (some_says ship cargo call plan rules shipped stowed p c, said ship cargo call plan rules shipped stowed p c);
 }
 
-show_all : (ship : Ship) (cargo : Cargo) (bookings : Bookings) (call : ℕ) (plans : List Plan) → IsShip ship → IsCargo cargo → AreDepartures ship cargo call plans → ShowAll ship cargo call (map (cells ship cargo bookings) plans) plans
-show_all ship cargo bookings call [] rules shipped legal = tt
-show_all ship cargo bookings call (plan ∷ plans) rules shipped legal = (groups_show ship cargo bookings call plan rules shipped legal.0.stowed, show_all ship cargo bookings (suc call) plans rules shipped legal.1)
+show_all : (ship : Ship) (cargo : Cargo) (call : ℕ) (plans : List Plan) → IsShip ship → IsCargo cargo → AreDepartures ship cargo call plans → ShowAll ship cargo call (map (cells ship cargo) plans) plans
+show_all ship cargo call [] rules shipped legal = tt
+show_all ship cargo call (plan ∷ plans) rules shipped legal = (groups_show ship cargo call plan rules shipped legal.0.stowed, show_all ship cargo (suc call) plans rules shipped legal.1)
 
 -- the groups of the departures of a voyage are a legal file set
-pub groups_legal : (ship : Ship) (cargo : Cargo) (bookings : Bookings) (plans : List Plan) → IsShip ship → IsCargo cargo → length plans + 1 ≡ length cargo.rotation → AreDepartures ship cargo 1 plans
-    → IsLegalFileSet ship cargo (map (cells ship cargo bookings) plans) plans
-groups_legal ship cargo bookings plans rules shipped each legal = record { each_call = each; shown = show_all ship cargo bookings 1 plans rules shipped legal; legal = legal }
+pub groups_legal : (ship : Ship) (cargo : Cargo) (plans : List Plan) → IsShip ship → IsCargo cargo → length plans + 1 ≡ length cargo.rotation → AreDepartures ship cargo 1 plans
+    → IsLegalFileSet ship cargo (map (cells ship cargo) plans) plans
+groups_legal ship cargo plans rules shipped each legal = record { each_call = each; shown = show_all ship cargo 1 plans rules shipped legal; legal = legal }

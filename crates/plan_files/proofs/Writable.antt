@@ -1,6 +1,8 @@
 -- The segments of departure files are in canonical form, with tags and without control bytes.
 use Rattle.std.proofs.Common.{◌≡◌, ℕ, ◌^◌, ◌<◌, ◌/◌, ◌==◌, Bool, true, false, cond, List, [], ◌∷◌, ◌++◌, length, take, drop, map, codes, ℤ, pos, negsuc, ◌≤ℤ◌, Option, Some, None, IfSome, refl, ap, ◌∙◌, arith, length-drop}
+use Rattle.std.specs.Prelude.{All}
 use Rattle.std.specs.Fmt.{decimal, signed_decimal}
+use Rattle.std.proofs.lemmas.List.Elements.{All-nil, All-cons}
 use Rattle.edifact_segments.specs.Canonical.{trimmed, canonical}
 use Rattle.edifact_segments.specs.ReadBack.{IsPrintable, IsWritable}
 use Rattle.edifact_segments.proofs.CanonicalLemmas.{push_full}
@@ -172,3 +174,7 @@ writable-temperature (Some z) low high = (writable-tmp z low high, tt)
 pub writable-goods : (o : Option (List ℕ)) (unno : ℕ) → IfSome o (IsText 8) → EachWritable (goods_segments o unno)
 writable-goods None unno c = tt
 writable-goods (Some class) unno c = (writable-dgs class unno c, tt)
+
+pub all_writable : (xs : List Segment) → EachWritable xs → All IsWritable xs
+all_writable [] w = All-nil IsWritable
+all_writable (x ∷ xs) w = All-cons IsWritable x xs w.0 (all_writable xs w.1)

@@ -1,5 +1,5 @@
 -- The departure file of a call: the message that tells a plan, and its text (ISO 9735, SMDG BAPLIE 2.2).
-use Rattle.std.specs.Prelude.{ℕ, ◌+◌, ◌-◌, ◌<◌, false, codes, List, [], ◌∷◌, ◌++◌, length, map, flat_map, Option, Some, None, is_some, slice_index_or}
+use Rattle.std.specs.Prelude.{ℕ, ◌≡◌, ◌⊎◌, ◌+◌, ◌-◌, ◌^◌, ◌<◌, ◌≤◌, false, codes, List, [], ◌∷◌, ◌++◌, length, drop, flat_map, Option, Some, None, is_some, slice_index_or}
 use Rattle.edifact_segments.specs.declared.segments.Segment.{Segment}
 use Rattle.edifact_segments.specs.Written.{written}
 use Rattle.stow_data.specs.declared.geometry.Length.TheVariants.{Forty}
@@ -15,8 +15,10 @@ use Rattle.bookings.specs.declared.shipment.Bookings.{Bookings}
 use Rattle.baplie_model.specs.declared.parts.Facts.{Facts}
 use Rattle.baplie_model.specs.declared.parts.CellGroup.{CellGroup}
 use Rattle.baplie_model.specs.declared.parts.Message.{Message}
+use Rattle.baplie_model.specs.Messages.{IsMessageOf}
+use Rattle.baplie_model.specs.Segments.{element, component}
 use Rattle.baplie_write.specs.Whole.{segments_of}
-use Rattle.plan_files.specs.DepartureSegments.{unb, unh, bgm, dtm, tdt, loc, cell_segment, mea, temperature_segments, rff, eqd, goods_segments}
+use Rattle.plan_files.specs.DepartureSegments.{segment, one, cell_text, unb, unh, bgm, dtm, tdt, loc, cell_segment, mea, temperature_segments, rff, eqd, goods_segments}
 
 -- the port of a call
 abbrev pub port_of : Cargo → ℕ → List ℕ
@@ -26,22 +28,21 @@ port_of cargo call = slice_index_or cargo.rotation (call - 1) []
 abbrev pub number_at : Ship → ℕ → ℕ × ℕ × ℕ
 number_at ship p = number_in (slice_index_or ship.stacks (place_at ship p).stack no_stack) (place_at ship p)
 
--- ## The booking of a container
+-- ## What tells of a container
 
--- the container is one of the bookings
-abbrev pub IsBooked : Bookings → Origin → Type 0
-IsBooked bookings (Booked k) = k < length bookings.containers
-IsBooked bookings (Arrived k) = ⊥
+-- a booking tells of the container, or a group of the bay plan of the ship as it came in
+abbrev pub IsTold : Bookings → List CellGroup → Origin → Type 0
+IsTold bookings arrived (Booked k) = k < length bookings.containers
+IsTold bookings arrived (Arrived k) = k < length arrived
 
--- what stands for the booking of a container that isn't
+-- what stands for a booking, or a group, that there isn't
 abbrev pub no_booking : Booking
 no_booking = record { id = []; load = 0; dest = 0; iso = []; long = Forty; kg = 0; vgm = false; empty = false; temperature = None; class = None; unno = 0 }
 
-abbrev pub booking_of : Bookings → Origin → Booking
-booking_of bookings (Booked k) = slice_index_or bookings.containers k no_booking
-booking_of bookings (Arrived k) = no_booking
+abbrev pub no_group : CellGroup
+no_group = record { bay = 0; row = 0; tier = 0; facts = None; segments = [] }
 
--- ## The cell groups
+-- ## The cell group of a booked container
 
 -- a container in its cell, with its booking
 pub record Group : Type 0 where
@@ -50,30 +51,13 @@ pub record Group : Type 0 where
   pub booking : Booking
   pub kg : ℕ
 
+-- what a container at a place shows
+abbrev pub cell_at : Ship → Cargo → ℕ → Container → shown.CellGroup
+cell_at ship cargo p c = record { bay = (number_at ship p).0; row = (number_at ship p).1; tier = (number_at ship p).2; id = c.id; port = port_of cargo c.dest }
+
 -- of this booking
 abbrev pub booked_group : Ship → Cargo → Booking → ℕ → Container → Group
-booked_group ship cargo booking p c = record {
-  cell = record { bay = (number_at ship p).0; row = (number_at ship p).1; tier = (number_at ship p).2; id = c.id; port = port_of cargo c.dest };
-  load_port = port_of cargo c.load;
-  booking = booking;
-  kg = c.kg;
-}
-
-abbrev pub group_of : Ship → Cargo → Bookings → ℕ → Container → Group
-group_of ship cargo bookings p c = booked_group ship cargo (booking_of bookings c.origin) p c
-
--- the group of what stands at a place
-abbrev pub group_at : Ship → Cargo → Bookings → ℕ → Option ℕ → List Group
-group_at ship cargo bookings p None = []
-group_at ship cargo bookings p (Some c) = group_of ship cargo bookings p (container_at cargo c) ∷ []
-
--- the groups of a plan, in the order of their places
-unfoldable pub groups : Ship → Cargo → Bookings → Plan → List Group
-groups ship cargo bookings plan = flat_map (λ p. group_at ship cargo bookings p (held plan p)) (place_numbers ship)
-
--- what they show
-abbrev pub cells : Ship → Cargo → Bookings → Plan → List shown.CellGroup
-cells ship cargo bookings plan = map (λ g. g.cell) (groups ship cargo bookings plan)
+booked_group ship cargo booking p c = record { cell = cell_at ship cargo p c; load_port = port_of cargo c.load; booking = booking; kg = c.kg }
 
 -- the segments of a container in its cell
 unfoldable pub group_segments : Group → List Segment
@@ -103,6 +87,56 @@ facts_of g = record {
 abbrev pub cell_group_of : Group → CellGroup
 cell_group_of g = record { bay = g.cell.bay; row = g.cell.row; tier = g.cell.tier; facts = Some (facts_of g); segments = group_segments g }
 
+-- ## The cell group of a container that stood aboard as the ship came in
+
+-- its LOC+147 in another cell: only the cell text is new, and an absent agency becomes 5
+abbrev pub moved_segment : ℕ × ℕ × ℕ → Segment → Segment
+moved_segment cell s = segment (codes "LOC") (one (codes "147") ∷ (cell_text cell ∷ component s 2 2 ∷ codes "5" ∷ drop 3 (element s 2)) ∷ drop 2 s.elements)
+
+-- all others stay
+abbrev pub moved_segments : ℕ × ℕ × ℕ → List Segment → List Segment
+moved_segments cell [] = []
+moved_segments cell (s ∷ ss) = moved_segment cell s ∷ ss
+
+abbrev pub moved : ℕ × ℕ × ℕ → CellGroup → CellGroup
+moved cell g = record { bay = cell.0; row = cell.1; tier = cell.2; facts = g.facts; segments = moved_segments cell g.segments }
+
+-- ## The cell groups of a plan
+
+abbrev pub group_by : Ship → Cargo → Bookings → List CellGroup → ℕ → Container → Origin → CellGroup
+group_by ship cargo bookings arrived p c (Booked k) = cell_group_of (booked_group ship cargo (slice_index_or bookings.containers k no_booking) p c)
+group_by ship cargo bookings arrived p c (Arrived k) = moved (number_at ship p) (slice_index_or arrived k no_group)
+
+-- the group of what stands at a place
+abbrev pub group_at : Ship → Cargo → Bookings → List CellGroup → ℕ → Option ℕ → List CellGroup
+group_at ship cargo bookings arrived p None = []
+group_at ship cargo bookings arrived p (Some c) = group_by ship cargo bookings arrived p (container_at cargo c) (container_at cargo c).origin ∷ []
+
+-- the groups of a plan, in the order of their places
+unfoldable pub groups : Ship → Cargo → Bookings → List CellGroup → Plan → List CellGroup
+groups ship cargo bookings arrived plan = flat_map (λ p. group_at ship cargo bookings arrived p (held plan p)) (place_numbers ship)
+
+-- what a plan shows
+abbrev pub shown_from : Ship → Cargo → ℕ → Option ℕ → List shown.CellGroup
+shown_from ship cargo p None = []
+shown_from ship cargo p (Some c) = cell_at ship cargo p (container_at cargo c) ∷ []
+
+unfoldable pub cells : Ship → Cargo → Plan → List shown.CellGroup
+cells ship cargo plan = flat_map (λ p. shown_from ship cargo p (held plan p)) (place_numbers ship)
+
+-- ## The bay plan of the ship as it comes in
+
+-- the groups of the message of a text
+pub record AreOf (groups : List CellGroup) (bytes : List ℕ) : Type 0 where
+  pub message : Message
+  pub short : length bytes ≤ 2 ^ 29
+  pub is_message : IsMessageOf bytes message
+  pub are_groups : groups ≡ message.groups
+
+-- no groups where there is no bay plan, else those of a message that was read
+abbrev pub AreArrived : List CellGroup → Type 0
+AreArrived groups = (groups ≡ []) ⊎ ((bytes : List ℕ) × AreOf groups bytes)
+
 -- ## The file
 
 -- the segments between UNH and the first group
@@ -112,9 +146,9 @@ head cargo bookings call =
     ∷ loc (codes "5") (port_of cargo call) ∷ loc (codes "61") (port_of cargo (call + 1)) ∷ dtm (codes "133") bookings.date ∷ []
 
 -- UNB, UNH, the head and the groups
-abbrev pub message_of : Cargo → Bookings → ℕ → List Group → Message
-message_of cargo bookings call gs = record { service = unb bookings call; title = unh; head = head cargo bookings call; groups = map cell_group_of gs }
+abbrev pub message_of : Cargo → Bookings → ℕ → List CellGroup → Message
+message_of cargo bookings call gs = record { service = unb bookings call; title = unh; head = head cargo bookings call; groups = gs }
 
 -- the text of the file: that of the message, from UNB to UNZ
-unfoldable pub file_text : Cargo → Bookings → ℕ → List Group → List ℕ
+unfoldable pub file_text : Cargo → Bookings → ℕ → List CellGroup → List ℕ
 file_text cargo bookings call gs = flat_map written (segments_of (message_of cargo bookings call gs))

@@ -1,5 +1,8 @@
 -- The plan that a bay plan shows (SMDG BAPLIE 2.2, cell groups; cell numbers as in ISO 9711).
-use Rattle.std.specs.Prelude.{◌≡◌, ◌≢◌, ℕ, ◌+◌, ◌-◌, suc, List, [], ◌∷◌, Some, slice_get, length, All, AllPairs, ◌↔◌}
+use Rattle.std.specs.Prelude.{◌≡◌, ◌≢◌, ℕ, ◌+◌, ◌-◌, suc, List, [], ◌∷◌, Option, Some, None, flat_map, slice_get, length, All, AllPairs, ◌↔◌}
+use Rattle.baplie_model.specs.declared.parts.CellGroup as baplie
+use Rattle.baplie_model.specs.declared.parts.Facts.{Facts}
+use Rattle.baplie_model.specs.declared.parts.Message.{Message}
 use Rattle.stow_data.specs.declared.geometry.Half.{Half}
 use Rattle.stow_data.specs.declared.geometry.Place.{Place}
 use Rattle.stow_data.specs.declared.cargoes.Container.{Container}
@@ -16,6 +19,18 @@ pub record CellGroup : Type 0 where
   pub tier : ℕ
   pub id : List ℕ
   pub port : List ℕ
+
+-- what a cell group shows: its cell, and the number and the port of discharge of its container, where it has one
+abbrev pub shown_at : ℕ → ℕ → ℕ → Option Facts → List CellGroup
+shown_at bay row tier None = []
+shown_at bay row tier (Some f) = record { bay = bay; row = row; tier = tier; id = f.id; port = f.dest } ∷ []
+
+abbrev pub shown_in : baplie.CellGroup → List CellGroup
+shown_in g = shown_at g.bay g.row g.tier g.facts
+
+-- what a bay plan message shows
+abbrev pub shown_by : Message → List CellGroup
+shown_by m = flat_map shown_in m.groups
 
 -- the place has the cell number of the group
 pub record IsCellOf (ship : Ship) (g : CellGroup) (place : Place) : Type 0 where

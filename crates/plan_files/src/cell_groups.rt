@@ -1,10 +1,11 @@
 //! The cell groups of a departure file: what stands in each cell, as its booking tells it.
-ghost use Rattle.std.specs.Prelude.{◌≡◌, ◌<◌, All, IfOk, length, map};
+ghost use Rattle.std.specs.Prelude.{◌≡◌, ◌<◌, All, IfOk, length};
 ghost use Rattle.stow_data.specs.Ship.{places};
 ghost use Rattle.stow_data.specs.Plans.{IsKnown};
-ghost use Rattle.plan_files.specs.DepartureFile.{IsBooked, booked_group, booking_of, cell_group_of, group_of, group_segments, groups, number_at, port_of};
+ghost use Rattle.plan_files.specs.DepartureFile.{IsTold, booked_group, cell_group_of, group_by, group_segments, groups, number_at, port_of};
 
 use crate::departure_segments::{cell_segment, eqd, loc, mea, push_goods, push_temperature, rff};
+use crate::moved_groups::moved;
 use baplie_model::{CellGroup, Facts, GroupList};
 use bookings::{Booking, Bookings};
 use edifact_segments::SegmentList;
@@ -23,17 +24,6 @@ pub fn port_of(cargo: &Cargo, call: u32) -> Name
     }
 }
 
-/// The booking that a container comes from.
-fn booking_of(bookings: &Bookings, origin: Origin) -> &Booking
-    requires { IsBooked bookings.now origin }
-    ensures { result.now ≡ booking_of bookings.now origin }
-{
-    match origin {
-        Origin::Booked(index) => bookings.containers.at(index as usize),
-        Origin::Arrived(_) => unreachable!(),
-    }
-}
-
 /// Bay, row and tier number of a place.
 fn number_at(ship: &Ship, p: PlaceNo) -> (u32, u32, u32)
     requires { p < length (places ship.now) }
@@ -42,24 +32,27 @@ fn number_at(ship: &Ship, p: PlaceNo) -> (u32, u32, u32)
     ship.number_of_place(p)
 }
 
-/// The cell groups of a plan, in the order of the places.
+/// The cell groups of a plan, in the order of the places. A container that stood aboard as the ship came in keeps
+/// all segments of its group; only its cell is new.
 pub fn cell_groups(
     alloc: Global,
     ship: &Ship,
     cargo: &Cargo,
     bookings: &Bookings,
+    arrived: &[CellGroup],
     plan: &Plan,
 ) -> Result<GroupList, NoMemory>
     requires whole { length plan.now ≡ length (places ship.now) }
     requires known { IsKnown cargo.now plan.now }
-    requires booked { All (λ c. IsBooked bookings.now c.origin) cargo.now.containers }
-    ensures { IfOk result (λ list. list ≡ map cell_group_of (groups ship.now cargo.now bookings.now plan.now)) }
+    requires told { All (λ c. IsTold bookings.now arrived.now c.origin) cargo.now.containers }
+    ensures { IfOk result (λ list. list ≡ groups ship.now cargo.now bookings.now arrived.now plan.now) }
 {
     let mut list = GroupList::new(alloc);
     for number in 0..ship.places() {
         if let Some(c) = plan.at(PlaceNo(number)) {
+            let p = PlaceNo(number);
             let container = cargo.container(c);
-            list.push(cell_group(alloc, ship, cargo, bookings, PlaceNo(number), container)?)?;
+            list.push(cell_group(alloc, ship, cargo, bookings, arrived, p, container)?)?;
         }
     }
     Ok(list)
@@ -71,14 +64,38 @@ fn cell_group(
     ship: &Ship,
     cargo: &Cargo,
     bookings: &Bookings,
+    arrived: &[CellGroup],
     p: PlaceNo,
     container: &Container,
 ) -> Result<CellGroup, NoMemory>
     requires place { p < length (places ship.now) }
-    requires booked { IsBooked bookings.now container.now.origin }
-    ensures { IfOk result (λ g. g ≡ cell_group_of (group_of ship.now cargo.now bookings.now p container.now)) }
+    requires told { IsTold bookings.now arrived.now container.now.origin }
+    ensures { IfOk result (λ g. g ≡ group_by ship.now cargo.now bookings.now arrived.now p container.now container.now.origin) }
 {
-    let booking = booking_of(bookings, container.origin);
+    match container.origin {
+        Origin::Booked(index) => {
+            let booking = bookings.containers.at(index as usize);
+            booked_group(alloc, ship, cargo, booking, p, container)
+        }
+        Origin::Arrived(index) => {
+            let (bay, row, tier) = number_at(ship, p);
+            moved(alloc, bay, row, tier, &arrived[index as usize])
+        }
+    }
+}
+
+/// The cell group of a container of this booking at a place.
+fn booked_group(
+    alloc: Global,
+    ship: &Ship,
+    cargo: &Cargo,
+    booking: &Booking,
+    p: PlaceNo,
+    container: &Container,
+) -> Result<CellGroup, NoMemory>
+    requires { p < length (places ship.now) }
+    ensures { IfOk result (λ g. g ≡ cell_group_of (booked_group ship.now cargo.now booking.now p container.now)) }
+{
     let (bay, row, tier) = number_at(ship, p);
     Ok(CellGroup {
         bay,

@@ -10,7 +10,7 @@ use std::alloc::Global;
 use stow_data::{Name, NoMemory};
 
 /// Appends an element of these components.
-fn compose(elements: &mut ElementBuffer, components: &[&[u8]]) -> Result<(), NoMemory>
+pub fn compose(elements: &mut ElementBuffer, components: &[&[u8]]) -> Result<(), NoMemory>
     ensures { OnOk result (elements.new ≡ elements.old ++ map (λ c. c.now) components.now ∷ []) }
 {
     elements.start_element()?;

@@ -5,7 +5,9 @@ mod cell_groups;
 mod departure_file;
 mod departure_segments;
 mod laws;
+mod moved_groups;
 
+pub use cell_groups::port_of;
 pub use departure_file::{departure_message, departure_text};
 pub use laws::departure_reads;
 
