@@ -12,3 +12,4 @@ pub mod InOrder
 pub mod Counting
 pub mod Hatches
 pub mod ByLevel
+pub mod Found

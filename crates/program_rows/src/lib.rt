@@ -9,6 +9,7 @@ mod listing;
 mod offers;
 mod row_at;
 mod row_lists;
+mod row_number;
 mod row_tests;
 
 pub use counts::{RowCounts, count_rows};
