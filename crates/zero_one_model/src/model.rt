@@ -113,6 +113,13 @@ impl<'a> Model<'a> {
         self.lists.at(self.base, k)
     }
 
+    /// The number of a row in the order of rows: the inverse of `row_at`. None exactly where the program has no such row.
+    pub fn row_number(&self, r: &Row) -> Option<u64>
+        ensures { MatchOption result ((whole self.now).has r.now ≡ false) (λ k. slice_get (all_rows self.now) k ≡ Some r.now) }
+    {
+        self.lists.number(self.base, self.rows, r)
+    }
+
     /// The greatest number of rehandles that a voyage needs: each container once at each call but the last.
     pub fn limit(&self) -> u64
         ensures { result ≡ length self.now.cargo.containers * (length self.now.cargo.rotation - 1) }
