@@ -5,9 +5,9 @@ ghost use Rattle.stow_data.specs.Ship.{places};
 ghost use Rattle.zero_one_model.specs.Building.{BuildsVariables};
 
 use crate::refusals::ModelNo;
+use program_rows::{gather_offers, list_variables};
 use std::alloc::Global;
 use stow_data::{Cargo, Kinds, Limit, Seq, Ship};
-use program_rows::{gather_offers, list_variables};
 use zero_one_rows::Var;
 
 /// The greatest number of variables.

@@ -98,7 +98,11 @@ pub fn index_of(
     let lots = calls as usize * kinds as usize;
     let by_kind = group(alloc, kind_keys(alloc, vars)?.as_slice(), kinds as usize)?;
     let by_shelf = group(alloc, shelf_keys(alloc, ship, vars)?.as_slice(), shelves)?;
-    let by_stack = group(alloc, stack_keys(alloc, ship, vars)?.as_slice(), ship.stacks() as usize)?;
+    let by_stack = group(
+        alloc,
+        stack_keys(alloc, ship, vars)?.as_slice(),
+        ship.stacks() as usize,
+    )?;
     let by_lot = group(alloc, lot_keys(alloc, kinds, vars)?.as_slice(), lots)?;
     Ok(Index {
         by_kind,
@@ -207,10 +211,18 @@ impl Index {
                 other(shelves, key_of_half(ship, *half), key_above(ship, *half))
             }
             Row::Hatch { half, lowest, .. } => {
-                other(shelves, key_of_half(ship, *half), key_of_half(ship, *lowest))
+                other(
+                    shelves,
+                    key_of_half(ship, *half),
+                    key_of_half(ship, *lowest),
+                )
             }
             Row::Apart { first, second, .. } => {
-                other(shelves, key_of_place(ship, *first), key_of_place(ship, *second))
+                other(
+                    shelves,
+                    key_of_place(ship, *first),
+                    key_of_place(ship, *second),
+                )
             }
             Row::Flow { .. }
             | Row::Start { .. }
