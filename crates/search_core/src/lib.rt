@@ -2,6 +2,7 @@
 #![tactic(auto)]
 
 mod children;
+mod laws;
 mod node_keys;
 mod records;
 mod seat;
@@ -9,6 +10,7 @@ mod seats;
 #[cfg(test)]
 mod tests;
 
+pub use laws::{keys_are_refused_as_nodes, keys_stand_for_nodes};
 pub use node_keys::NodeKey;
 pub use records::{Done, End, Raise, Record};
 pub use search_machine::Refused;

@@ -105,6 +105,13 @@ impl<R: Drop> Seats<R> {
         Ok(())
     }
 
+    /// How many events it takes at least without memory.
+    pub fn spare(&self) -> usize
+        ensures { result ≡ self.now.spare }
+    {
+        self.spare
+    }
+
     /// The best value so far.
     pub fn word(&self) -> u64
         ensures { result ≡ self.now.state.word }

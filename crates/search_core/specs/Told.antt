@@ -1,0 +1,59 @@
+-- The machine's nodes and records, as they stand behind the keys of nodes.
+use Rattle.std.specs.Prelude.{ℕ, ◌<◌, ℤ, Bool, List, [], ◌∷◌, ◌++◌, map, length, slice_index_or, Option, option_map}
+use Rattle.proof_trees.specs.Trees as trees
+use Rattle.search_machine.specs.Bags.{Every}
+use Rattle.search_machine.specs.Journals.{nothing_done}
+use Rattle.search_machine.specs.Machine.{Node, Worker, State, StateOver, Handled, root_node, half_node, handled}
+use Rattle.search_core.specs.declared.node_keys.NodeKey.{NodeKey}
+use Rattle.search_core.specs.declared.node_keys.NodeKey.TheVariants.{Root, Half}
+use Rattle.search_core.specs.declared.records.End.{End}
+use Rattle.search_core.specs.declared.records.End.TheVariants.{Leaf, Left, Branch}
+use Rattle.search_core.specs.declared.records.Raise.{Raise}
+use Rattle.search_core.specs.declared.records.Record.{Record}
+use Rattle.search_core.specs.declared.records.Done.{Done}
+
+abbrev pub end_of : End → trees.End
+end_of Leaf = trees.Leaf
+end_of Left = trees.Left
+end_of (Branch v) = trees.Branch v
+
+module _ {R : Type 0} where
+  abbrev pub raise_of : Raise R → R × ℤ
+  raise_of r = (r.row, r.amount)
+
+  abbrev pub entry_of : Record R → trees.Entry R
+  entry_of r = record { from_zero = r.from_zero; steps = r.steps; raises = map raise_of r.raises; end = end_of r.end }
+
+  -- the ended node with this number
+  abbrev pub ended_at : List (Handled R) → ℕ → Handled R
+  ended_at hs k = slice_index_or hs k (handled root_node nothing_done)
+
+  -- the node of a key, by the ended ones
+  abbrev pub node_of : List (Handled R) → NodeKey → Node R
+  node_of hs Root = root_node
+  node_of hs (Half k y) = half_node (ended_at hs k).node (ended_at hs k).entry y
+
+  -- the ended nodes with their records; a key is read by those before it
+  abbrev pub told_from : List (Handled R) → List (Done R) → List (Handled R)
+  told_from hs [] = hs
+  told_from hs (d ∷ ds) = told_from (hs ++ handled (node_of hs d.node) (entry_of d.record) ∷ []) ds
+
+  abbrev pub told : List (Done R) → List (Handled R)
+  told ds = told_from [] ds
+
+-- the key names the root or a half of one of the first so many ended nodes
+abbrev pub InTable : ℕ → NodeKey → Type 0
+InTable n Root = Unit {0}
+InTable n (Half k y) = k < n
+
+-- a worker with other nodes
+abbrev pub worker_as : {N M : Type 0} → (N → M) → Worker N → Worker M
+worker_as f w = record { deque = map f w.deque; hand = option_map f w.hand; made = map f w.made; seen = w.seen; ticket = w.ticket }
+
+-- a state with other nodes, and these as what ended nodes
+abbrev pub state_as : {N M G H : Type 0} → (N → M) → List H → StateOver N G → StateOver M H
+state_as f hs c = record { workers = map (worker_as f) c.workers; start = c.start; budget = c.budget; word = c.word; drawn = c.drawn; left = map f c.left; ended = hs }
+
+-- the state of the machine that keys stand for
+abbrev pub state_of : {R : Type 0} → StateOver NodeKey (Done R) → State R
+state_of c = state_as (node_of (told c.ended)) (told c.ended) c
