@@ -1,2 +1,4 @@
+mod Grown
+mod Named
 mod Renamed
 mod Workers

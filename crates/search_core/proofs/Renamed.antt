@@ -1,5 +1,5 @@
 -- Events keep to other nodes in place of those that they speak of.
-use Rattle.std.proofs.Common.{◌≡◌, ◌⊎◌, inl, inr, ℕ, zero, suc, ◌+◌, ◌<◌, ◌≤◌, Bool, true, false, List, [], ◌∷◌, ◌++◌, map, length, slice_index_or, slice_set, Option, Some, None, option_map, refl, sym, subst, ap, ◌∙◌, arith}
+use Rattle.std.proofs.Common.{◌≡◌, inl, inr, ℕ, zero, suc, ◌+◌, ◌<◌, ◌≤◌, true, false, List, [], ◌∷◌, ◌++◌, map, length, slice_index_or, slice_set, Option, Some, None, option_map, refl, sym, ap, ◌∙◌, arith}
 use Rattle.search_machine.specs.Machine.{Worker, StateOver, idle, worker, with_worker, takes, IsWorker, HandFree, Pushes, Pops, Steals, Loads, Draws}
 use Rattle.search_machine.specs.Refusals.{NoSuchWorker, RefusesPush, RefusesPop, RefusesSteal, RefusesLoad, RefusesDraw}
 use Rattle.search_machine.specs.declared.refused.Refused.{Refused}

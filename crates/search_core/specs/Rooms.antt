@@ -1,5 +1,5 @@
 -- Workers with the room of their deques, and what keeps room for events.
-use Rattle.std.specs.Prelude.{◌≡◌, ℕ, ◌-◌, ◌<◌, ◌≤◌, true, false, List, [], ◌∷◌, ◌++◌, map, length, Option, Some, None, Vec}
+use Rattle.std.specs.Prelude.{◌≡◌, ℕ, ◌-◌, ◌<◌, ◌≤◌, true, false, List, [], ◌∷◌, ◌++◌, length, Option, Some, None, Vec}
 use Rattle.std.specs.Vec.{vec_len, vec_capacity}
 use Rattle.std.specs.Global.{Global}
 use Rattle.search_machine.specs.Bags.{Every}
@@ -38,11 +38,15 @@ pub record HasRoom {D : Type 0} (spare : ℕ) (seats : List Roomy) (drawn budget
   pub past : drawn < budget → left.items ≡ []
 
 -- the node in hand is ended
-abbrev pub EndsHand : {D : Type 0} → StateOver NodeKey D → ℕ → NodeKey → D → StateOver NodeKey D → Type 0
+abbrev pub EndsHand : {N D : Type 0} → StateOver N D → ℕ → N → D → StateOver N D → Type 0
 EndsHand c i n done d = IsWorker c i × ((worker c i).hand ≡ Some n)
     × (d ≡ with_worker (record c { ended = c.ended ++ done ∷ [] }) i (record (worker c i) { hand = None; ticket = false }))
 
+-- the node in hand is ended, and two wait to be pushed
+abbrev pub SplitsHand : {N D : Type 0} → StateOver N D → ℕ → N → D → N → N → StateOver N D → Type 0
+SplitsHand c i n done first second d = IsWorker c i × ((worker c i).hand ≡ Some n)
+    × (d ≡ with_worker (record c { ended = c.ended ++ done ∷ [] }) i (record (worker c i) { hand = None; ticket = false; made = first ∷ second ∷ [] }))
+
 -- the node in hand is ended, and its halves wait to be pushed, the one with value 1 first
 abbrev pub HalvesHand : {D : Type 0} → StateOver NodeKey D → ℕ → NodeKey → D → StateOver NodeKey D → Type 0
-HalvesHand c i n done d = IsWorker c i × ((worker c i).hand ≡ Some n)
-    × (d ≡ with_worker (record c { ended = c.ended ++ done ∷ [] }) i (record (worker c i) { hand = None; ticket = false; made = Half (length c.ended) true ∷ Half (length c.ended) false ∷ [] }))
+HalvesHand c i n done d = SplitsHand c i n done (Half (length c.ended) true) (Half (length c.ended) false) d

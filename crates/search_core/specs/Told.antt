@@ -1,5 +1,5 @@
 -- The machine's nodes and records, as they stand behind the keys of nodes.
-use Rattle.std.specs.Prelude.{ℕ, ◌<◌, ℤ, Bool, List, [], ◌∷◌, ◌++◌, map, length, slice_index_or, Option, option_map}
+use Rattle.std.specs.Prelude.{ℕ, ◌<◌, ℤ, List, [], ◌∷◌, ◌++◌, map, length, slice_index_or, Option, Some, None, option_map}
 use Rattle.proof_trees.specs.Trees as trees
 use Rattle.search_machine.specs.Bags.{Every}
 use Rattle.search_machine.specs.Journals.{nothing_done}
@@ -45,6 +45,18 @@ module _ {R : Type 0} where
 abbrev pub InTable : ℕ → NodeKey → Type 0
 InTable n Root = Unit {0}
 InTable n (Half k y) = k < n
+
+abbrev pub HandIn : ℕ → Option NodeKey → Type 0
+HandIn n None = Unit {0}
+HandIn n (Some k) = InTable n k
+
+abbrev pub WorkerIn : ℕ → Worker NodeKey → Type 0
+WorkerIn n w = Every (InTable n) w.deque × HandIn n w.hand × Every (InTable n) w.made
+
+-- each key that a worker has, or that was left, names a node
+pub record KeysStand {D : Type 0} (c : StateOver NodeKey D) : Type 0 where
+  pub workers : Every (WorkerIn (length c.ended)) c.workers
+  pub left : Every (InTable (length c.ended)) c.left
 
 -- a worker with other nodes
 abbrev pub worker_as : {N M : Type 0} → (N → M) → Worker N → Worker M

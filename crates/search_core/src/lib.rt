@@ -10,7 +10,9 @@ mod seats;
 #[cfg(test)]
 mod tests;
 
-pub use laws::{keys_are_refused_as_nodes, keys_stand_for_nodes};
+pub use laws::{
+    ended_keys_are_ended_nodes, keys_are_refused_as_nodes, keys_name_nodes, keys_stand_for_nodes,
+};
 pub use node_keys::NodeKey;
 pub use records::{Done, End, Raise, Record};
 pub use search_machine::Refused;

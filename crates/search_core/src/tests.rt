@@ -11,16 +11,13 @@ fn two_workers(alloc: Global, budget: u64) -> Result<Seats<u32>, NoMemory> {
     Ok(seats)
 }
 
-/// A record that ends a node so.
-fn ended(alloc: Global, node: NodeKey, end: End) -> Done<u32> {
-    Done {
-        node,
-        record: Record {
-            from_zero: true,
-            steps: Seq::new(alloc),
-            raises: Seq::new(alloc),
-            end,
-        },
+/// A record that ends so.
+fn record(alloc: Global, end: End) -> Record<u32> {
+    Record {
+        from_zero: true,
+        steps: Seq::new(alloc),
+        raises: Seq::new(alloc),
+        end,
     }
 }
 
@@ -66,7 +63,8 @@ fn divide(alloc: Global, seats: &mut Seats<u32>, worker: u32) {
         return;
     }
     if let Some(node) = seats.hand(worker) {
-        seats.divide_hand(worker, ended(alloc, node, End::Branch(VarNo(0))));
+        let record = record(alloc, End::Branch(VarNo(0)));
+        seats.divide_hand(worker, Done { node, record });
     }
 }
 

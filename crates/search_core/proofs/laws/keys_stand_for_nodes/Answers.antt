@@ -1,5 +1,5 @@
-use Rattle.std.proofs.Common.{◌≡◌, ◌⊎◌, inl, inr, ℕ, zero, suc, ◌+◌, ◌<◌, ◌≤◌, Bool, true, false, List, [], ◌∷◌, ◌++◌, map, length, replicate, slice_set, Option, Some, None, refl, sym, subst, ap, ◌∙◌, arith}
-use Rattle.search_machine.specs.Machine.{Worker, StateOver, State, Node, root_node, idle, worker, with_worker, takes, begin, begin_with, Pushes, Pops, Steals, Loads, Draws}
+use Rattle.std.proofs.Common.{◌≡◌, inl, inr, ℕ, zero, suc, false, List, [], ◌∷◌, map, replicate, None, refl, sym, subst, ap}
+use Rattle.search_machine.specs.Machine.{Worker, StateOver, Node, root_node, idle, begin, begin_with, Pushes, Pops, Steals, Loads, Draws}
 use Rattle.search_core.specs.declared.node_keys.NodeKey.{NodeKey}
 use Rattle.search_core.specs.declared.node_keys.NodeKey.TheVariants.{Root}
 use Rattle.search_core.specs.declared.records.Done.{Done}

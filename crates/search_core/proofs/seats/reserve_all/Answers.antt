@@ -1,5 +1,4 @@
-use Rattle.std.proofs.Common.{◌≡◌, ℕ, zero, suc, ◌+◌, ◌<◌, ◌≤◌, List, map, take, length, slice_index_or, slice_set, arith, sym, subst, ap, ◌∙◌, length-set}
-use Rattle.search_machine.specs.Bags.{Every}
+use Rattle.std.proofs.Common.{◌≡◌, ◌<◌, ◌≤◌, List, length, slice_index_or, arith, ap, ◌∙◌, length-set}
 use Rattle.search_core.specs.Rooms.{Roomy, worker_of}
 use Rattle.search_core.proofs.Workers.{kept_worker, room_kept, first_set}
 use Rattle.search_core.proofs.seats.reserve_all.Goals as goal

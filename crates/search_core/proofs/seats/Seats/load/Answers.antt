@@ -1,4 +1,4 @@
-use Rattle.std.proofs.Common.{◌≡◌, ℕ, ◌+◌, ◌<◌, ◌≤◌, List, map, length, slice_index_or, slice_set, Some, arith}
+use Rattle.std.proofs.Common.{arith}
 use Rattle.search_core.proofs.Workers.{loads_by}
 use Rattle.search_core.proofs.seats.Seats.load.Goals as goal
 

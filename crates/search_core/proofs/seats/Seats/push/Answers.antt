@@ -1,4 +1,4 @@
-use Rattle.std.proofs.Common.{◌≡◌, ℕ, ◌+◌, ◌<◌, ◌≤◌, List, map, length, slice_index_or, slice_set, Some, arith}
+use Rattle.std.proofs.Common.{arith}
 use Rattle.search_core.proofs.Workers.{pushes_by}
 use Rattle.search_core.proofs.seats.Seats.push.Goals as goal
 

@@ -1,4 +1,4 @@
-use Rattle.std.proofs.Common.{◌≡◌, ℕ, ◌+◌, ◌-◌, ◌<◌, ◌≤◌, arith, ◌∙◌}
+use Rattle.std.proofs.Common.{arith, ◌∙◌}
 use Rattle.search_core.proofs.seats.Seats.reserve.Goals as goal
 
 pub invariant_of-self-in_err-reserve_all : goal.invariant_of-self-in_err-reserve_all

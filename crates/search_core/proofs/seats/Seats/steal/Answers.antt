@@ -1,4 +1,4 @@
-use Rattle.std.proofs.Common.{◌≡◌, ℕ, ◌+◌, ◌<◌, ◌≤◌, List, [], ◌∷◌, ◌++◌, map, length, slice_index_or, slice_set, Option, Some, None, arith, sym, ap, ◌∙◌}
+use Rattle.std.proofs.Common.{◌≡◌, ◌<◌, List, [], map, length, slice_index_or, Option, None, arith, ap, ◌∙◌}
 use Rattle.search_machine.specs.Machine.{Worker, StateOver, worker}
 use Rattle.search_core.specs.declared.node_keys.NodeKey.{NodeKey}
 use Rattle.search_core.specs.Rooms.{Roomy, worker_of}
