@@ -1,4 +1,4 @@
-//! The search machine's workers, whose nodes go by number. It takes no memory where an event is taken.
+//! The workers of the search machine, with their nodes by key. No event takes memory.
 #![tactic(auto)]
 
 mod children;
