@@ -1,56 +1,65 @@
--- A discharge that rehandles nothing keeps a plan sound.
-use Rattle.std.proofs.Common.{◌≡◌, ℕ, zero, suc, ◌-◌, ◌<◌, true, false, [], ◌∷◌, length, Option, Some, None, sym, ◌∙◌, ap, arith, ⊎_elim}
-use Rattle.std.specs.Prelude.{◌==◌, is_some, option_map}
-use Rattle.std.proofs.lemmas.Bool.{and_from, or_right, cases_Bool, both_ways, cond-true, cond-false, false_from_ne_true, not_from_false, eq-eqb, lt-ltb}
-use Rattle.std.proofs.lemmas.List.{length-map}
-use Rattle.std.proofs.lemmas.Option.{none-some, same_Some, slice_get_within, slice_get-map}
-use Rattle.stow_data.specs.Ship.{Ship, places}
+-- What leaves at a call, and what that spreads to.
+use Rattle.std.proofs.Common.{◌≡◌, ℕ, zero, suc, ◌+◌, ◌<◌, ◌≤◌, Bool, true, false, List, [], ◌∷◌, length, Option, Some, None, refl, sym, ◌∙◌, ap, arith, ⊎_elim}
+use Rattle.std.specs.Prelude.{slice_set}
+use Rattle.std.proofs.lemmas.Bool.{both_ways, cases_eq, cases_lt}
+use Rattle.std.proofs.lemmas.List.{get_or-set_other, get_or-set_same}
+use Rattle.stow_data.specs.Ship.{Ship}
 use Rattle.stow_data.specs.Shipment.{Cargo}
+use Rattle.stow_data.specs.Plans.{Plan, held}
+use Rattle.stow_data.proofs.PlanLookups.{is_held, held_is}
 use Rattle.stowage_rules.specs.Plan.{Holds}
-use Rattle.greedy_loader.specs.Plain.{IsForty}
-use Rattle.stow_data.specs.Plans.{Plan, held, place_numbers}
-use Rattle.greedy_loader.specs.Loader.{is_below, must_be_lifted, must_be_rehandled, has_rehandle, leaves_at, staying, discharged}
-use Rattle.greedy_loader.proofs.Columns.{lower_place}
-use Rattle.greedy_loader.proofs.Ranges.{some_from, any_filter}
-use Rattle.stow_data.proofs.PlanLookups.{held_is}
-use Rattle.greedy_loader.proofs.Sound.{IsSound}
+use Rattle.voyage_meaning.specs.Moves.{leaves}
+use Rattle.plan_lifts.specs.Least.{IsFilled}
+use Rattle.plan_lifts.specs.Spread.{has, IsLeastSpread}
+use Rattle.greedy_loader.specs.Calls.{is_bound, leaving}
 
--- below what stays, nothing leaves
-pub nothing_below : (ship : Ship) (cargo : Cargo) (plan : Plan) (call p q c d : ℕ) → has_rehandle ship cargo plan call ≡ false → p < length (places ship) → q < length (places ship) → Holds plan p c → Holds plan q d → is_below ship q p ≡ true → leaves_at cargo call (Some c) ≡ false → leaves_at cargo call (Some d) ≡ false
-unfolding has_rehandle
-nothing_below ship cargo plan call p q c d none l m hp hq below stays = false_from_ne_true _ (λ (leaves : leaves_at cargo call (Some d) ≡ true).
-    let at : held plan p ≡ Some c = held_is plan p (Some c) hp in
-    let under : held plan q ≡ Some d = held_is plan q (Some d) hq in
-    let lifted : must_be_lifted ship cargo plan call p ≡ true = or_right _ _ (any_filter (λ (z : ℕ). is_below ship z p) (λ (z : ℕ). leaves_at cargo call (held plan z)) (place_numbers ship) ∙ some_from _ 0 (length (places ship)) q (omega arith) (omega arith) (and_from _ _ below (ap (leaves_at cargo call) under ∙ leaves))) in
-    let here : must_be_rehandled ship cargo plan call p ≡ true = and_from _ _ (and_from _ _ (ap (λ (z : Option ℕ). is_some z) at) (not_from_false _ (ap (leaves_at cargo call) at ∙ stays))) lifted in
-    both_ways _ none (some_from _ 0 (length (places ship)) p (omega arith) (omega arith) here))
+-- flags that are set, below n, as a test says
+pub record SetTo (f : ℕ → Bool) (set : List Bool) (n : ℕ) : Type 0 where
+  pub below : (q : ℕ) → q < n → has set q ≡ f q
 
--- what is there after a discharge was there and stays
-staying_is : (cargo : Cargo) (call c : ℕ) (o : Option ℕ) → staying cargo call o ≡ Some c → (o ≡ Some c) × (leaves_at cargo call (Some c) ≡ false)
-staying_is cargo call c o h = ⊎_elim
-    (λ (e : leaves_at cargo call o ≡ true). absurd (none-some c (sym (cond-true (leaves_at cargo call o) None o e) ∙ h)))
-    (λ (e : leaves_at cargo call o ≡ false). let s : o ≡ Some c = sym (cond-false (leaves_at cargo call o) None o e) ∙ h in (s, ap (leaves_at cargo call) (sym s) ∙ e))
-    (cases_Bool (leaves_at cargo call o))
+pub set_none : (f : ℕ → Bool) (set : List Bool) → SetTo f set 0
+set_none f set = record { below = λ q l. absurd (omega arith) }
 
-pub stayed_from : (cargo : Cargo) (plan : Plan) (call p c : ℕ) → Holds (discharged cargo plan call) p c → Holds plan p c × (leaves_at cargo call (Some c) ≡ false)
-stayed_from cargo [] call p c h = absurd (none-some (Some c) h)
-stayed_from cargo (o ∷ os) call zero c h = let r = staying_is cargo call c o (same_Some _ _ h) in (ap (λ (z : Option ℕ). Some z) r.0, r.1)
-stayed_from cargo (o ∷ os) call (suc p) c h = stayed_from cargo os call p c h
+pub set_more : (f : ℕ → Bool) (set : List Bool) (n : ℕ) (b : Bool) → n < length set → b ≡ f n → SetTo f set n → SetTo f (slice_set set n b) (n + 1)
+set_more f set n b l is to = record {
+  below = λ q m. ⊎_elim
+      (λ (e : q ≡ n). ap (has (slice_set set n b)) e ∙ (get_or-set_same set n b false l ∙ (is ∙ ap f (sym e))))
+      (λ (ne : q ≡ n → ⊥). get_or-set_other set n q b false ne ∙ to.below q (omega (arith, ne)))
+      (cases_eq q n);
+}
 
-pub stays_there : (cargo : Cargo) (plan : Plan) (call p c : ℕ) → Holds plan p c → leaves_at cargo call (Some c) ≡ false → Holds (discharged cargo plan call) p c
-stays_there cargo plan call p c h stays =
-    slice_get-map (staying cargo call) plan p ∙ ap (option_map (staying cargo call)) h ∙ ap (λ (z : Option ℕ). Some z) (cond-false (leaves_at cargo call (Some c)) None (Some c) stays)
+has_past : (set : List Bool) (q : ℕ) → length set ≤ q → has set q ≡ false
+has_past [] q l = refl
+has_past (b ∷ bs) zero l = absurd (omega arith)
+has_past (b ∷ bs) (suc q) l = has_past bs q (omega arith)
 
-pub discharged_sound : (ship : Ship) (cargo : Cargo) (plan : Plan) (call : ℕ) → IsForty ship → IsSound ship cargo plan → has_rehandle ship cargo plan call ≡ false → IsSound ship cargo (discharged cargo plan call)
-discharged_sound ship cargo plan call f s none = record {
-  each_place = length-map plan (staying cargo call) ∙ s.each_place;
-  known = λ p c h. s.known p c (stayed_from cargo plan call p c h).0;
-  once = λ p q c h k. s.once p q c (stayed_from cargo plan call p c h).0 (stayed_from cargo plan call q c k).0;
-  propped = λ p c h t.
-      let was = stayed_from cargo plan call p c h in
-      let under = s.propped p c was.0 t in
-      let inside : p < length (places ship) = let i = slice_get_within plan p (Some c) was.0 in omega (arith, s.each_place) in
-      let low = lower_place ship p 1 f inside (omega arith) in
-      let below : is_below ship (p - 1) p ≡ true = and_from _ _ (eq-eqb _ _ low.same_stack) (lt-ltb _ _ (omega (arith, low.lower))) in
-      (under.0, stays_there cargo plan call (p - 1) under.0 under.1 (nothing_below ship cargo plan call p (p - 1) c under.0 none inside low.within was.0 under.1 below was.1));
+held_past : (plan : Plan) (q : ℕ) → length plan ≤ q → held plan q ≡ None
+held_past [] q l = refl
+held_past (o ∷ os) zero l = absurd (omega arith)
+held_past (o ∷ os) (suc q) l = held_past os q (omega arith)
+
+pub leaving_set : (cargo : Cargo) (call : ℕ) (plan : Plan) (set : List Bool) (n : ℕ) → length set ≤ n → length plan ≡ length set → SetTo (leaving cargo call plan) set n → (q : ℕ) → has set q ≡ leaving cargo call plan q
+leaving_set cargo call plan set n l same to q = ⊎_elim
+    (λ (m : q < n). to.below q m)
+    (λ (m : n ≤ q). has_past set q (omega arith) ∙ sym (ap (is_bound cargo call) (held_past plan q (omega arith))))
+    (cases_lt q n)
+
+bound_from : (cargo : Cargo) (call : ℕ) (o : Option ℕ) → is_bound cargo call o ≡ true → (c : ℕ) × (o ≡ Some c) × (leaves cargo call c ≡ true)
+bound_from cargo call None h = absurd (both_ways false refl h)
+bound_from cargo call (Some c) h = (c, refl, h)
+
+pub leaving_from : (cargo : Cargo) (call : ℕ) (plan : Plan) (p : ℕ) → leaving cargo call plan p ≡ true → (c : ℕ) × Holds plan p c
+leaving_from cargo call plan p h = let b = bound_from cargo call (held plan p) h in (b.0, is_held plan p b.0 b.1)
+
+pub leaving_at : (cargo : Cargo) (call : ℕ) (plan : Plan) (p c : ℕ) → Holds plan p c → leaves cargo call c ≡ true → leaving cargo call plan p ≡ true
+leaving_at cargo call plan p c h l = ap (is_bound cargo call) (held_is plan p (Some c) h) ∙ l
+
+pub leaving_filled : (cargo : Cargo) (call : ℕ) (plan : Plan) (seeds : List Bool) → ((p : ℕ) → has seeds p ≡ leaving cargo call plan p) → IsFilled plan (has seeds)
+leaving_filled cargo call plan seeds same p h = leaving_from cargo call plan p (sym (same p) ∙ h)
+
+-- seeds that are the same spread the same
+pub spread_by : (ship : Ship) (plan : Plan) (seeds others set : ℕ → Bool) → ((p : ℕ) → seeds p ≡ others p) → IsLeastSpread ship plan seeds set → IsLeastSpread ship plan others set
+spread_by ship plan seeds others set same least = record {
+  spread = record { seeded = λ p h. least.spread.seeded p (same p ∙ h); over = least.spread.over; on_cover = least.spread.on_cover };
+  least = λ other s. least.least other (record { seeded = λ p h. s.seeded p (sym (same p) ∙ h); over = s.over; on_cover = s.on_cover });
 }

@@ -1,166 +1,67 @@
--- The loader's plans are legal departures, and none of its calls rehandles anything.
-use Rattle.std.proofs.Common.{◌≡◌, ℕ, zero, suc, ◌+◌, ◌-◌, ◌<◌, true, false, List, [], ◌∷◌, length, Option, Some, None, refl, sym, ◌∙◌, ap, subst, arith, ⊎_elim}
-use Rattle.std.specs.Prelude.{slice_get, All, IfSome}
-use Rattle.std.proofs.lemmas.Bool.{cases_Bool, cases_eq, both_ways, cond-true, cond-false, and_from, eq-eqb, lt-ltb, eqb-false, ne_eqb}
-use Rattle.std.proofs.lemmas.Option.{none-some, same_Some, slice_get_within}
-use Rattle.stow_data.specs.declared.geometry.Cover.{Cover}
-use Rattle.stow_data.specs.declared.geometry.Place.{Place}
-use Rattle.stow_data.specs.Ship.{Ship, places}
-use Rattle.stow_data.specs.Profile.{IsShip}
-use Rattle.stow_data.specs.Shipment.{Cargo, IsShipped}
-use Rattle.stow_data.proofs.Members.{Member}
-use Rattle.stowage_rules.specs.Plan.{Holds}
-use Rattle.stowage_rules.specs.Departure.{AreDepartures}
-use Rattle.voyage_meaning.specs.Moves.{leaves}
-use Rattle.plan_lifts.specs.Least.{IsOver, RehandlesNone, RehandleNone}
-use Rattle.voyage_meaning.specs.Voyage.{HasCount}
-use Rattle.plan_lifts.proofs.Upper.{leaves_is}
-use Rattle.plan_lifts.proofs.Whole.{none_count}
-use Rattle.greedy_loader.specs.Plain.{IsPlainShip, IsPlainCargo}
-use Rattle.stow_data.specs.Plans.{Plan, container_at}
-use Rattle.greedy_loader.specs.Loader.{is_below, leaves_at, has_rehandle, loaded, quay, discharged, departed, departures, load}
-use Rattle.stow_data.proofs.PlanLookups.{place_is, is_container}
-use Rattle.greedy_loader.proofs.Columns.{stack_of, tier_of}
-use Rattle.greedy_loader.proofs.Loading.{and_then_parts}
-use Rattle.greedy_loader.proofs.Quays.{quay_at, quay_from, quay_distinct}
-use Rattle.greedy_loader.proofs.Sound.{IsSound, IsLoaded, Waits, loaded_is}
-use Rattle.greedy_loader.proofs.Leaving.{nothing_below, stayed_from, stays_there, discharged_sound}
-use Rattle.greedy_loader.proofs.Weights.{forty}
-use Rattle.greedy_loader.proofs.Stowed.{IsCarried, each_is, sound_departs, arrival_sound, arrival_carried, plain_arrival}
+-- One call after the other.
+use Rattle.std.proofs.Common.{◌≡◌, ℕ, suc, ◌+◌, ◌-◌, ◌<◌, ◌≤◌, List, [], ◌∷◌, ◌++◌, length, Option, Some, None, refl, sym, ap, subst, arith, inl, inr, append_assoc}
+use Rattle.std.specs.Prelude.{option_map}
+use Rattle.std.proofs.lemmas.List.{append-nil, length-append}
+use Rattle.stow_data.specs.Ship.{Ship}
+use Rattle.stow_data.specs.Shipment.{Cargo}
+use Rattle.stow_data.specs.Plans.{Plan}
+use Rattle.stowage_rules.specs.Plan.{IsWellFormed}
+use Rattle.stowage_rules.specs.Departure.{AreDepartures, HoldsAboard, IsDeparture}
+use Rattle.greedy_loader.specs.Calls.{Departs, DepartFrom}
 
--- a departure is that of a call without rehandles
-record IsReached (ship : Ship) (cargo : Cargo) (before : Plan) (call : ℕ) (after : Plan) : Type 0 where
-  none : has_rehandle ship cargo before call ≡ false
-  filled : loaded ship cargo (discharged cargo before call) (quay cargo call) ≡ Some after
+-- whatever the calls to come give, the plans so far come before it
+abbrev pub LeadsTo : Ship → Cargo → ℕ → ℕ → Plan → List Plan → Type 0
+LeadsTo ship cargo calls call before plans = (rest : Option (List Plan)) → DepartFrom ship cargo call before (calls - call) rest → DepartFrom ship cargo 1 cargo.arrival (calls - 1) (option_map (λ others. plans ++ others) rest)
 
-departed_is : (ship : Ship) (cargo : Cargo) (before : Plan) (call : ℕ) (after : Plan) → departed ship cargo before call ≡ Some after → IsReached ship cargo before call after
-unfolding departed
-departed_is ship cargo before call after h = ⊎_elim
-    (λ (e : has_rehandle ship cargo before call ≡ true). absurd (none-some after (sym (cond-true (has_rehandle ship cargo before call) None (loaded ship cargo (discharged cargo before call) (quay cargo call)) e) ∙ h)))
-    (λ (e : has_rehandle ship cargo before call ≡ false). record { none = e; filled = sym (cond-false (has_rehandle ship cargo before call) None (loaded ship cargo (discharged cargo before call) (quay cargo call)) e) ∙ h })
-    (cases_Bool (has_rehandle ship cargo before call))
+nothing_before : (o : Option (List Plan)) → o ≡ option_map (λ others. [] ++ others) o
+nothing_before None = refl
+nothing_before (Some plans) = refl
 
-shipped : (ship : Ship) (cargo : Cargo) (c : ℕ) → IsPlainCargo ship cargo → c < length cargo.containers → IsShipped (length cargo.rotation) (container_at cargo c)
-shipped ship cargo c plain l = each_is (IsShipped (length cargo.rotation)) cargo.containers c (container_at cargo c) plain.rules.each_shipped (is_container cargo c l)
+pub leads_first : (ship : Ship) (cargo : Cargo) (calls : ℕ) (before : Plan) (plans : List Plan) → before ≡ cargo.arrival → plans ≡ [] → LeadsTo ship cargo calls 1 before plans
+leads_first ship cargo calls before plans is none rest h = subst (λ (z : List Plan). DepartFrom ship cargo 1 cargo.arrival (calls - 1) (option_map (λ others. z ++ others) rest)) (sym none) (subst (DepartFrom ship cargo 1 cargo.arrival (calls - 1)) (nothing_before rest) (subst (λ (z : Plan). DepartFrom ship cargo 1 z (calls - 1) rest) is h))
 
-leaves_same : (cargo : Cargo) (call c : ℕ) → c < length cargo.containers → leaves cargo call c ≡ leaves_at cargo call (Some c)
-leaves_same cargo call c l = leaves_is cargo call c (container_at cargo c) (is_container cargo c l)
+one_before : (plans : List Plan) (after : Plan) (o : Option (List Plan)) → option_map (λ others. plans ++ others) (option_map (λ others. after ∷ others) o) ≡ option_map (λ others. (plans ++ after ∷ []) ++ others) o
+one_before plans after None = refl
+one_before plans after (Some others) = ap (λ (z : List Plan). Some z) (sym (append_assoc plans (after ∷ []) others))
 
--- what is on the quay isn't aboard
-quay_waits : (cargo : Cargo) (earlier : ℕ) (before : Plan) → IsCarried cargo earlier before → Waits cargo (discharged cargo before (suc earlier)) (quay cargo (suc earlier))
-quay_waits cargo earlier before carried = record {
-  known = λ c m. (quay_at cargo (suc earlier) c m).0;
-  fresh = λ p c m h.
-      let here = (quay_at cargo (suc earlier) c m).1 in
-      let aboard = (carried.there p c (stayed_from cargo before (suc earlier) p c h).0).loaded in
-      absurd (omega (arith, here, aboard));
-  distinct = quay_distinct cargo (suc earlier);
-}
+pub leads_more : (ship : Ship) (cargo : Cargo) (calls call : ℕ) (before after : Plan) (plans : List Plan) → call < calls → Departs ship cargo call before (Some after) → LeadsTo ship cargo calls call before plans → LeadsTo ship cargo calls (call + 1) after (plans ++ after ∷ [])
+leads_more ship cargo calls call before after plans l departs leads rest h =
+    let left : suc (calls - (call + 1)) ≡ calls - call = omega (arith, l) in
+    let next : call + 1 ≡ suc call = omega arith in
+    let made : DepartFrom ship cargo call before (suc (calls - (call + 1))) (option_map (λ others. after ∷ others) rest) = inr (after, rest, departs, subst (λ (n : ℕ). DepartFrom ship cargo n after (calls - (call + 1)) rest) next h, refl) in
+    subst (DepartFrom ship cargo 1 cargo.arrival (calls - 1)) (one_before plans after rest) (leads (option_map (λ others. after ∷ others) rest) (subst (λ (n : ℕ). DepartFrom ship cargo call before n (option_map (λ others. after ∷ others) rest)) left made))
 
--- after a call there is aboard what is to be aboard
-carried_on : (ship : Ship) (cargo : Cargo) (earlier : ℕ) (before after : Plan) → IsPlainCargo ship cargo → IsSound ship cargo before → IsCarried cargo earlier before → IsLoaded ship cargo (discharged cargo before (suc earlier)) (quay cargo (suc earlier)) after → IsCarried cargo (suc earlier) after
-carried_on ship cargo earlier before after plain sound carried l = record {
-  there = λ p c h. ⊎_elim
-      (λ (k : Holds (discharged cargo before (suc earlier)) p c).
-      let was = stayed_from cargo before (suc earlier) p c k in
-      let aboard = carried.there p c was.0 in
-      let stays : (container_at cargo c).dest ≡ suc earlier → ⊥ = eqb-false _ _ was.1 in
-      let a = aboard.loaded in
-      let b = aboard.stays in
-      record { loaded = omega (arith, a); stays = ⊎_elim (λ (e : (container_at cargo c).dest ≡ suc earlier). absurd (stays e)) (λ (ne : (container_at cargo c).dest ≡ suc earlier → ⊥). omega (arith, ne, b)) (cases_eq (container_at cargo c).dest (suc earlier)) })
-      (λ (m : Member c (quay cargo (suc earlier))).
-      let q = quay_at cargo (suc earlier) c m in
-      let here = q.1 in
-      let later = (shipped ship cargo c plain q.0).later in
-      record { loaded = omega (arith, here); stays = omega (arith, here, later) })
-      (l.from p c h);
-  whole = λ c known a.
-      let loaded = a.loaded in
-      let stays = a.stays in
-      let to = shipped ship cargo c plain known in
-      ⊎_elim
-      (λ (e : (container_at cargo c).load ≡ suc earlier). l.aboard c (quay_from cargo (suc earlier) c known e (omega (arith, stays)) to.in_rotation))
-      (λ (ne : (container_at cargo c).load ≡ suc earlier → ⊥).
-      let was = carried.whole c known (record { loaded = omega (arith, loaded, ne); stays = omega (arith, stays) }) in
-      (was.0, l.keeps was.0 c (stays_there cargo before (suc earlier) was.0 c was.1 (ne_eqb (container_at cargo c).dest (suc earlier) (λ (e : (container_at cargo c).dest ≡ suc earlier). omega (arith, stays, e))))))
-      (cases_eq (container_at cargo c).load (suc earlier));
-}
+pub leads_none : (ship : Ship) (cargo : Cargo) (calls call : ℕ) (before : Plan) (plans : List Plan) → call < calls → Departs ship cargo call before None → LeadsTo ship cargo calls call before plans → DepartFrom ship cargo 1 cargo.arrival (calls - 1) None
+leads_none ship cargo calls call before plans l departs leads =
+    let left : suc (calls - (call + 1)) ≡ calls - call = omega (arith, l) in
+    let made : DepartFrom ship cargo call before (suc (calls - (call + 1))) None = inl (departs, refl) in
+    leads None (subst (λ (n : ℕ). DepartFrom ship cargo call before n None) left made)
 
-over_below : (ship : Ship) (p q : ℕ) → IsOver ship p q → is_below ship q p ≡ true
-over_below ship p q over =
-    let up = place_is ship p over.upper over.is_upper in
-    let low = place_is ship q over.lower over.is_lower in
-    let us : stack_of ship p ≡ (over.upper).stack = ap (λ (z : Place). z.stack) up in
-    let ls : stack_of ship q ≡ (over.lower).stack = ap (λ (z : Place). z.stack) low in
-    let ut : tier_of ship p ≡ (over.upper).tier = ap (λ (z : Place). z.tier) up in
-    let lt : tier_of ship q ≡ (over.lower).tier = ap (λ (z : Place). z.tier) low in
-    let next = over.next_tier in
-    and_from _ _ (eq-eqb _ _ (ls ∙ sym over.same_stack ∙ sym us)) (lt-ltb _ _ (omega (arith, ut, lt, next)))
+pub leads_all : (ship : Ship) (cargo : Cargo) (calls call : ℕ) (before : Plan) (plans : List Plan) → calls ≤ call → LeadsTo ship cargo calls call before plans → DepartFrom ship cargo 1 cargo.arrival (calls - 1) (Some plans)
+leads_all ship cargo calls call before plans l leads =
+    let left : 0 ≡ calls - call = omega (arith, l) in
+    let made : DepartFrom ship cargo call before 0 (Some []) = refl in
+    subst (λ (z : List Plan). DepartFrom ship cargo 1 cargo.arrival (calls - 1) (Some z)) (append-nil plans) (leads (Some []) (subst (λ (n : ℕ). DepartFrom ship cargo call before n (Some [])) left made))
 
-rehandles_none : (ship : Ship) (cargo : Cargo) (call : ℕ) (before after : Plan) → IsPlainShip ship → IsSound ship cargo before → has_rehandle ship cargo before call ≡ false → IsLoaded ship cargo (discharged cargo before call) (quay cargo call) after → RehandlesNone ship cargo call before after
-rehandles_none ship cargo call before after plain sound none l = record {
-  stays = λ p c h f. l.keeps p c (stays_there cargo before call p c h (sym (leaves_same cargo call c (sound.known p c h)) ∙ f));
-  below = λ p q c d h k over t. ⊎_elim
-      (λ (e : leaves cargo call c ≡ true). e)
-      (λ (e : leaves cargo call c ≡ false).
-      let stays = nothing_below ship cargo before call p q c d none (slice_get_within (places ship) p over.upper over.is_upper) (slice_get_within (places ship) q over.lower over.is_lower) h k (over_below ship p q over) (sym (leaves_same cargo call c (sound.known p c h)) ∙ e) in
-      absurd (both_ways _ stays (sym (leaves_same cargo call d (sound.known q d k)) ∙ t)))
-      (cases_Bool (leaves cargo call c));
-  under_cover = λ p q c h on differs. absurd (none-some on.on.cover (sym (ap (λ (z : List Cover). slice_get z on.cover) plain.no_cover) ∙ on.on.is_cover));
-}
+pub departures_more : (ship : Ship) (cargo : Cargo) (call next : ℕ) (plans : List Plan) (after : Plan) → call + length plans ≡ next → AreDepartures ship cargo call plans → IsDeparture ship cargo next after → AreDepartures ship cargo call (plans ++ after ∷ [])
+departures_more ship cargo call next [] after e all last = let same : next ≡ call = omega (arith, e) in (subst (λ (n : ℕ). IsDeparture ship cargo n after) same last, tt)
+departures_more ship cargo call next (plan ∷ plans) after e all last = (all.0, departures_more ship cargo (suc call) next plans after (omega (arith, e)) all.1 last)
 
--- the calls from one on
-pub record IsSailed (ship : Ship) (cargo : Cargo) (earlier left : ℕ) (before : Plan) (plans : List Plan) : Type 0 where
-  pub departs : AreDepartures ship cargo (suc earlier) plans
-  pub none : RehandleNone ship cargo (suc earlier) before plans
-  pub each : length plans ≡ left
+-- the voyage after the calls before this one
+pub record SailsTo (ship : Ship) (cargo : Cargo) (calls call : ℕ) (before : Plan) (plans : List Plan) : Type 0 where
+  pub leads : LeadsTo ship cargo calls call before plans
+  pub formed : IsWellFormed ship cargo before
+  pub aboard : HoldsAboard cargo (call - 1) before
+  pub legal : AreDepartures ship cargo 1 plans
+  pub long : length plans + 1 ≡ call
 
-sails : (ship : Ship) (cargo : Cargo) (left earlier : ℕ) (before : Plan) (plans : List Plan) → IsShip ship → IsPlainShip ship → IsPlainCargo ship cargo → IsSound ship cargo before → IsCarried cargo earlier before → departures ship cargo before (suc earlier) left ≡ Some plans → IsSailed ship cargo earlier left before plans
-unfolding departures
-sails ship cargo zero earlier before plans rules plain_ship plain sound carried h =
-    let e : [] ≡ plans = same_Some [] plans h in
-    subst (λ (z : List Plan). IsSailed ship cargo earlier zero before z) e (record { departs = tt; none = tt; each = refl })
-sails ship cargo (suc left) earlier before plans rules plain_ship plain sound carried h =
-    let first = and_then_parts (departed ship cargo before (suc earlier)) _ plans h in
-    let rest = and_then_parts (departures ship cargo first.0 (suc earlier + 1) left) _ plans first.2 in
-    let reached = departed_is ship cargo before (suc earlier) first.0 first.1 in
-    let l = loaded_is ship cargo (quay cargo (suc earlier)) (discharged cargo before (suc earlier)) first.0 (forty ship plain_ship) (discharged_sound ship cargo before (suc earlier) (forty ship plain_ship) sound reached.none) (quay_waits cargo earlier before carried) reached.filled in
-    let next = carried_on ship cargo earlier before first.0 plain sound carried l in
-    let s : suc earlier + 1 ≡ suc (suc earlier) = omega arith in
-    let later = sails ship cargo left (suc earlier) first.0 rest.0 rules plain_ship plain l.sound next (ap (λ (k : ℕ). departures ship cargo first.0 k left) (sym s) ∙ rest.1) in
-    let e : first.0 ∷ rest.0 ≡ plans = same_Some (first.0 ∷ rest.0) plans rest.2 in
-    subst (λ (z : List Plan). IsSailed ship cargo earlier (suc left) before z) e (record {
-      departs = (sound_departs ship cargo (suc earlier) first.0 rules plain_ship plain l.sound next, later.departs);
-      none = (rehandles_none ship cargo (suc earlier) before first.0 plain_ship sound reached.none l, later.none);
-      each = ap suc later.each;
-    })
-
--- The loader's plans on a plain ship are legal departures of calls 1 to N-1, and no call rehandles anything.
-pub load_is_legal : (ship : Ship) (cargo : Cargo) (plans : List Plan) → IsShip ship → IsPlainShip ship → IsPlainCargo ship cargo → load ship cargo ≡ Some plans
-    → AreDepartures ship cargo 1 plans × RehandleNone ship cargo 1 cargo.arrival plans × (length plans + 1 ≡ length cargo.rotation)
-load_is_legal ship cargo plans rules plain_ship plain h =
-    let r = sails ship cargo (length cargo.rotation - 1) 0 cargo.arrival plans rules plain_ship plain (arrival_sound ship cargo plain) (arrival_carried ship cargo plain) h in
-    let each = r.each in
-    let calls = plain.rules.calls_from in
-    (r.departs, r.none, omega (arith, each, calls))
-
--- Their rehandle count is 0.
-pub load_has_count : (ship : Ship) (cargo : Cargo) (plans : List Plan) → IsShip ship → IsPlainShip ship → IsPlainCargo ship cargo → load ship cargo ≡ Some plans → HasCount ship cargo plans 0
-load_has_count ship cargo plans rules plain_ship plain h =
-    let r = load_is_legal ship cargo plans rules plain_ship plain h in
-    none_count ship cargo plans rules plain.rules r.2 (plain_arrival ship cargo plain_ship plain) r.0 r.1
-
--- of the loader's answer
-pub plans_are_legal : (ship : Ship) (cargo : Cargo) (o : Option (List Plan)) → IsShip ship → IsPlainShip ship → IsPlainCargo ship cargo → o ≡ load ship cargo → IfSome o (AreDepartures ship cargo 1)
-plans_are_legal ship cargo None rules plain_ship plain h = tt
-plans_are_legal ship cargo (Some plans) rules plain_ship plain h = (load_is_legal ship cargo plans rules plain_ship plain (sym h)).0
-
-pub plans_have_count : (ship : Ship) (cargo : Cargo) (o : Option (List Plan)) → IsShip ship → IsPlainShip ship → IsPlainCargo ship cargo → o ≡ load ship cargo → IfSome o (λ plans. HasCount ship cargo plans 0)
-plans_have_count ship cargo None rules plain_ship plain h = tt
-plans_have_count ship cargo (Some plans) rules plain_ship plain h = load_has_count ship cargo plans rules plain_ship plain (sym h)
-
--- each of them has an entry for each place
-pub departures_whole : (ship : Ship) (cargo : Cargo) (call : ℕ) (plans : List Plan) → AreDepartures ship cargo call plans → All (λ plan. length plan ≡ length (places ship)) plans
-departures_whole ship cargo call [] h k d l = absurd (omega arith)
-departures_whole ship cargo call (plan ∷ plans) h zero d l = h.0.stowed.well_formed.each_place
-departures_whole ship cargo call (plan ∷ plans) h (suc k) d l = departures_whole ship cargo (suc call) plans h.1 k d (omega arith)
+pub sailed_on : (ship : Ship) (cargo : Cargo) (calls call : ℕ) (before after next : Plan) (plans more : List Plan) → next ≡ after → more ≡ plans ++ after ∷ [] → call < calls → Departs ship cargo call before (Some after) → IsDeparture ship cargo call after → LeadsTo ship cargo calls call before plans → AreDepartures ship cargo 1 plans → length plans + 1 ≡ call → SailsTo ship cargo calls (call + 1) next more
+sailed_on ship cargo calls call before after next plans more same pushed l departs legal leads all long =
+    let now : call ≡ call + 1 - 1 = omega arith in
+    subst (λ (z : Plan). SailsTo ship cargo calls (call + 1) z more) (sym same) (subst (λ (zs : List Plan). SailsTo ship cargo calls (call + 1) after zs) (sym pushed) (record {
+      leads = leads_more ship cargo calls call before after plans l departs leads;
+      formed = legal.stowed.well_formed;
+      aboard = subst (λ (n : ℕ). HoldsAboard cargo n after) now legal.stowed.aboard;
+      legal = departures_more ship cargo 1 call plans after (omega (arith, long)) all legal;
+      long = omega (arith, length-append plans (after ∷ []), long);
+    }))

@@ -1,2 +1,7 @@
-pub mod Plain
-pub mod Loader
+pub mod Sides
+pub mod Rule
+pub mod Kept
+pub mod Quays
+pub mod Turns
+pub mod Calls
+pub mod Law

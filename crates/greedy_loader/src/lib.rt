@@ -1,11 +1,25 @@
-//! The loader's rule: the plans of a voyage, made call by call, each container at the first place in which it lifts nothing later.
+//! The loader's rule for every ship: what is lifted at a call, where each container goes, and the departures of a voyage.
 #![tactic(auto)]
 
-mod loader;
-mod plain;
+mod boarding;
+mod choosing;
+mod clearing;
+mod departing;
+mod halves;
+mod law;
+mod layout;
+mod lifted;
+mod opening;
+mod quay;
+mod taking_out;
+mod waiting;
 
-pub use loader::load;
-pub use plain::{are_plain, is_plain_ship};
-
-#[cfg(test)]
-mod tests;
+pub use boarding::{load_all, load_one};
+pub use choosing::choice;
+pub use departing::{depart, load};
+pub use law::one_voyage;
+pub use layout::Layout;
+pub use lifted::lifted_at;
+pub use quay::in_order;
+pub use taking_out::staying;
+pub use waiting::quay_of;

@@ -1,6 +1,0 @@
-use Rattle.std.proofs.Common.{ℕ, ◌<◌}
-use Rattle.loading_rule.specs.Rule.{IsClean}
-use Rattle.loading_rule.proofs.choosing.first_clean.Given as goal
-
-abbrev pub invariant-loop-p : goal.invariant-loop-p
-invariant-loop-p l = (n : ℕ) → n < l.p → IsClean l.ship l.cargo l.layout.plan l.x n → ⊥

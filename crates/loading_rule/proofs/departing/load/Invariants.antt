@@ -1,6 +1,0 @@
-use Rattle.std.proofs.Common.{length}
-use Rattle.loading_rule.proofs.Sailing.{SailsTo}
-use Rattle.loading_rule.proofs.departing.load.Given as goal
-
-abbrev pub invariant-loop-call : goal.invariant-loop-call
-invariant-loop-call l = SailsTo l.ship l.cargo (length l.cargo.rotation) l.call l.before l.plans

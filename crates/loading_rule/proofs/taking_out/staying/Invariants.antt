@@ -1,9 +1,0 @@
-use Rattle.loading_rule.specs.Kept.{IsKept}
-use Rattle.loading_rule.specs.Quays.{HoldsUpTo}
-use Rattle.loading_rule.proofs.taking_out.staying.Given as goal
-
-abbrev pub invariant-loop-p : goal.invariant-loop-p
-invariant-loop-p l = record {
-  kept : IsKept l.ship l.cargo l.layout;
-  holds : HoldsUpTo l.before l.set l.p l.layout.plan;
-}

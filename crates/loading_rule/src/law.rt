@@ -1,7 +1,0 @@
-//! The rule determines the departures.
-ghost use Rattle.loading_rule.specs.Law.{HasOneVoyage};
-
-/// Whatever departures the rule makes of a plan, they are the same.
-pub fn one_voyage()
-    ensures { HasOneVoyage }
-{}
