@@ -117,7 +117,7 @@ module _ (m : Voyage) (rules : IsProblem m) where
     place_low : (p c : ℕ) → Holds m.cargo.arrival p c → p < length (places m.ship)
     place_low p c h = let a = slice_get_within m.cargo.arrival p (Some c) h in let b = rules.arrives.well_formed.each_place in omega arith
 
-    starts : (p c : ℕ) → Holds m.cargo.arrival p c → (starter p < length (variables m)) × (begins p (starter p) ≡ true)
+    pub starts : (p c : ℕ) → Holds m.cargo.arrival p c → (starter p < length (variables m)) × (begins p (starter p) ≡ true)
     starts p c h = ⊎_elim
         (λ (r : (k : ℕ) × (k < length (variables m)) × (begins p k ≡ true)). some_of_is (begins p) (length (variables m)) r.0 r.1 r.2)
         (λ (none : (k : ℕ) → k < length (variables m) → begins p k ≡ false).
@@ -126,7 +126,7 @@ module _ (m : Voyage) (rules : IsProblem m) where
         absurd (omega (arith, ints, row, z)))
         (found (length (variables m)) (begins p))
 
-    begin_parts : (p v : ℕ) → begins p v ≡ true → (x v ≡ true) × ((var m v).put ≡ 0) × ((var m v).place ≡ p)
+    pub begin_parts : (p v : ℕ) → begins p v ≡ true → (x v ≡ true) × ((var m v).put ≡ 0) × ((var m v).place ≡ p)
     begin_parts p v h = let a = and_parts (x v) _ h in let b = and_parts ((var m v).put == 0) _ a.1 in (a.0, eqb-true _ _ b.0, eqb-true _ _ b.1)
 
     minus_low : (t a : Bool) → where_set t (pos 0 -ℤ bit a) ≤ℤ pos 0
@@ -139,7 +139,7 @@ module _ (m : Voyage) (rules : IsProblem m) where
     minus_is true false h = absurd (both_ways false refl h)
     minus_is false a h = absurd (both_ways false refl h)
 
-    one_start : (p c v w : ℕ) → Holds m.cargo.arrival p c → v < length (variables m) → w < length (variables m) → begins p v ≡ true → begins p w ≡ true → v ≡ w
+    pub one_start : (p c v w : ℕ) → Holds m.cargo.arrival p c → v < length (variables m) → w < length (variables m) → begins p v ≡ true → begins p w ≡ true → v ≡ w
     one_start p c v w h l k a b = ⊎_elim (λ (e : v ≡ w). e)
         (λ (ne : v ≡ w → ⊥).
         let row = solution (Start 1 p) (start_exists 1 p c (omega arith) h) in
@@ -148,7 +148,7 @@ module _ (m : Voyage) (rules : IsProblem m) where
         (cases_eq v w)
 
     -- what a variable that begins says of the arrival
-    begun_there : (v : ℕ) → v < length (variables m) → (var m v).put ≡ 0 → (c : ℕ) × Holds m.cargo.arrival (var m v).place c × (kind_at m c ≡ (var m v).kind)
+    pub begun_there : (v : ℕ) → v < length (variables m) → (var m v).put ≡ 0 → (c : ℕ) × Holds m.cargo.arrival (var m v).place c × (kind_at m c ≡ (var m v).kind)
     begun_there v l e = arrived_at (var m v).kind (var m v).place (cond_at _ _ _ (eq-eqb _ 0 e) (var_test v l).2)
 
     same_held : (plan : Plan) (p q c d : ℕ) → Holds plan p c → Holds plan q d → p ≡ q → c ≡ d

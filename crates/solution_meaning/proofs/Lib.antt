@@ -19,3 +19,6 @@ pub mod Runs
 pub mod Blocks
 pub mod Others
 pub mod Final
+pub mod Sorting
+pub mod Walk
+pub mod First

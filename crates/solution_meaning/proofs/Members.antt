@@ -68,7 +68,7 @@ pub often_low : {X : Type 0} (k : X → ℕ) (a : ℕ) (xs : List X) → pos 0 �
 often_low k a [] = omega (arith, ints)
 often_low k a (x ∷ xs) = omega (arith, ints, often_low k a xs, bit_low (k x == a))
 
-often_member : {X : Type 0} (k : X → ℕ) (a : ℕ) (xs : List X) (x : X) → Member x xs → k x ≡ a → pos 1 ≤ℤ often k a xs
+pub often_member : {X : Type 0} (k : X → ℕ) (a : ℕ) (xs : List X) (x : X) → Member x xs → k x ≡ a → pos 1 ≤ℤ often k a xs
 often_member k a [] x h e = absurd h
 often_member k a (y ∷ ys) x (inl s) e = let o : bit (k y == a) ≡ pos 1 = ap bit (eq-eqb (k y) a (ap k (sym s) ∙ e)) in omega (arith, ints, often_low k a ys)
 often_member k a (y ∷ ys) x (inr h) e = omega (arith, ints, often_member k a ys x h e, bit_low (k y == a))

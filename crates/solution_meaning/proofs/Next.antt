@@ -24,10 +24,10 @@ split_pair false true z h = absurd (both_ways false refl (h refl))
 split_pair false false z h = omega (arith, ints)
 
 module _ (m : Voyage) (x : ℕ → Bool) (facts : Facts m) (solution : IsSolution m x) (i : ℕ) (call : is_call m (suc i) ≡ true) (held : List (ℕ × ℕ)) (is : IsHeld m x i held) where
-  abbrev Good : ℕ → Type 0
+  abbrev pub Good : ℕ → Type 0
   Good v = (v < length (variables m)) × (x v ≡ true) × ((var m v).put ≡ suc i)
 
-  abbrev Due : ℕ → Type 0
+  abbrev pub Due : ℕ → Type 0
   Due c = (c < length m.cargo.containers) × ((container m c).load ≤ suc i) × (suc i < (container m c).dest)
 
   leaves_gone : (e : ℕ × ℕ) → IsPair m x i e → leaves m (suc i) e.1 ≡ true → gone m (suc i) e.0 ≡ true
@@ -36,10 +36,10 @@ module _ (m : Voyage) (x : ℕ → Bool) (facts : Facts m) (solution : IsSolutio
       let c : (kind m (var m e.0).kind).dest ≡ (kind m (kind_at m e.1)).dest = ap (λ (t : ℕ). (kind m t).dest) p.alike in
       let d : (container m e.1).dest ≡ suc i = eqb-true _ _ l in let f = p.lifted in omega arith)
 
-  goods : Each Good (new m x facts solution i call held is)
+  pub goods : Each Good (new m x facts solution i call held is)
   goods = each_picked Good (put_here m x facts solution i call held is) (length (variables m)) (λ v l t. let both = and_parts (x v) ((var m v).put == suc i) t in (l, both.0, eqb-true _ _ both.1))
 
-  dues : Each Due (pool m x facts solution i call held is)
+  pub dues : Each Due (pool m x facts solution i call held is)
   dues = each_append Due (freed m (suc i) held) (loading m x facts solution i call held is)
       (each_freed m (suc i) (IsPair m x i) Due held (λ e p l. let other : (container m e.1).dest ≡ suc i → ⊥ = eqb-false _ _ l in let a = p.load in let b = p.dest in (p.box_known, omega arith, omega arith)) is.each)
       (each_picked Due _ (length m.cargo.containers) (λ c l t. let e : (container m c).load ≡ suc i = eqb-true _ _ t in let a = facts.in_order c l in (l, omega arith, omega arith)))
@@ -90,6 +90,10 @@ module _ (m : Voyage) (x : ℕ → Bool) (facts : Facts m) (solution : IsSolutio
       is = record { each = each_append _ _ _ pairs_kept pairs_new; vars = vars_next; boxes = boxes_next };
       put_now = each_more _ _ found.pairs (λ e h. h.0.2) found.each;
     }
+
+    pub pairs_are : next_by.pairs ≡ found.pairs
+    unfolding next_by
+    pairs_are = refl
 
   -- by the rows of flow there is one
   pub next : IsNext m x i held

@@ -96,7 +96,7 @@ module _ (m : Voyage) (x : ℕ → Bool) where
   pub past_step : (i : ℕ) → ends_at (suc i) +ℤ ends_past (suc i) ≡ ends_past i
   past_step i = sym (plus_sum (length (variables m)) _ _) ∙ same_sum (length (variables m)) _ _ (λ v l. past_term (var m v).lifted i (x v) (costs m v))
 
-  past_low : (i : ℕ) → pos 0 ≤ℤ ends_past i
+  pub past_low : (i : ℕ) → pos 0 ≤ℤ ends_past i
   past_low i = low_sum (length (variables m)) _ (λ v. low_term (x v) _ _)
 
   -- the moves of a call lead from one plan to the next, and count what ends there

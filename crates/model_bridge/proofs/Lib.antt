@@ -1,0 +1,4 @@
+pub mod Lists
+pub mod Bags
+pub mod Steps
+pub mod Reached

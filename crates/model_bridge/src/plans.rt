@@ -1,0 +1,55 @@
+//! The departures of a solution.
+ghost use Rattle.std.specs.Prelude.{◌≡◌, ◌<◌, All, IfOk, length};
+ghost use Rattle.zero_one_rows.specs.Variables.{variables};
+ghost use Rattle.solution_meaning.specs.Laws.{IsProblem};
+ghost use Rattle.model_bridge.specs.Pairs.{plan_of_pairs};
+ghost use Rattle.model_bridge.specs.Sailed.{IsFull, BreaksNone, AreSailed};
+
+use crate::pairs::{HeldList, held_after, held_at_arrival, kind_list, ones_of};
+use std::alloc::Global;
+use stow_data::{CallNo, Cargo, NoMemory, Plan, PlanList, Seq, Ship, kinds};
+use zero_one_model::{Box01, Model};
+
+/// The plan of the pairs: each container stands at its variable's place.
+fn plan_with(alloc: Global, ship: &Ship, model: &Model, held: &HeldList) -> Result<Plan, NoMemory>
+    requires ship { model.now.ship ≡ ship.now }
+    requires vars { All (λ e. e.0 < length (variables model.now)) held.now }
+    ensures { IfOk result (λ plan. plan ≡ plan_of_pairs model.now held.now) }
+{
+    let mut plan = Plan::empty(alloc, ship)?;
+    for n in 0..held.len() {
+        let pair = held.at(held.len() - 1 - n);
+        plan.set(model.var(pair.0).place, Some(pair.1));
+    }
+    Ok(plan)
+}
+
+/// Plans of a legal voyage whose rehandle count is at most the cost of a full box that breaks no base row.
+///
+/// At each call the variables that are put there are matched with the containers that load, or are lifted to be put
+/// again, kind by kind.
+pub fn plan_of(
+    alloc: Global,
+    ship: &Ship,
+    cargo: &Cargo,
+    model: &Model,
+    full: &Box01,
+) -> Result<PlanList, NoMemory>
+    requires ship { model.now.ship ≡ ship.now }
+    requires cargo { model.now.cargo ≡ cargo.now }
+    requires problem { IsProblem model.now }
+    requires full { IsFull model.now full.now }
+    requires rows { BreaksNone model.now full.now }
+    ensures { IfOk result (AreSailed model.now full.now) }
+{
+    let kinds = kinds(alloc, ship, cargo)?;
+    let kinds = kind_list(alloc, cargo, model, &kinds)?;
+    let list = ones_of(alloc, model, full)?;
+    let mut held = held_at_arrival(alloc, cargo, model, &list)?;
+    let mut plans = Seq::new(alloc);
+    for call in 1..cargo.calls() {
+        held = held_after(alloc, cargo, model, &kinds, &list, &held, CallNo(call))?;
+        plans.push(plan_with(alloc, ship, model, &held)?)?;
+    }
+    Ok(plans)
+}
