@@ -9,11 +9,10 @@ use Rattle.zero_one_rows.specs.Rows.{whole}
 use Rattle.proof_trees.specs.Program.{Program}
 use Rattle.proof_trees.specs.Multipliers.{Multipliers}
 use Rattle.certificate.specs.declared.refusals.BoundNo.{BoundNo}
-use Rattle.bound_checker.specs.declared.sums.Sums.{Sums}
 use Rattle.bound_checker.specs.Entries.{raise_of}
 use Rattle.bound_checker.specs.Faults.{raised_row, raised_rows}
-use Rattle.bound_checker.specs.Sums.{Carries, Carried, Stands}
-use Rattle.bound_checker.proofs.Raising.{stands_none}
+use Rattle.bound_checker.specs.Prices.{Ends, Held}
+use Rattle.bound_checker.proofs.Raising.{ends_none}
 
 pub take_over : {X : Type 0} (xs : List X) (k : ℕ) → length xs ≤ k → take k xs ≡ xs
 take_over xs k le = grind (arith, common_steps)
@@ -53,29 +52,29 @@ module _ (p : Program Row) (node : ℕ) where
         ap (λ (ys : List Raise). raised_rows p node o (map raise_of ys)) (sym (take-append-drop (k + 1) xs)) ∙ raised_append o (take (k + 1) xs) (drop (k + 1) xs) ∙ ap (λ (q : Outcome). raised_rows p node q (map raise_of (drop (k + 1) xs))) raised_more
 
 module _ (m : Voyage) (node : ℕ) where
-  stands_carried : (o : Outcome) (s : Sums) → Stands m o (Ok tt) s → Carried m o s
-  stands_carried (Ok ms) s h = h
-  stands_carried (Err f) s h = h
+  ends_held : (H : Multipliers Row → Type 0) (o : Outcome) → Ends H o (Ok tt) → Held H o
+  ends_held H (Ok ms) h = h
+  ends_held H (Err f) h = h
 
-  pub carried_stands : (o : Outcome) (s : Sums) → Carried m o s → Stands m o (Ok tt) s
-  carried_stands (Ok ms) s h = h
-  carried_stands (Err f) s h = h
+  pub held_ends : (H : Multipliers Row → Type 0) (o : Outcome) → Held H o → Ends H o (Ok tt)
+  held_ends H (Ok ms) h = h
+  held_ends H (Err f) h = h
 
   -- a raise that went well
-  pub carried_more : (o : Outcome) (x : Raise) (s s' : Sums) → Carried m o s → ((ms : Multipliers Row) → Carries m ms s → Stands m (raised_row (whole m) node ms (raise_of x)) (Ok tt) s') → Carried m (after (whole m) node o x) s'
-  carried_more (Err f) x s s' h step = absurd h
-  carried_more (Ok ms) x s s' h step = stands_carried (raised_row (whole m) node ms (raise_of x)) s' (step ms h)
+  pub held_more : (H K : Multipliers Row → Type 0) (o : Outcome) (x : Raise) → Held H o → ((ms : Multipliers Row) → H ms → Ends K (raised_row (whole m) node ms (raise_of x)) (Ok tt)) → Held K (after (whole m) node o x)
+  held_more H K (Err f) x h step = absurd h
+  held_more H K (Ok ms) x h step = ends_held K (raised_row (whole m) node ms (raise_of x)) (step ms h)
 
-  stands_on : (o : Outcome) (g : BoundNo) (rs : List (Row × ℤ)) (s : Sums) → Stands m o (Err g) s → Stands m (raised_rows (whole m) node o rs) (Err g) s
-  stands_on (Ok ms) g rs s h = stands_none m (raised_rows (whole m) node (Ok ms) rs) (Err g) s g refl h
-  stands_on (Err f) g rs s h = subst (λ (q : Outcome). Stands m q (Err g) s) (sym (failed (whole m) node f rs)) h
+  ends_on : (H : Multipliers Row → Type 0) (o : Outcome) (g : BoundNo) (rs : List (Row × ℤ)) → Ends H o (Err g) → Ends H (raised_rows (whole m) node o rs) (Err g)
+  ends_on H (Ok ms) g rs h = ends_none H (raised_rows (whole m) node (Ok ms) rs) (Err g) g refl h
+  ends_on H (Err f) g rs h = subst (λ (q : Outcome). Ends H q (Err g)) (sym (failed (whole m) node f rs)) h
 
   -- a raise that failed, and the raises behind it
-  pub fails_more : (o : Outcome) (x : Raise) (g : BoundNo) (rs : List (Row × ℤ)) (s s' : Sums) → Carried m o s → ((ms : Multipliers Row) → Carries m ms s → Stands m (raised_row (whole m) node ms (raise_of x)) (Err g) s')
-      → Stands m (raised_rows (whole m) node (after (whole m) node o x) rs) (Err g) s'
-  fails_more (Err f) x g rs s s' h step = absurd h
-  fails_more (Ok ms) x g rs s s' h step = stands_on (raised_row (whole m) node ms (raise_of x)) g rs s' (step ms h)
+  pub fails_more : (H K : Multipliers Row → Type 0) (o : Outcome) (x : Raise) (g : BoundNo) (rs : List (Row × ℤ)) → Held H o → ((ms : Multipliers Row) → H ms → Ends K (raised_row (whole m) node ms (raise_of x)) (Err g))
+      → Ends K (raised_rows (whole m) node (after (whole m) node o x) rs) (Err g)
+  fails_more H K (Err f) x g rs h step = absurd h
+  fails_more H K (Ok ms) x g rs h step = ends_on K (raised_row (whole m) node ms (raise_of x)) g rs (step ms h)
 
-  pub carries_one : (o : Outcome) (s : Sums) → Carried m o s → (ms : Multipliers Row) × Carries m ms s
-  carries_one (Ok ms) s h = (ms, h)
-  carries_one (Err f) s h = absurd h
+  pub one_held : (H : Multipliers Row → Type 0) (o : Outcome) → Held H o → (ms : Multipliers Row) × H ms
+  one_held H (Ok ms) h = (ms, h)
+  one_held H (Err f) h = absurd h

@@ -5,9 +5,15 @@ pub mod Adding
 pub mod Sizes
 pub mod Touched
 pub mod Multiplied
-pub mod Raising
+pub mod Alike
+pub mod Waiting
+pub mod Back
 pub mod RowsListed
 pub mod Room
+pub mod Raising
 pub mod InOrder
 pub mod FirstFault
-pub mod OneLeaf
+pub mod Bounding
+pub mod Stepping
+pub mod Numbered
+pub mod Walks

@@ -1,6 +1,7 @@
 -- A look-up in a map of rows is that in its list of rows.
-use Rattle.std.proofs.Common.{◌≡◌, ℕ, Bool, true, false, cond, List, [], ◌∷◌, Option, Some, refl, ap, sym, ◌∙◌, subst}
+use Rattle.std.proofs.Common.{◌≡◌, ℕ, Bool, true, false, cond, List, [], ◌∷◌, Option, Some, None, refl, ap, sym, ◌∙◌, subst}
 use Rattle.std.specs.Prelude.{unwrap_or}
+use Rattle.std.specs.Option.{IfSome}
 use Rattle.std.specs.Map.{lookup}
 use Rattle.std.specs.Ordering.{is_eq}
 use Rattle.std.specs.BTreeMap.{is_at}
@@ -32,3 +33,17 @@ pub amount_put : (es es' : List (Row × ℕ)) (r q : Row) (n : ℕ) → lookup (
     → amount_of same_row es' q ≡ cond (same_row r q) n (amount_of same_row es q)
 amount_put es es' r q n h =
     sym (amount_looked_up es' q) ∙ ap (λ (o : Option ℕ). unwrap_or o 0) h ∙ unwrap_cond (is_eq (order.ghosts.cmp r q)) n (lookup (is_at (order.ghosts.cmp q)) es) ∙ ap (λ (c : Bool). cond c n (unwrap_or (lookup (is_at (order.ghosts.cmp q)) es) 0)) (order_same r q) ∙ ap (λ (k : ℕ). cond (same_row r q) n k) (amount_looked_up es q)
+
+-- after one row was taken out of the map
+pub amount_out : (es es' : List (Row × ℕ)) (r q : Row) → lookup (is_at (order.ghosts.cmp q)) es' ≡ cond (is_eq (order.ghosts.cmp r q)) None (lookup (is_at (order.ghosts.cmp q)) es)
+    → amount_of same_row es' q ≡ cond (same_row r q) 0 (amount_of same_row es q)
+amount_out es es' r q h =
+    sym (amount_looked_up es' q) ∙ ap (λ (o : Option ℕ). unwrap_or o 0) h ∙ unwrap_none (is_eq (order.ghosts.cmp r q)) (lookup (is_at (order.ghosts.cmp q)) es) ∙ ap (λ (c : Bool). cond c 0 (unwrap_or (lookup (is_at (order.ghosts.cmp q)) es) 0)) (order_same r q) ∙ ap (λ (k : ℕ). cond (same_row r q) 0 k) (amount_looked_up es q)
+  where
+    unwrap_none : (c : Bool) (o : Option ℕ) → unwrap_or (cond c None o) 0 ≡ cond c 0 (unwrap_or o 0)
+    unwrap_none true o = refl
+    unwrap_none false o = refl
+
+pub if_some_other : {X : Type 0} (P Q : X → Type 0) → ((x : X) → P x → Q x) → (o : Option X) → IfSome o P → IfSome o Q
+if_some_other P Q f None h = tt
+if_some_other P Q f (Some x) h = f x h

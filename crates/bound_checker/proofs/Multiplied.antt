@@ -40,7 +40,7 @@ amount_with (x ∷ ms) r q n = by (same_row x.0 r) refl (amount_with ms r q n)
     by true e rest = twice (same_row x.0 q) n x.1 (amount_of same_row ms q) ∙ ap (λ (y : Row). cond (same_row y q) n (cond (same_row x.0 q) x.1 (amount_of same_row ms q))) (same_equal x.0 r e)
     by false e rest = ap (λ (k : ℕ). cond (same_row x.0 q) x.1 k) rest ∙ swapped (same_row x.0 q) (same_row r q) x.1 n (amount_of same_row ms q) (λ h k. not_both x.0 r q e h k)
 
-sum_times : (a b c : ℤ) → (a +ℤ b) *ℤ c ≡ a *ℤ c +ℤ b *ℤ c
+pub sum_times : (a b c : ℤ) → (a +ℤ b) *ℤ c ≡ a *ℤ c +ℤ b *ℤ c
 sum_times a b c = omega (arith, ints, ap (λ (n : ℕ). n * up c) (sum_is_lem a b), ap (λ (n : ℕ). n * down c) (sum_is_lem a b))
 
 pub dot_with : (ms : Multipliers Row) (r : Row) (n : ℕ) (z : ℤ) (f : Row → ℤ) → pos (amount_of same_row ms r) +ℤ z ≡ pos n → dot (with_amount same_row ms r n) f ≡ dot ms f +ℤ z *ℤ f r

@@ -1,5 +1,5 @@
 -- A certificate's records as a proof tree over the rows and the numbered variables of a voyage's program.
-use Rattle.std.specs.Prelude.{◌≡◌, ℕ, Bool, true, false, All, ◌==◌, ◌&&◌, List, [], ◌∷◌, map, ℤ, nat_eq}
+use Rattle.std.specs.Prelude.{◌≡◌, ℕ, Bool, false, ◌==◌, ◌&&◌, List, [], ◌∷◌, map, ℤ, nat_eq}
 use Rattle.std.specs.List.{position_or_len}
 use Rattle.std.specs.Cmp.Lexicographic.{pointwise}
 use Rattle.zero_one_rows.specs.declared.program.Var.{Var}
@@ -10,7 +10,7 @@ use Rattle.zero_one_rows.specs.Variables.{Voyage, variables}
 use Rattle.certificate.specs.declared.tree.End.{End}
 use Rattle.certificate.specs.declared.tree.End.TheVariants.{Leaf, Left, Branch}
 use Rattle.certificate.specs.declared.tree.Record.{Record}
-use Rattle.zero_one_rows.specs.Rows.{whole, is_base}
+use Rattle.zero_one_rows.specs.Rows.{whole}
 use Rattle.proof_trees.specs.Trees as trees
 
 -- of one family, with the same numbers
@@ -49,14 +49,3 @@ module _ (m : Voyage) where
   -- the records are a tree that proves the bound over the program's rows
   abbrev pub ProvesBound : List Record → ℕ → Type 0
   ProvesBound records bound = trees.Proves same_row (whole m) (map entry_of records) bound
-
--- the records change multipliers of base rows alone
-abbrev pub RaisesBase : List Record → Type 0
-RaisesBase records = All (λ r. All (λ raise. is_base raise.row ≡ true) r.raises) records
-
--- one record without steps that ends in a leaf
-pub record IsOneLeaf (records : List Record) : Type 0 where
-  pub leaf : Record
-  pub alone : records ≡ leaf ∷ []
-  pub no_steps : leaf.steps ≡ []
-  pub ends : leaf.end ≡ Leaf

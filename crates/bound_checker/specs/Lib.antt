@@ -1,4 +1,6 @@
 pub mod Entries
 pub mod Faults
 pub mod Sums
-pub mod Taken
+pub mod Waits
+pub mod Prices
+pub mod Walks

@@ -1,11 +1,9 @@
 -- What the checker keeps of multipliers, and the sizes that keep its sums in range. No public clause cites this module.
-use Rattle.std.specs.Prelude.{◌≡◌, ◌≢◌, ℕ, ◌<◌, ◌≤◌, ◌^◌, true, false, cond, nat_le, List, [], ◌∷◌, length, slice_index_or, Option, Some, None, Result, Ok, Err, ℤ, pos, negsuc, unsigned_abs}
+use Rattle.std.specs.Prelude.{◌≡◌, ℕ, ◌<◌, ◌≤◌, ◌^◌, true, false, cond, nat_le, List, [], ◌∷◌, length, slice_index_or, Option, Some, None, ℤ, pos, negsuc, unsigned_abs}
 use Rattle.zero_one_rows.specs.declared.program.Row.{Row}
 use Rattle.zero_one_rows.specs.Variables.{Voyage, variables}
 use Rattle.zero_one_rows.specs.Rows.{whole}
 use Rattle.proof_trees.specs.Multipliers.{Multipliers, amount_of, weighed, weighed_rhs}
-use Rattle.certificate.specs.declared.refusals.BoundNo.{BoundNo}
-use Rattle.certificate.specs.declared.refusals.BoundNo.TheVariants.{NoMemory}
 use Rattle.bound_checker.specs.declared.sums.Sums.{Sums}
 use Rattle.bound_checker.specs.Entries.{same_row}
 
@@ -48,17 +46,6 @@ pub record HasRoom (m : Voyage) (s : Sums) : Type 0 where
   pub right : unsigned_abs s.right ≤ 2 ^ 98
   pub len : length s.weighed.items ≡ length (variables m)
   pub weights : (v : ℕ) → v < length (variables m) → unsigned_abs (weight_at s.weighed.items v) ≤ 2 ^ 78
-
--- the sums after changes that should end so; want of memory is free
-abbrev pub Stands : Voyage → Result (Multipliers Row) BoundNo → Result (Unit {0}) BoundNo → Sums → Type 0
-Stands m (Ok ms) (Ok u) s = Carries m ms s
-Stands m (Ok ms) (Err f) s = f ≡ NoMemory
-Stands m (Err f) (Ok u) s = ⊥
-Stands m (Err f) (Err g) s = g ≢ NoMemory → g ≡ f
-
-abbrev pub Carried : Voyage → Result (Multipliers Row) BoundNo → Sums → Type 0
-Carried m (Ok ms) s = Carries m ms s
-Carried m (Err f) s = ⊥
 
 -- some multipliers have these sums
 abbrev pub CarriesSome : Voyage → Sums → Type 0

@@ -1,5 +1,5 @@
 //! The multipliers of rows.
-ghost use Rattle.std.specs.Prelude.{◌≡◌, ℕ, cond, OnOk, IfOk, []};
+ghost use Rattle.std.specs.Prelude.{◌≡◌, ℕ, cond, OnOk, IfOk, IfNone, IfSome, [], ◌∷◌};
 ghost use Rattle.proof_trees.specs.Multipliers.{amount_of};
 ghost use Rattle.bound_checker.specs.Entries.{same_row};
 
@@ -50,8 +50,21 @@ impl Amounts {
     }
 }
 
-// The same row again.
-fn copy_of(row: &Row) -> Result<Row, NoMemory>
+impl Amounts {
+    /// Takes one row out, with its multiplier; None where no row has one.
+    pub fn take_first(&mut self) -> Option<(Row, u64)>
+        ensures none { IfNone result (self.old ≡ []) }
+        ensures nothing_left { IfNone result (self.new ≡ []) }
+        ensures some { IfSome result (λ p. self.old ≡ p ∷ self.new) }
+        ensures was { IfSome result (λ p. amount_of same_row self.old p.0 ≡ p.1) }
+        ensures rest { IfSome result (λ p. (r : Row) → amount_of same_row self.new r ≡ cond (same_row p.0 r) 0 (amount_of same_row self.old r)) }
+    {
+        self.by_row.pop_first()
+    }
+}
+
+/// The same row again.
+pub fn copy_of(row: &Row) -> Result<Row, NoMemory>
     ensures { IfOk result (λ r. r ≡ row.now) }
 {
     Ok(row.clone()?)

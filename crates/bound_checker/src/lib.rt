@@ -4,10 +4,11 @@
 mod amounts;
 mod check;
 mod laws;
+mod prices;
+mod steps;
 mod sums;
-mod taken;
+mod walk;
 
 pub use certificate::BoundNo;
-pub use check::{check_bound, is_one_leaf};
+pub use check::check_bound;
 pub use laws::proved_or_fault;
-pub use taken::is_checkable;

@@ -1,22 +1,20 @@
 //! Sums over the rows that have multipliers.
-ghost use Rattle.std.specs.Prelude.{◌≡◌, ◌≢◌, ℕ, ◌+◌, ◌*◌, ◌<◌, ◌≤◌, ◌^◌, true, All, OnOk, IfOk, Ok, length, map, nat_eq, [], ℤ, pos, ◌+ℤ◌, ◌-ℤ◌, ◌*ℤ◌, unsigned_abs};
+ghost use Rattle.std.specs.Prelude.{◌≡◌, ◌≢◌, ℕ, ◌+◌, ◌*◌, ◌<◌, ◌≤◌, ◌^◌, true, All, OnOk, IfOk, length, nat_eq, [], ℤ, pos, ◌+ℤ◌, ◌-ℤ◌, ◌*ℤ◌, unsigned_abs};
 ghost use Rattle.std.specs.List.{AllPairs, list_any};
 ghost use Rattle.proof_trees.specs.Program.{where_set};
 ghost use Rattle.proof_trees.specs.Boxes.{at};
-ghost use Rattle.proof_trees.specs.Multipliers.{Multipliers, least, worth};
+ghost use Rattle.proof_trees.specs.Multipliers.{Multipliers, least, worth, with_amount};
 ghost use Rattle.zero_one_rows.specs.Variables.{variables};
 ghost use Rattle.zero_one_rows.specs.declared.program.Row.{Row as Rows};
 ghost use Rattle.zero_one_rows.specs.Rows.{whole};
-ghost use Rattle.bound_checker.specs.Entries.{raise_of};
-ghost use Rattle.bound_checker.specs.Faults.{raised_row, raised_rows};
-ghost use Rattle.bound_checker.specs.Sums.{in_range, weight_at, IsSmall, Carries, CarriesSome, HasRoom, Stands};
+ghost use Rattle.bound_checker.specs.Entries.{same_row};
+ghost use Rattle.bound_checker.specs.Sums.{in_range, weight_at, IsSmall, Carries, CarriesSome, HasRoom};
 
 use crate::amounts::Amounts;
-use certificate::BoundNo;
 use std::alloc::Global;
 use stow_data::{NoMemory, VarNo};
 use zero_one_model::{Box01, Model};
-use zero_one_rows::{Raise, Row};
+use zero_one_rows::Row;
 
 /// The most rows of a program.
 const MOST_ROWS: u64 = 2_000_000;
@@ -65,8 +63,18 @@ fn grown(total: i128, by: i64, each: i64) -> i128
     sum_of(total, product(by, each))
 }
 
-// A multiplier that is changed, where it stays in 0 to 2^40.
-fn changed(old: u64, by: i64) -> Option<u64>
+// By how much a multiplier changes.
+fn difference(old: u64, new: u64) -> i64
+    requires old { old ≤ 2 ^ 40 }
+    requires new { new ≤ 2 ^ 40 }
+    ensures value { pos old +ℤ result ≡ pos new }
+    ensures size { unsigned_abs result ≤ 2 ^ 41 }
+{
+    new as i64 - old as i64
+}
+
+/// A multiplier that is changed, where it stays in 0 to 2^40.
+pub fn changed(old: u64, by: i64) -> Option<u64>
     requires { old ≤ 2 ^ 40 }
     ensures { result ≡ in_range (pos old +ℤ by) }
 {
@@ -109,8 +117,14 @@ impl Sums {
         })
     }
 
-    // Adds so many times a row.
-    fn add_row(&mut self, alloc: Global, model: &Model, row: &Row, by: i64) -> Result<(), NoMemory>
+    /// Adds so many times a row.
+    pub fn add_row(
+        &mut self,
+        alloc: Global,
+        model: &Model,
+        row: &Row,
+        by: i64,
+    ) -> Result<(), NoMemory>
         requires row { (whole model.now).has row.now ≡ true }
         requires by { unsigned_abs by ≤ 2 ^ 41 }
         requires room { HasRoom model.now self.old }
@@ -127,44 +141,24 @@ impl Sums {
         Ok(())
     }
 
-    /// Changes a row's multiplier.
-    pub fn raise(
+    /// Gives a row this multiplier.
+    pub fn give(
         &mut self,
         alloc: Global,
         model: &Model,
-        raise: &Raise,
-        node: u32,
-    ) -> Result<(), BoundNo>
-        requires room { HasRoom model.now self.old }
-        ensures { (ms : Multipliers Rows) → Carries model.now ms self.old → Stands model.now (raised_row (whole model.now) node ms (raise_of raise.now)) result self.new }
-    {
-        if !model.has_row(&raise.row) {
-            return Err(BoundNo::StepRow { node });
-        }
-        let Some(amount) = changed(self.amounts.at(&raise.row), raise.amount) else {
-            return Err(BoundNo::Multiplier { node });
-        };
-        self.add_row(alloc, model, &raise.row, raise.amount)?;
-        self.amounts.set(&raise.row, amount)?;
-        Ok(())
-    }
-
-    /// Changes multipliers in order.
-    pub fn raise_all(
-        &mut self,
-        alloc: Global,
-        model: &Model,
-        raises: &[Raise],
-        node: u32,
-    ) -> Result<(), BoundNo>
+        row: &Row,
+        amount: u64,
+    ) -> Result<(), NoMemory>
+        requires row { (whole model.now).has row.now ≡ true }
+        requires amount { amount ≤ 2 ^ 40 }
         requires carries { CarriesSome model.now self.old }
-        ensures { (ms : Multipliers Rows) → Carries model.now ms self.old → Stands model.now (raised_rows (whole model.now) node (Ok ms) (map raise_of raises.now)) result self.new }
+        ensures { (ms : Multipliers Rows) → Carries model.now ms self.old → OnOk result (Carries model.now (with_amount same_row ms row.now amount) self.new) }
     {
         let rows = model.rows();
         prove!(rows <= MOST_ROWS);
-        for raise in raises {
-            self.raise(alloc, model, raise, node)?;
-        }
+        let by = difference(self.amounts.at(row), amount);
+        self.add_row(alloc, model, row, by)?;
+        self.amounts.set(row, amount)?;
         Ok(())
     }
 }

@@ -3,7 +3,7 @@ ghost use Rattle.std.specs.Prelude.{◌≡◌, length};
 ghost use Rattle.stow_data.specs.Ship.{places};
 
 use crate::voyage::{Trip, ship, two_containers};
-use bound_checker::{BoundNo, check_bound, is_one_leaf};
+use bound_checker::{BoundNo, check_bound};
 use certificate::{End, Record, Tree};
 use std::alloc::Global;
 use std::process::Abort;
@@ -62,9 +62,6 @@ fn answer(
     bound: u64,
 ) -> Result<Result<(), BoundNo>, NoMemory> {
     let tree = tree(alloc, raises, End::Leaf)?;
-    if !is_one_leaf(&tree) {
-        return Ok(Err(BoundNo::TreeEnds));
-    }
     match check_bound(alloc, model, &tree, bound) {
         Err(BoundNo::NoMemory) => Err(NoMemory),
         answer => Ok(answer),
@@ -99,13 +96,6 @@ fn names_the_first_fault<R: Abort>(rt: &R, alloc: Global, model: &Model) -> Resu
     Ok(())
 }
 
-fn tells_leaves<R: Abort>(rt: &R, alloc: Global) -> Result<(), NoMemory> {
-    assert!(rt; is_one_leaf(&tree(alloc, &[(0, 33)], End::Leaf)?));
-    assert!(rt; !is_one_leaf(&tree(alloc, &[(0, 33)], End::Left)?));
-    assert!(rt; !is_one_leaf(&Seq::new(alloc)));
-    Ok(())
-}
-
 fn is_right<R: Abort>(rt: &R, alloc: Global, ship: &Ship, cargo: &Cargo) -> Result<(), NoMemory>
     requires { length cargo.now.arrival ≡ length (places ship.now) }
 {
@@ -125,6 +115,5 @@ fn the_bound_of_two_containers(rt: HostRuntime) -> Result<(), Fail> {
     let ship = ship(alloc, 1)?;
     let cargo = two_containers(alloc, &ship, trip(1, 2), trip(1, 2))?;
     is_right(&rt, alloc, &ship, &cargo)?;
-    tells_leaves(&rt, alloc)?;
     Ok(())
 }

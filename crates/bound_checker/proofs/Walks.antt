@@ -1,0 +1,302 @@
+-- A tree in preorder, record by record.
+use Rattle.std.proofs.Common.{◌≡◌, ◌≢◌, ℕ, zero, suc, ◌+◌, ◌<◌, ◌≤◌, ◌⊎◌, inl, inr, Bool, true, false, ◌&&◌, cond, nat_lt, List, [], ◌∷◌, ◌++◌, length, take, drop, map, get_or, Option, Some, None, Result, Ok, Err, All, arith, refl, sym, ◌∙◌, ap, subst}
+use Rattle.std.specs.Prelude.{reverse}
+use Rattle.std.specs.Option.{is_none, option_or}
+use Rattle.std.proofs.lemmas.Bool.Decides.{nat_tests}
+use Rattle.std.proofs.lemmas.List.{reverse-append, length-set}
+use Rattle.std.proofs.lemmas.List.Elements.{All-append, All-cons, All-nil, All-take}
+use Rattle.zero_one_rows.specs.declared.program.Row.{Row}
+use Rattle.zero_one_rows.specs.Variables.{Voyage, variables}
+use Rattle.zero_one_rows.specs.Rows.{whole}
+use Rattle.proof_trees.specs.Boxes.{Box, at, fixed, tightened}
+use Rattle.proof_trees.specs.Multipliers.{Multipliers}
+use Rattle.proof_trees.specs.Trees.{End, Leaf, Left, Branch, Entry, Pending, begun}
+use Rattle.certificate.specs.declared.tree.End.{End as Told}
+use Rattle.certificate.specs.declared.tree.End.TheVariants as told
+use Rattle.certificate.specs.declared.refusals.BoundNo.{BoundNo}
+use Rattle.certificate.specs.declared.refusals.BoundNo.TheVariants.{BranchFixed, TreeEnds, TreeTooLong, NoMemory}
+use Rattle.partial_plan.specs.Fixing.{released, Fixes}
+use Rattle.partial_plan.proofs.Freeing.{freed_length, fixes_one}
+use Rattle.bound_checker.specs.declared.prices.Change.{Change}
+use Rattle.bound_checker.specs.declared.walk.Frame.{Frame}
+use Rattle.bound_checker.specs.declared.walk.Walk.{Walk}
+use Rattle.bound_checker.specs.Entries.{end_of}
+use Rattle.bound_checker.specs.Faults.{step_fault, raised_rows, short_fault, end_fault, tree_fault}
+use Rattle.bound_checker.specs.Sums.{AreSmall, Carries}
+use Rattle.bound_checker.specs.Waits.{Before, IsSound, Waits, AllWait}
+use Rattle.bound_checker.specs.Prices.{Holds, Ends}
+use Rattle.bound_checker.specs.Walks.{Stands, StandsSome, IsAt, IsSomewhere, Opens, Closes, Takes}
+use Rattle.bound_checker.proofs.Waiting.{still_wait, moves_none, divided}
+
+no_two : (b : Bool) → b ≡ true → b ≡ false → ⊥
+no_two true e f = absurd (grind arith)
+no_two false e f = absurd (grind arith)
+
+-- ## Records
+
+pub stands_some : (m : Voyage) (w : Walk) → IsSomewhere m w → w.done ≡ false → StandsSome m w
+stands_some m w at going = by at.0 at.1
+  where
+    by : (qs : List (Pending Row)) → IsAt m w qs → StandsSome m w
+    by [] h = absurd (no_two w.done h going)
+    by (q ∷ qs) h = (q, qs, h)
+
+module _ (m : Voyage) (bound node : ℕ) where
+  pub too_long : (w v : Walk) (qs : List (Pending Row)) (e : Entry Row) → w.done ≡ true → IsAt m w qs → Takes m bound node qs e (Err TreeTooLong) v
+  too_long w v [] e done h = λ other es. refl
+  too_long w v (q ∷ qs) e done h = absurd (no_two w.done done h.in_hand)
+
+  pub opens_some : (w v : Walk) (e : Entry Row) → StandsSome m w → ((q : Pending Row) (qs : List (Pending Row)) → Stands m w q qs → Opens m node q qs e (Ok tt) v) → StandsSome m v
+  opens_some w v e some opens = let o = opens some.0 some.1 some.2 in (record { box = tightened (whole m) some.0.box e.steps; multipliers = o.1.0 }, some.1, o.1.2)
+
+  abbrev end_of_record : List (Entry Row) → List (Pending Row) → Box → Result (Multipliers Row) BoundNo → End → Option BoundNo
+  end_of_record es qs b o end = end_fault (whole m) bound (λ boxes. tree_fault (whole m) bound (node + 1) boxes es) node qs b o end
+
+  opened_fault : (q : Pending Row) (qs : List (Pending Row)) (e : Entry Row) (ms : Multipliers Row) (es : List (Entry Row)) → step_fault (whole m) node e.steps ≡ None → raised_rows (whole m) node (Ok (begun e.from_zero q.multipliers)) e.raises ≡ Ok ms
+      → tree_fault (whole m) bound node (q ∷ qs) (e ∷ es) ≡ end_of_record es qs (tightened (whole m) q.box e.steps) (Ok ms) e.end
+  opened_fault q qs e ms es none raised =
+      ap (λ (o : Option BoundNo). option_or o (end_of_record es qs (tightened (whole m) q.box e.steps) (raised_rows (whole m) node (Ok (begun e.from_zero q.multipliers)) e.raises) e.end)) none
+      ∙ ap (λ (o : Result (Multipliers Row) BoundNo). end_of_record es qs (tightened (whole m) q.box e.steps) o e.end) raised
+
+  -- a record is opened, and its end taken
+  pub taken : (w v u : Walk) (qs : List (Pending Row)) (e : Entry Row) (r : Result (Unit {0}) BoundNo) → w.done ≡ false → IsAt m w qs
+      → ((q : Pending Row) (qs : List (Pending Row)) → Stands m w q qs → Opens m node q qs e (Ok tt) v)
+      → ((q : Pending Row) (qs : List (Pending Row)) → Stands m v q qs → Closes m bound node q qs e.end r u) → Takes m bound node qs e r u
+  taken w v u [] e r going at opens closes = absurd (no_two w.done at going)
+  taken w v u (q ∷ qs) e (Ok x) going at opens closes =
+      let o = opens q qs at in
+      let c = closes (record { box = tightened (whole m) q.box e.steps; multipliers = o.1.0 }) qs o.1.2 in
+      (c.0, c.1, λ es. opened_fault q qs e o.1.0 es o.0 o.1.1 ∙ c.2 (λ boxes. tree_fault (whole m) bound (node + 1) boxes es))
+  taken w v u (q ∷ qs) e (Err f) going at opens closes = λ other es.
+      let o = opens q qs at in
+      let c = closes (record { box = tightened (whole m) q.box e.steps; multipliers = o.1.0 }) qs o.1.2 in
+      opened_fault q qs e o.1.0 es o.0 o.1.1 ∙ c other (λ boxes. tree_fault (whole m) bound (node + 1) boxes es)
+
+  -- a record whose steps or raises have a fault
+  not_opened : (w v : Walk) (qs : List (Pending Row)) (e : Entry Row) (f : BoundNo) → w.done ≡ false → IsAt m w qs
+      → ((q : Pending Row) (qs : List (Pending Row)) → Stands m w q qs → Opens m node q qs e (Err f) v) → Takes m bound node qs e (Err f) v
+  not_opened w v [] e f going at opens = absurd (no_two w.done at going)
+  not_opened w v (q ∷ qs) e f going at opens = λ other es. by es (opens q qs at other)
+    where
+      by : (es : List (Entry Row)) → (step_fault (whole m) node e.steps ≡ Some f) ⊎ ((step_fault (whole m) node e.steps ≡ None) × (raised_rows (whole m) node (Ok (begun e.from_zero q.multipliers)) e.raises ≡ Err f))
+          → tree_fault (whole m) bound node (q ∷ qs) (e ∷ es) ≡ Some f
+      by es (inl step) = ap (λ (o : Option BoundNo). option_or o (end_of_record es qs (tightened (whole m) q.box e.steps) (raised_rows (whole m) node (Ok (begun e.from_zero q.multipliers)) e.raises) e.end)) step
+      by es (inr h) = ap (λ (o : Option BoundNo). option_or o (end_of_record es qs (tightened (whole m) q.box e.steps) (raised_rows (whole m) node (Ok (begun e.from_zero q.multipliers)) e.raises) e.end)) h.0 ∙ ap (λ (o : Result (Multipliers Row) BoundNo). end_of_record es qs (tightened (whole m) q.box e.steps) o e.end) h.1
+
+  pub fails_open : (w v : Walk) (qs : List (Pending Row)) (e : Entry Row) (r : Result (Unit {0}) BoundNo) (f : BoundNo) → r ≡ Err f → w.done ≡ false → IsAt m w qs
+      → ((q : Pending Row) (qs : List (Pending Row)) → Stands m w q qs → Opens m node q qs e (Err f) v) → Takes m bound node qs e r v
+  fails_open w v qs e r f is going at opens = subst (λ (r : Result (Unit {0}) BoundNo). Takes m bound node qs e r v) (sym is) (not_opened w v qs e f going at opens)
+
+  -- ## Ends
+
+  pub left_too : (q : Pending Row) (qs : List (Pending Row)) (r : Result (Unit {0}) BoundNo) (w : Walk) → Closes m bound node q qs Leaf r w → Closes m bound node q qs Left r w
+  left_too q qs (Ok u) w h = h
+  left_too q qs (Err f) w h = h
+
+  pub leaf_or_left : (q : Pending Row) (qs : List (Pending Row)) (end : Told) (r : Result (Unit {0}) BoundNo) (w : Walk) → (end ≡ told.Leaf) ⊎ (end ≡ told.Left) → Closes m bound node q qs Leaf r w → Closes m bound node q qs (end_of m end) r w
+  leaf_or_left q qs end r w (inl e) h = subst (λ (x : Told). Closes m bound node q qs (end_of m x) r w) (sym e) h
+  leaf_or_left q qs end r w (inr e) h = subst (λ (x : Told). Closes m bound node q qs (end_of m x) r w) (sym e) (left_too q qs r w h)
+
+  pub closed : (q : Pending Row) (qs : List (Pending Row)) (b : Box) (w : Walk) → q.box ≡ b → short_fault (whole m) bound node b q.multipliers ≡ None → IsAt m w qs → Closes m bound node q qs Leaf (Ok tt) w
+  closed q qs b w same none at = (qs, at, λ R. ap (λ (o : Option BoundNo). option_or o (R qs)) (ap (λ (x : Box). short_fault (whole m) bound node x q.multipliers) same ∙ none))
+
+  pub not_closed : (q : Pending Row) (qs : List (Pending Row)) (b : Box) (f : BoundNo) (w : Walk) → q.box ≡ b → short_fault (whole m) bound node b q.multipliers ≡ Some f → Closes m bound node q qs Leaf (Err f) w
+  not_closed q qs b f w same some = λ other R. ap (λ (o : Option BoundNo). option_or o (R qs)) (ap (λ (x : Box). short_fault (whole m) bound node x q.multipliers) same ∙ some)
+
+  pub no_memory : (q : Pending Row) (qs : List (Pending Row)) (end : End) (r : Result (Unit {0}) BoundNo) (f : BoundNo) (w : Walk) → r ≡ Err f → f ≡ NoMemory → Closes m bound node q qs end r w
+  no_memory q qs end r f w e h = rw (e, h) (λ k. absurd (k refl))
+
+  not_below : (v n : ℕ) → n ≤ v → nat_lt v n ≡ false
+  not_below v n le = grind (arith, nat_tests)
+
+  below : (v n : ℕ) → v < n → nat_lt v n ≡ true
+  below v n lt = grind (arith, nat_tests)
+
+  pub outside : (q : Pending Row) (qs : List (Pending Row)) (v : ℕ) (w : Walk) → v ≡ length (variables m) → Closes m bound node q qs (Branch v) (Err (BranchFixed node)) w
+  outside q qs v w e = λ other R. ap (λ (c : Bool). cond (c && is_none (at q.box v)) (R (record { box = fixed q.box v true; multipliers = q.multipliers } ∷ record { box = fixed q.box v false; multipliers = q.multipliers } ∷ qs)) (Some (BranchFixed node))) (not_below v (length (variables m)) (omega arith))
+
+  pub not_free : (q : Pending Row) (qs : List (Pending Row)) (v x : ℕ) (b : Box) (o : Option Bool) (w : Walk) → v ≡ x → x < length (variables m) → q.box ≡ b → at b x ≡ o → is_none o ≡ false → Closes m bound node q qs (Branch v) (Err (BranchFixed node)) w
+  not_free q qs v x b o w e lt same is some =
+      let n : is_none (at q.box v) ≡ false = ap (λ (y : Box). is_none (at y v)) same ∙ ap (λ (k : ℕ). is_none (at b k)) e ∙ ap is_none is ∙ some in
+      let l : nat_lt v (length (variables m)) ≡ true = below v (length (variables m)) (omega arith) in
+      λ other R. ap (λ (c : Bool). cond (c && is_none (at q.box v)) (R (record { box = fixed q.box v true; multipliers = q.multipliers } ∷ record { box = fixed q.box v false; multipliers = q.multipliers } ∷ qs)) (Some (BranchFixed node))) l
+      ∙ ap (λ (c : Bool). cond c (R (record { box = fixed q.box v true; multipliers = q.multipliers } ∷ record { box = fixed q.box v false; multipliers = q.multipliers } ∷ qs)) (Some (BranchFixed node))) n
+
+  reversed_more : (fs fs' : List Frame) (f : Frame) → fs' ≡ fs ++ f ∷ [] → reverse fs' ≡ f ∷ reverse fs
+  reversed_more fs fs' f e = ap reverse e ∙ reverse-append fs (f ∷ [])
+
+  pub branched : (w u : Walk) (q : Pending Row) (qs : List (Pending Row)) (v x : ℕ) → Stands m w q qs → v ≡ x → x < length (variables m) → at w.b x ≡ None
+      → u.b ≡ fixed w.b x true → u.undo ≡ w.undo ++ x ∷ [] → u.prices ≡ w.prices → u.frames.items ≡ w.frames.items ++ record { var = x; mark = length w.undo; changes = length w.prices.changes.items } ∷ [] → u.done ≡ w.done
+      → Closes m bound node q qs (Branch v) (Ok tt) u
+  branched w u q qs v x stands e lt free box undo prices frames done =
+      (first ∷ other ∷ qs, here, λ R. goes R)
+    where
+      first : Pending Row
+      first = record { box = fixed q.box v true; multipliers = q.multipliers }
+
+      other : Pending Row
+      other = record { box = fixed q.box v false; multipliers = q.multipliers }
+
+      half : (y : Bool) → fixed q.box v y ≡ fixed w.b x y
+      half y = ap (λ (b : Box). fixed b v y) stands.box ∙ ap (λ (k : ℕ). fixed w.b k y) e
+
+      inside : x < length w.b
+      inside = omega (arith, stands.len)
+
+      goes : (R : List (Pending Row) → Option BoundNo) → end_fault (whole m) bound R node qs q.box (Ok q.multipliers) (Branch v) ≡ R (first ∷ other ∷ qs)
+      goes R =
+          let n : is_none (at q.box v) ≡ true = ap (λ (y : Box). is_none (at y v)) stands.box ∙ ap (λ (k : ℕ). is_none (at w.b k)) e ∙ ap is_none free in
+          let l : nat_lt v (length (variables m)) ≡ true = below v (length (variables m)) (omega arith) in
+          ap (λ (c : Bool). cond (c && is_none (at q.box v)) (R (first ∷ other ∷ qs)) (Some (BranchFixed node))) l ∙ ap (λ (c : Bool). cond c (R (first ∷ other ∷ qs)) (Some (BranchFixed node))) n
+
+      wait : AllWait m (fixed w.b x true) (w.undo ++ x ∷ []) q.multipliers w.prices.changes.items (record { var = x; mark = length w.undo; changes = length w.prices.changes.items } ∷ reverse w.frames.items) (other ∷ qs)
+      wait = subst (λ (c : Box). AllWait m (fixed w.b x true) (w.undo ++ x ∷ []) q.multipliers w.prices.changes.items (record { var = x; mark = length w.undo; changes = length w.prices.changes.items } ∷ reverse w.frames.items) (record { box = c; multipliers = q.multipliers } ∷ qs)) (sym (half false))
+          (divided m w.b w.undo q.multipliers w.prices.changes.items x inside free (reverse w.frames.items) qs stands.carries.small stands.waits)
+
+      here : Stands m u first (other ∷ qs)
+      here = record {
+        in_hand = done ∙ stands.in_hand;
+        box = half true ∙ sym box;
+        len = ap (λ (b : Box). length b) box ∙ length-set w.b x (Some true) ∙ stands.len;
+        inside = rw (box, undo, length-set w.b x (Some true)) (All-append (λ k. k < length w.b) w.undo (x ∷ []) stands.inside (All-cons (λ k. k < length w.b) x [] inside (All-nil (λ k. k < length w.b))));
+        carries = subst (λ p. Carries m q.multipliers p.sums) (sym prices) stands.carries;
+        sound = subst (λ p. All (IsSound m) p.changes.items) (sym prices) stands.sound;
+        waits = rw (box, undo, prices, reversed_more w.frames.items u.frames.items _ frames) wait;
+      }
+
+-- ## The box that waits
+
+module _ (m : Voyage) (w : Walk) (fs : List Frame) (f : Frame) (is : w.frames.items ≡ fs ++ f ∷ []) where
+  reversed : reverse w.frames.items ≡ f ∷ reverse fs
+  reversed = ap reverse is ∙ reverse-append fs (f ∷ [])
+
+  abbrev Next : Pending Row → List (Pending Row) → Type 0
+  Next q qs = (next : Pending Row) × (rest : List (Pending Row)) × (qs ≡ next ∷ rest) × Waits m w.b w.undo q.multipliers w.prices.changes.items f next
+      × AllWait m (released w.b w.undo f.mark) (take f.mark w.undo) next.multipliers (take f.changes w.prices.changes.items) (reverse fs) rest
+
+  pub next_of : (q : Pending Row) (qs : List (Pending Row)) → Stands m w q qs → Next q qs
+  next_of q qs stands = by qs (subst (λ (gs : List Frame). AllWait m w.b w.undo q.multipliers w.prices.changes.items gs qs) reversed stands.waits)
+    where
+      by : (qs : List (Pending Row)) → AllWait m w.b w.undo q.multipliers w.prices.changes.items (f ∷ reverse fs) qs → Next q qs
+      by [] h = absurd h
+      by (next ∷ rest) h = (next, rest, refl, h.0, h.1)
+
+  pub free_there : (q : Pending Row) (qs : List (Pending Row)) (c : Box) → Stands m w q qs → c ≡ released w.b w.undo f.mark → (f.var < length c) × (at c f.var ≡ None)
+  free_there q qs c stands e =
+      let n = next_of q qs stands in
+      let inside : f.var < length w.b = n.3.inside in
+      let l : length c ≡ length w.b = ap (λ (b : Box). length b) e ∙ freed_length w.b (drop f.mark w.undo) in
+      (omega arith, ap (λ (b : Box). at b f.var) e ∙ n.3.free)
+
+  pub next_stands : (q : Pending Row) (qs : List (Pending Row)) (u : Walk) (c : Box) → Stands m w q qs → c ≡ released w.b w.undo f.mark → u.b ≡ fixed c f.var false → u.undo ≡ take f.mark w.undo ++ f.var ∷ []
+      → u.prices.changes.items ≡ take f.changes w.prices.changes.items → u.frames.items ≡ fs → u.done ≡ w.done
+      → ((ms ns : Multipliers Row) → Carries m ms w.prices.sums → Before ns f.changes w.prices.changes.items ms → AreSmall m ns → Carries m ns u.prices.sums) → IsAt m u qs
+  next_stands q qs u c stands e box undo changes frames done carries =
+      let n = next_of q qs stands in subst (λ (rs : List (Pending Row)). IsAt m u rs) (sym n.2) (here n.0 n.1 n.3 n.4)
+    where
+      here : (next : Pending Row) (rest : List (Pending Row)) → Waits m w.b w.undo q.multipliers w.prices.changes.items f next
+          → AllWait m (released w.b w.undo f.mark) (take f.mark w.undo) next.multipliers (take f.changes w.prices.changes.items) (reverse fs) rest → Stands m u next rest
+      here next rest waits all =
+          let r : Box = released w.b w.undo f.mark in
+          let l : length r ≡ length w.b = freed_length w.b (drop f.mark w.undo) in
+          let lt : f.var < length w.b = waits.inside in
+          let inside : f.var < length r = omega arith in
+          let one : Fixes r (fixed r f.var false) (f.var ∷ []) = fixes_one r f.var false inside waits.free in
+          let b : u.b ≡ fixed r f.var false = box ∙ ap (λ (x : Box). fixed x f.var false) e in
+          let len : length (fixed r f.var false) ≡ length w.b = length-set r f.var (Some false) ∙ l in
+          record {
+            in_hand = done ∙ stands.in_hand;
+            box = waits.box ∙ sym b;
+            len = ap (λ (x : Box). length x) b ∙ len ∙ stands.len;
+            inside = rw (b, undo, len) (All-append (λ k. k < length w.b) (take f.mark w.undo) (f.var ∷ []) (All-take (λ k. k < length w.b) f.mark w.undo stands.inside) (All-cons (λ k. k < length w.b) f.var [] lt (All-nil (λ k. k < length w.b))));
+            carries = carries q.multipliers next.multipliers stands.carries waits.amounts waits.small;
+            sound = rw changes (All-take (IsSound m) f.changes w.prices.changes.items stands.sound);
+            waits = rw (b, undo, changes, frames) (still_wait m r (fixed r f.var false) (take f.mark w.undo) (take f.mark w.undo ++ f.var ∷ []) (f.var ∷ []) next.multipliers next.multipliers (take f.changes w.prices.changes.items) (take f.changes w.prices.changes.items) refl one.back (moves_none m next.multipliers (take f.changes w.prices.changes.items)) (reverse fs) rest all);
+          }
+
+-- no box waits
+pub none_left : (m : Voyage) (w u : Walk) (q : Pending Row) (qs : List (Pending Row)) → w.frames.items ≡ [] → u.done ≡ true → Stands m w q qs → IsAt m u qs
+none_left m w u q qs none done stands = by qs (subst (λ (gs : List Frame). AllWait m w.b w.undo q.multipliers w.prices.changes.items (reverse gs) qs) none stands.waits)
+  where
+    by : (qs : List (Pending Row)) → AllWait m w.b w.undo q.multipliers w.prices.changes.items [] qs → IsAt m u qs
+    by [] h = done
+    by (q ∷ qs) h = absurd h
+
+-- ## Steps and raises
+
+module _ (m : Voyage) (node : ℕ) (w : Walk) (q : Pending Row) (qs : List (Pending Row)) (e : Entry Row) where
+  pub not_stepped : (v : Walk) (r : Result (Unit {0}) BoundNo) (f : BoundNo) → r ≡ Err f → (f ≢ NoMemory → step_fault (whole m) node e.steps ≡ Some f) → Opens m node q qs e r v
+  not_stepped v r f is some = subst (λ (r : Result (Unit {0}) BoundNo). Opens m node q qs e r v) (sym is) (λ other. inl (some other))
+
+  pub opened : (v : Walk) (xs : List ℕ) (r : Result (Unit {0}) BoundNo) → Stands m w q qs → step_fault (whole m) node e.steps ≡ None → v.b ≡ tightened (whole m) w.b e.steps → v.undo ≡ w.undo ++ xs → Fixes w.b v.b xs
+      → v.frames.items ≡ w.frames.items → v.done ≡ w.done
+      → Ends (λ ns. Holds m q.multipliers w.prices.changes.items ns v.prices) (raised_rows (whole m) node (Ok (begun e.from_zero q.multipliers)) e.raises) r → Opens m node q qs e r v
+  opened v xs r stands none box undo fixes frames done ends = by (raised_rows (whole m) node (Ok (begun e.from_zero q.multipliers)) e.raises) refl r ends
+    where
+      len : length v.b ≡ length w.b
+      len = sym (freed_length v.b xs) ∙ ap (λ (b : Box). length b) fixes.back
+
+      inside : All (λ k. k < length w.b) v.undo
+      inside = subst (λ (us : List ℕ). All (λ k. k < length w.b) us) (sym undo) (All-append (λ k. k < length w.b) w.undo xs stands.inside fixes.inside)
+
+      now : (ms : Multipliers Row) → Holds m q.multipliers w.prices.changes.items ms v.prices → Stands m v (record { box = tightened (whole m) q.box e.steps; multipliers = ms }) qs
+      now ms holds = record {
+        in_hand = done ∙ stands.in_hand;
+        box = ap (λ (b : Box). tightened (whole m) b e.steps) stands.box ∙ sym box;
+        len = len ∙ stands.len;
+        inside = subst (λ (n : ℕ). All (λ k. k < n) v.undo) (sym len) inside;
+        carries = holds.carries;
+        sound = subst (λ (k : List Change). All (IsSound m) k) (sym holds.moves.added) (All-append (IsSound m) w.prices.changes.items holds.moves.more stands.sound holds.moves.sound);
+        waits = subst (λ (fs : List Frame). AllWait m v.b v.undo ms v.prices.changes.items (reverse fs) qs) (sym frames)
+            (still_wait m w.b v.b w.undo v.undo xs q.multipliers ms w.prices.changes.items v.prices.changes.items undo fixes.back holds.moves (reverse w.frames.items) qs stands.waits);
+      }
+
+      by : (o : Result (Multipliers Row) BoundNo) → raised_rows (whole m) node (Ok (begun e.from_zero q.multipliers)) e.raises ≡ o → (r : Result (Unit {0}) BoundNo)
+          → Ends (λ ns. Holds m q.multipliers w.prices.changes.items ns v.prices) o r → Opens m node q qs e r v
+      by (Ok ms) is (Ok u) h = (none, (ms, is, now ms h))
+      by (Ok ms) is (Err f) h = λ other. absurd (other h)
+      by (Err f) is (Ok u) h = absurd h
+      by (Err f) is (Err g) h = λ other. inr (none, is ∙ ap (λ (x : BoundNo). Err x) (sym (h other)))
+
+-- ## The tree
+
+behind_suc : {X Y : Type 0} (f : X → Y) (xs : List X) (k : ℕ) (x : X) → k < length xs → x ≡ get_or xs k x → map f (drop k xs) ≡ f x ∷ map f (drop (suc k) xs)
+behind_suc f [] k x lt is = absurd (omega arith)
+behind_suc f (y ∷ xs) zero x lt is = ap (λ z. f z ∷ map f xs) (sym is)
+behind_suc f (y ∷ xs) (suc k) x lt is = behind_suc f xs k x (omega arith) is
+
+pub behind : {X Y : Type 0} (f : X → Y) (xs : List X) (k : ℕ) (x : X) → k < length xs → x ≡ get_or xs k x → map f (drop k xs) ≡ f x ∷ map f (drop (k + 1) xs)
+behind f xs k x lt is = let e : suc k ≡ k + 1 = omega arith in behind_suc f xs k x lt is ∙ ap (λ (n : ℕ). f x ∷ map f (drop n xs)) e
+
+pub nothing_behind : {X Y : Type 0} (f : X → Y) (xs : List X) (k : ℕ) → length xs ≤ k → map f (drop k xs) ≡ []
+nothing_behind f [] zero le = refl
+nothing_behind f [] (suc k) le = refl
+nothing_behind f (x ∷ xs) zero le = absurd (omega arith)
+nothing_behind f (x ∷ xs) (suc k) le = nothing_behind f xs k (omega arith)
+
+pub at_node : (m : Voyage) (bound n n' : ℕ) (w : Walk) (all : List (Entry Row)) (first : Option BoundNo) → n' ≡ n → ((qs : List (Pending Row)) × IsAt m w qs × (first ≡ tree_fault (whole m) bound n qs all))
+    → (qs : List (Pending Row)) × IsAt m w qs × (first ≡ tree_fault (whole m) bound n' qs all)
+at_node m bound n n' w all first e h = subst (λ (k : ℕ). (qs : List (Pending Row)) × IsAt m w qs × (first ≡ tree_fault (whole m) bound k qs all)) (sym e) h
+
+module _ (m : Voyage) (bound node : ℕ) where
+  pub tree_more : (w v : Walk) (e : Entry Row) (es all : List (Entry Row)) (first : Option BoundNo) → all ≡ e ∷ es → ((qs : List (Pending Row)) × IsAt m w qs × (first ≡ tree_fault (whole m) bound node qs all))
+      → ((qs : List (Pending Row)) → IsAt m w qs → Takes m bound node qs e (Ok tt) v) → (qs : List (Pending Row)) × IsAt m v qs × (first ≡ tree_fault (whole m) bound (node + 1) qs es)
+  tree_more w v e es all first is h takes = let t = takes h.0 h.1 in (t.0, t.1, h.2 ∙ ap (λ (xs : List (Entry Row)). tree_fault (whole m) bound node h.0 xs) is ∙ t.2 es)
+
+  pub tree_fails : (w v : Walk) (e : Entry Row) (es all : List (Entry Row)) (first : Option BoundNo) (f : BoundNo) → all ≡ e ∷ es → ((qs : List (Pending Row)) × IsAt m w qs × (first ≡ tree_fault (whole m) bound node qs all))
+      → ((qs : List (Pending Row)) → IsAt m w qs → Takes m bound node qs e (Err f) v) → f ≢ NoMemory → first ≡ Some f
+  tree_fails w v e es all first f is h takes other = h.2 ∙ ap (λ (xs : List (Entry Row)). tree_fault (whole m) bound node h.0 xs) is ∙ takes h.0 h.1 other es
+
+  pub tree_ends : (w : Walk) (all : List (Entry Row)) (first : Option BoundNo) → all ≡ [] → ((qs : List (Pending Row)) × IsAt m w qs × (first ≡ tree_fault (whole m) bound node qs all)) → w.done ≡ false → first ≡ Some TreeEnds
+  tree_ends w all first is h going = h.2 ∙ ap (λ (xs : List (Entry Row)). tree_fault (whole m) bound node h.0 xs) is ∙ by h.0 h.1
+    where
+      by : (qs : List (Pending Row)) → IsAt m w qs → tree_fault (whole m) bound node qs [] ≡ Some TreeEnds
+      by [] h = absurd (no_two w.done h going)
+      by (q ∷ qs) h = refl
+
+  pub tree_done : (w : Walk) (all : List (Entry Row)) (first : Option BoundNo) → all ≡ [] → ((qs : List (Pending Row)) × IsAt m w qs × (first ≡ tree_fault (whole m) bound node qs all)) → w.done ≡ true → first ≡ None
+  tree_done w all first is h done = h.2 ∙ ap (λ (xs : List (Entry Row)). tree_fault (whole m) bound node h.0 xs) is ∙ by h.0 h.1
+    where
+      by : (qs : List (Pending Row)) → IsAt m w qs → tree_fault (whole m) bound node qs [] ≡ None
+      by [] h = refl
+      by (q ∷ qs) h = absurd (no_two w.done done h.in_hand)

@@ -1,0 +1,55 @@
+-- Where the checker stands in a tree. No public clause cites this module.
+use Rattle.std.specs.Prelude.{◌≡◌, ◌≢◌, ℕ, ◌+◌, ◌<◌, true, false, All, List, [], ◌∷◌, length, reverse, Option, Some, None, Result, Ok, Err, ◌⊎◌}
+use Rattle.zero_one_rows.specs.declared.program.Row.{Row}
+use Rattle.zero_one_rows.specs.Variables.{Voyage, variables}
+use Rattle.zero_one_rows.specs.Rows.{whole}
+use Rattle.proof_trees.specs.Boxes.{tightened}
+use Rattle.proof_trees.specs.Multipliers.{Multipliers}
+use Rattle.proof_trees.specs.Trees.{End, Entry, Pending, begun}
+use Rattle.certificate.specs.declared.refusals.BoundNo.{BoundNo}
+use Rattle.certificate.specs.declared.refusals.BoundNo.TheVariants.{NoMemory}
+use Rattle.bound_checker.specs.declared.walk.Walk.{Walk}
+use Rattle.bound_checker.specs.Faults.{step_fault, raised_rows, end_fault, tree_fault}
+use Rattle.bound_checker.specs.Sums.{Carries}
+use Rattle.bound_checker.specs.Waits.{IsSound, AllWait}
+
+-- this box is in hand, and these wait
+pub record Stands (m : Voyage) (w : Walk) (q : Pending Row) (qs : List (Pending Row)) : Type 0 where
+  pub in_hand : w.done ≡ false
+  pub box : q.box ≡ w.b
+  pub len : length w.b ≡ length (variables m)
+  pub inside : All (λ v. v < length w.b) w.undo
+  pub carries : Carries m q.multipliers w.prices.sums
+  pub sound : All (IsSound m) w.prices.changes.items
+  pub waits : AllWait m w.b w.undo q.multipliers w.prices.changes.items (reverse w.frames.items) qs
+
+abbrev pub StandsSome : Voyage → Walk → Type 0
+StandsSome m w = (q : Pending Row) × (qs : List (Pending Row)) × Stands m w q qs
+
+-- these boxes are to be proved still, the one in hand first
+abbrev pub IsAt : Voyage → Walk → List (Pending Row) → Type 0
+IsAt m w [] = w.done ≡ true
+IsAt m w (q ∷ qs) = Stands m w q qs
+
+abbrev pub IsSomewhere : Voyage → Walk → Type 0
+IsSomewhere m w = (qs : List (Pending Row)) × IsAt m w qs
+
+module _ (m : Voyage) (node : ℕ) where
+  -- the box in hand is tightened and its multipliers raised; or that has a fault
+  abbrev pub Opens : Pending Row → List (Pending Row) → Entry Row → Result (Unit {0}) BoundNo → Walk → Type 0
+  Opens q qs e (Ok u) w =
+      (step_fault (whole m) node e.steps ≡ None) × ((ms : Multipliers Row) × (raised_rows (whole m) node (Ok (begun e.from_zero q.multipliers)) e.raises ≡ Ok ms)
+      × Stands m w (record { box = tightened (whole m) q.box e.steps; multipliers = ms }) qs)
+  Opens q qs e (Err f) w = f ≢ NoMemory → (step_fault (whole m) node e.steps ≡ Some f)
+      ⊎ ((step_fault (whole m) node e.steps ≡ None) × (raised_rows (whole m) node (Ok (begun e.from_zero q.multipliers)) e.raises ≡ Err f))
+
+module _ (m : Voyage) (bound node : ℕ) where
+  -- a record's end is taken, or has a fault
+  abbrev pub Closes : Pending Row → List (Pending Row) → End → Result (Unit {0}) BoundNo → Walk → Type 0
+  Closes q qs end (Ok u) w = (rest : List (Pending Row)) × IsAt m w rest × ((R : List (Pending Row) → Option BoundNo) → end_fault (whole m) bound R node qs q.box (Ok q.multipliers) end ≡ R rest)
+  Closes q qs end (Err f) w = f ≢ NoMemory → (R : List (Pending Row) → Option BoundNo) → end_fault (whole m) bound R node qs q.box (Ok q.multipliers) end ≡ Some f
+
+  -- a record is taken, or has a fault
+  abbrev pub Takes : List (Pending Row) → Entry Row → Result (Unit {0}) BoundNo → Walk → Type 0
+  Takes qs e (Ok u) w = (rest : List (Pending Row)) × IsAt m w rest × ((es : List (Entry Row)) → tree_fault (whole m) bound node qs (e ∷ es) ≡ tree_fault (whole m) bound (node + 1) rest es)
+  Takes qs e (Err f) w = f ≢ NoMemory → (es : List (Entry Row)) → tree_fault (whole m) bound node qs (e ∷ es) ≡ Some f

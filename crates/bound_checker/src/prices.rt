@@ -1,0 +1,197 @@
+//! Multipliers that are changed, and taken back.
+ghost use Rattle.std.specs.Prelude.{◌≡◌, ℕ, ◌<◌, ◌≤◌, ◌^◌, true, false, All, OnOk, IfOk, Ok, List, [], length, map, take, pos, ◌+ℤ◌, unsigned_abs};
+ghost use Rattle.proof_trees.specs.Multipliers.{Multipliers, with_amount};
+ghost use Rattle.proof_trees.specs.Trees.{begun};
+ghost use Rattle.zero_one_rows.specs.declared.program.Row.{Row as Rows};
+ghost use Rattle.zero_one_rows.specs.Rows.{whole};
+ghost use Rattle.bound_checker.specs.declared.prices.Change.{Change as Changes};
+ghost use Rattle.bound_checker.specs.Entries.{raise_of, same_row};
+ghost use Rattle.bound_checker.specs.Faults.{raised_row, raised_rows};
+ghost use Rattle.bound_checker.specs.Sums.{AreSmall, Carries, CarriesSome};
+ghost use Rattle.bound_checker.specs.Waits.{IsSound, Before};
+ghost use Rattle.bound_checker.specs.Prices.{Holds, HoldsSome, Ends};
+
+use crate::amounts::copy_of;
+use crate::sums::{Sums, changed};
+use certificate::BoundNo;
+use std::alloc::Global;
+use stow_data::NoMemory;
+use zero_one_model::Model;
+use zero_one_rows::{Raise, Row};
+
+/// The most rows of a program.
+const MOST_ROWS: u64 = 2_000_000;
+
+/// A row whose multiplier was changed, and its multiplier before.
+#[derive(Drop)]
+pub struct Change {
+    pub row: Row,
+    pub old: u64,
+}
+
+/// Multipliers with what their rows add up to, and what was changed, in order.
+#[derive(Drop)]
+pub struct Prices {
+    pub sums: Sums,
+    pub changes: Vec<Change>,
+}
+
+// A multiplier with the sign turned.
+fn turned(amount: u64) -> i64
+    requires { amount ≤ 2 ^ 40 }
+    ensures value { pos amount +ℤ result ≡ pos 0 }
+    ensures size { unsigned_abs result ≤ 2 ^ 41 }
+{
+    -(amount as i64)
+}
+
+impl Prices {
+    /// No multipliers, and no changes.
+    pub fn none(alloc: Global, model: &Model) -> Result<Prices, NoMemory>
+        ensures carries { IfOk result (λ p. Carries model.now [] p.sums) }
+        ensures changes { IfOk result (λ p. p.changes.items ≡ []) }
+    {
+        Ok(Prices {
+            sums: Sums::none(alloc, model)?,
+            changes: Vec::new(alloc),
+        })
+    }
+
+    // Gives a row this multiplier, and notes the one that it had.
+    fn change(
+        &mut self,
+        alloc: Global,
+        model: &Model,
+        row: &Row,
+        amount: u64,
+    ) -> Result<(), NoMemory>
+        requires row { (whole model.now).has row.now ≡ true }
+        requires amount { amount ≤ 2 ^ 40 }
+        requires carries { CarriesSome model.now self.old.sums }
+        ensures { (first ms : Multipliers Rows) (k : List Changes) → Holds model.now first k ms self.old → OnOk result (Holds model.now first k (with_amount same_row ms row.now amount) self.new) }
+    {
+        let rows = model.rows();
+        prove!(rows <= MOST_ROWS);
+        let old = self.sums.amounts.at(row);
+        self.sums.give(alloc, model, row, amount)?;
+        self.changes.push(Change {
+            row: copy_of(row)?,
+            old,
+        })?;
+        Ok(())
+    }
+
+    // One raise.
+    fn raise(
+        &mut self,
+        alloc: Global,
+        model: &Model,
+        raise: &Raise,
+        node: u32,
+    ) -> Result<(), BoundNo>
+        requires carries { CarriesSome model.now self.old.sums }
+        ensures { (first ms : Multipliers Rows) (k : List Changes) → Holds model.now first k ms self.old → Ends (λ ns. Holds model.now first k ns self.new) (raised_row (whole model.now) node ms (raise_of raise.now)) result }
+    {
+        if !model.has_row(&raise.row) {
+            return Err(BoundNo::StepRow { node });
+        }
+        let rows = model.rows();
+        prove!(rows <= MOST_ROWS);
+        let Some(amount) = changed(self.sums.amounts.at(&raise.row), raise.amount) else {
+            return Err(BoundNo::Multiplier { node });
+        };
+        self.change(alloc, model, &raise.row, amount)?;
+        Ok(())
+    }
+
+    /// Raises in order.
+    pub fn raise_all(
+        &mut self,
+        alloc: Global,
+        model: &Model,
+        raises: &[Raise],
+        node: u32,
+    ) -> Result<(), BoundNo>
+        requires carries { CarriesSome model.now self.old.sums }
+        ensures { (first ms : Multipliers Rows) (k : List Changes) → Holds model.now first k ms self.old → Ends (λ ns. Holds model.now first k ns self.new) (raised_rows (whole model.now) node (Ok ms) (map raise_of raises.now)) result }
+    {
+        for raise in raises {
+            self.raise(alloc, model, raise, node)?;
+        }
+        Ok(())
+    }
+
+    // Gives one row with a multiplier the multiplier 0; false where there is none.
+    fn clear_one(&mut self, alloc: Global, model: &Model) -> Result<bool, NoMemory>
+        requires carries { CarriesSome model.now self.old.sums }
+        ensures holds { (first ms : Multipliers Rows) (k : List Changes) → Holds model.now first k ms self.old → OnOk result (HoldsSome model.now first k self.new) }
+        ensures less { result ≡ Ok true → length self.new.sums.amounts < length self.old.sums.amounts }
+        ensures none { result ≡ Ok false → self.new.sums.amounts ≡ [] }
+    {
+        let rows = model.rows();
+        prove!(rows <= MOST_ROWS);
+        let Some((row, amount)) = self.sums.amounts.take_first() else {
+            return Ok(false);
+        };
+        if amount > 0 {
+            self.sums.add_row(alloc, model, &row, turned(amount))?;
+            self.changes.push(Change { row, old: amount })?;
+        }
+        Ok(true)
+    }
+
+    /// Gives each row the multiplier 0.
+    pub fn clear(&mut self, alloc: Global, model: &Model) -> Result<(), NoMemory>
+        requires carries { CarriesSome model.now self.old.sums }
+        ensures { (first ms : Multipliers Rows) (k : List Changes) → Holds model.now first k ms self.old → OnOk result (Holds model.now first k [] self.new) }
+    {
+        let mut more = true;
+        while more {
+            more = self.clear_one(alloc, model)?;
+        }
+        Ok(())
+    }
+
+    // What a record begins with.
+    fn begin(&mut self, alloc: Global, model: &Model, from_zero: bool) -> Result<(), NoMemory>
+        requires carries { CarriesSome model.now self.old.sums }
+        ensures { (first ms : Multipliers Rows) (k : List Changes) → Holds model.now first k ms self.old → OnOk result (Holds model.now first k (begun from_zero ms) self.new) }
+    {
+        if from_zero {
+            self.clear(alloc, model)?;
+        }
+        Ok(())
+    }
+
+    /// What a record begins with, and its raises in order.
+    pub fn take(
+        &mut self,
+        alloc: Global,
+        model: &Model,
+        from_zero: bool,
+        raises: &[Raise],
+        node: u32,
+    ) -> Result<(), BoundNo>
+        requires carries { CarriesSome model.now self.old.sums }
+        ensures { (first ms : Multipliers Rows) (k : List Changes) → Holds model.now first k ms self.old → Ends (λ ns. Holds model.now first k ns self.new) (raised_rows (whole model.now) node (Ok (begun from_zero ms)) (map raise_of raises.now)) result }
+    {
+        self.begin(alloc, model, from_zero)?;
+        self.raise_all(alloc, model, raises, node)
+    }
+
+    /// Takes back what was changed past a place of the list, the last first.
+    pub fn take_back(&mut self, alloc: Global, model: &Model, to: usize) -> Result<(), NoMemory>
+        requires carries { CarriesSome model.now self.old.sums }
+        requires to { to ≤ length self.old.changes.items }
+        requires sound { All (IsSound model.now) self.old.changes.items }
+        ensures carries { (ms ns : Multipliers Rows) → Carries model.now ms self.old.sums → Before ns to self.old.changes.items ms → AreSmall model.now ns → OnOk result (Carries model.now ns self.new.sums) }
+        ensures changes { OnOk result (self.new.changes.items ≡ take to self.old.changes.items) }
+    {
+        while self.changes.len() > to {
+            if let Some(change) = self.changes.pop() {
+                self.sums.give(alloc, model, &change.row, change.old)?;
+            }
+        }
+        Ok(())
+    }
+}

@@ -1,0 +1,203 @@
+//! A tree in preorder, walked with one box and one set of multipliers.
+ghost use Rattle.std.specs.Prelude.{◌≡◌, ◌≢◌, ℕ, true, false, List, [], ◌∷◌, ◌++◌, length, slice_get, OnOk, IfOk, MatchResult, None, Some};
+ghost use Rattle.proof_trees.specs.Boxes.{fixed};
+ghost use Rattle.proof_trees.specs.Multipliers.{Multipliers};
+ghost use Rattle.proof_trees.specs.Trees.{Pending, root};
+ghost use Rattle.proof_trees.specs.Trees.{Leaf as Leaves, Branch as Branches};
+ghost use Rattle.zero_one_rows.specs.declared.program.Row.{Row as Rows};
+ghost use Rattle.zero_one_rows.specs.Variables.{variables};
+ghost use Rattle.zero_one_rows.specs.Rows.{whole};
+ghost use Rattle.bound_checker.specs.Entries.{entry_of, end_of, number_of};
+ghost use Rattle.bound_checker.specs.Faults.{needed, short_fault};
+ghost use Rattle.bound_checker.specs.Sums.{Carries, CarriesSome};
+ghost use Rattle.bound_checker.specs.Walks.{Stands, StandsSome, IsAt, IsSomewhere, Opens, Closes, Takes};
+
+use crate::prices::Prices;
+use crate::steps::tighten_all;
+use crate::sums::Sums;
+use certificate::{BoundNo, End, Record};
+use partial_plan::{UndoList, undo};
+use std::alloc::Global;
+use stow_data::{NoMemory, VarNo};
+use zero_one_model::{Box01, Model};
+use zero_one_rows::Var;
+
+/// A variable whose half of value 0 waits, and how much was fixed and changed before it.
+#[derive(Clone, Copy)]
+pub struct Frame {
+    pub var: VarNo,
+    pub mark: usize,
+    pub changes: usize,
+}
+
+/// The box in hand with its multipliers, and what leads back to those that wait.
+#[derive(Drop)]
+pub struct Walk {
+    pub b: Box01,
+    pub undo: UndoList,
+    pub prices: Prices,
+    pub frames: Vec<Frame>,
+
+    /// No box is left.
+    pub done: bool,
+}
+
+// The least dual value that closes at a bound.
+fn needed_value(bound: u64) -> i128
+    ensures { result ≡ needed bound }
+{
+    16 * (bound as i128 - 1) + 1
+}
+
+// Whether a box closes at the bound.
+fn closes(model: &Model, b: &Box01, sums: &Sums, bound: u64, node: u32) -> Result<(), BoundNo>
+    requires carries { CarriesSome model.now sums.now }
+    requires whole { length b.now ≡ length (variables model.now) }
+    ensures { (ms : Multipliers Rows) → Carries model.now ms sums.now
+        → MatchResult result (λ _. short_fault (whole model.now) bound node b.now ms ≡ None) (λ fault. short_fault (whole model.now) bound node b.now ms ≡ Some fault) }
+{
+    let value = sums.value(model, b);
+    let needed = needed_value(bound);
+    if value < needed {
+        return Err(BoundNo::LeafShort {
+            node,
+            value,
+            needed,
+        });
+    }
+    Ok(())
+}
+
+impl Walk {
+    /// At the root: all variables are free, and no row has a multiplier.
+    pub fn start(alloc: Global, model: &Model) -> Result<Walk, NoMemory>
+        ensures { IfOk result (λ w. IsAt model.now w (root (whole model.now) ∷ [])) }
+    {
+        Ok(Walk {
+            b: Box01::free(alloc, model)?,
+            undo: UndoList::new(alloc),
+            prices: Prices::none(alloc, model)?,
+            frames: Vec::new(alloc),
+            done: false,
+        })
+    }
+
+    // Goes on to the box that waits.
+    fn leave(&mut self, alloc: Global, model: &Model) -> Result<(), NoMemory>
+        requires stands { StandsSome model.now self.old }
+        ensures { (q : Pending Rows) (qs : List (Pending Rows)) → Stands model.now self.old q qs → OnOk result (IsAt model.now self.new qs) }
+    {
+        let Some(frame) = self.frames.pop() else {
+            self.done = true;
+            return Ok(());
+        };
+        undo(&mut self.b, &mut self.undo, frame.mark);
+        self.prices.take_back(alloc, model, frame.changes)?;
+        self.undo.push(frame.var)?;
+        self.b.fix(frame.var, false);
+        Ok(())
+    }
+
+    // The box in hand closes.
+    fn close(&mut self, alloc: Global, model: &Model, bound: u64, node: u32) -> Result<(), BoundNo>
+        requires stands { StandsSome model.now self.old }
+        ensures { (q : Pending Rows) (qs : List (Pending Rows)) → Stands model.now self.old q qs → Closes model.now bound node q qs Leaves result self.new }
+    {
+        closes(model, &self.b, &self.prices.sums, bound, node)?;
+        self.leave(alloc, model)?;
+        Ok(())
+    }
+
+    // The half of value 1 comes into hand, and the other waits.
+    fn divide(&mut self, x: VarNo) -> Result<(), NoMemory>
+        requires free { slice_get self.old.b x ≡ Some None }
+        ensures halved { OnOk result (self.new.b ≡ fixed self.old.b x true) }
+        ensures noted { OnOk result (self.new.undo ≡ self.old.undo ++ x ∷ []) }
+        ensures prices { OnOk result (self.new.prices ≡ self.old.prices) }
+        ensures frames { OnOk result (self.new.frames.items ≡ self.old.frames.items ++ record { var = x; mark = length self.old.undo; changes = length self.old.prices.changes.items } ∷ []) }
+        ensures done { OnOk result (self.new.done ≡ self.old.done) }
+    {
+        self.frames.push(Frame {
+            var: x,
+            mark: self.undo.len(),
+            changes: self.prices.changes.len(),
+        })?;
+        self.undo.push(x)?;
+        self.b.fix(x, true);
+        Ok(())
+    }
+
+    // A variable divides the box in hand: the half of value 1 comes first, and the other waits.
+    fn branch(&mut self, model: &Model, var: &Var, bound: u64, node: u32) -> Result<(), BoundNo>
+        requires stands { StandsSome model.now self.old }
+        ensures { (q : Pending Rows) (qs : List (Pending Rows)) → Stands model.now self.old q qs → Closes model.now bound node q qs (Branches (number_of model.now var.now)) result self.new }
+    {
+        let Some(x) = model.number(var) else {
+            return Err(BoundNo::BranchFixed { node });
+        };
+        if self.b.at(x).is_some() {
+            return Err(BoundNo::BranchFixed { node });
+        }
+        self.divide(x)?;
+        Ok(())
+    }
+
+    // A record's end.
+    fn end(
+        &mut self,
+        alloc: Global,
+        model: &Model,
+        end: &End,
+        bound: u64,
+        node: u32,
+    ) -> Result<(), BoundNo>
+        requires stands { StandsSome model.now self.old }
+        ensures { (q : Pending Rows) (qs : List (Pending Rows)) → Stands model.now self.old q qs → Closes model.now bound node q qs (end_of model.now end.now) result self.new }
+    {
+        match end {
+            End::Leaf | End::Left => self.close(alloc, model, bound, node),
+            End::Branch(var) => self.branch(model, var, bound, node),
+        }
+    }
+
+    // A record's steps and raises.
+    fn open(
+        &mut self,
+        alloc: Global,
+        model: &Model,
+        entry: &Record,
+        node: u32,
+    ) -> Result<(), BoundNo>
+        requires stands { StandsSome model.now self.old }
+        ensures { (q : Pending Rows) (qs : List (Pending Rows)) → Stands model.now self.old q qs → Opens model.now node q qs (entry_of model.now entry.now) result self.new }
+    {
+        tighten_all(
+            alloc,
+            model,
+            &mut self.b,
+            &mut self.undo,
+            entry.steps.as_slice(),
+            node,
+        )?;
+        self.prices.take(alloc, model, entry.from_zero, entry.raises.as_slice(), node)
+    }
+
+    /// One record.
+    pub fn take(
+        &mut self,
+        alloc: Global,
+        model: &Model,
+        entry: &Record,
+        bound: u64,
+        node: u32,
+    ) -> Result<(), BoundNo>
+        requires at { IsSomewhere model.now self.old }
+        ensures { (qs : List (Pending Rows)) → IsAt model.now self.old qs → Takes model.now bound node qs (entry_of model.now entry.now) result self.new }
+    {
+        if self.done {
+            return Err(BoundNo::TreeTooLong);
+        }
+        self.open(alloc, model, entry, node)?;
+        self.end(alloc, model, &entry.end, bound, node)
+    }
+}
