@@ -1,0 +1,20 @@
+use Rattle.std.proofs.Common.{[], refl, sym, subst}
+use Rattle.std.specs.Prelude.{Ok}
+use Rattle.stow_data.specs.Shipment.{Cargo}
+use Rattle.arrival_plan.specs.Settled.{Settles}
+use Rattle.voyage_inputs.proofs.Empty.{empty_settles}
+use Rattle.voyage_inputs.proofs.arriving.comes_in_empty.Goals as goal
+
+pub returns : goal.returns
+returns c = record {
+  same_ship = refl;
+  same_bookings = refl;
+  same_message = refl;
+  booked = record {
+    ship_rules = c.obeys_rules.ensures;
+    rules = c.requires;
+    read = tt;
+    cargo_rules = c.obeys_rules-2.ensures;
+    settled = subst (λ (cargo : Cargo). Settles c.args.ship c.args.bookings [] (Ok cargo)) (sym c.in_ok-cargo.ensures) (empty_settles c.args.ship c.args.bookings c.requires);
+  };
+}

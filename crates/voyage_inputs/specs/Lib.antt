@@ -1,0 +1,5 @@
+pub mod Names
+pub mod Inputs
+pub mod Booked
+pub mod Named
+pub mod Reading

@@ -1,0 +1,18 @@
+//! What an order comes to before anything is written or printed.
+use program_ends::Work;
+use stow_data::Bytes;
+
+/// The answer to an order.
+#[derive(Debug, Drop)]
+pub enum Answer {
+    /// Files to be written, and a report to be printed after them.
+    Work(Work),
+    /// A written file or number is refused: the line that says so.
+    No(Bytes),
+    /// An input is refused: the line that says so.
+    Input(Bytes),
+    /// A limit is passed: the line that says so.
+    Large(Bytes),
+    /// What isn't built yet.
+    Unbuilt,
+}

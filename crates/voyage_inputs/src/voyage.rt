@@ -1,0 +1,14 @@
+//! A ship with its bookings and its cargo.
+use baplie_model::Message;
+use bookings::Bookings;
+use stow_data::{Cargo, Ship};
+
+/// A ship, the bookings of its voyage, the bay plan with which it comes in, and the cargo that they make.
+#[derive(Drop)]
+pub struct BookedVoyage {
+    pub ship: Ship,
+    pub bookings: Bookings,
+    /// None where the ship comes in empty.
+    pub message: Option<Message>,
+    pub cargo: Cargo,
+}
