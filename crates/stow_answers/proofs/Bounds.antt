@@ -1,15 +1,15 @@
 -- A box without multipliers closes at the bound 0, and its tree is settled there and lean.
 use Rattle.std.proofs.Common.{ℕ, zero, suc, Bool, true, false, [], ◌∷◌, Option, Some, None, ℤ, pos, ◌-ℤ◌, ◌*ℤ◌, ◌≤ℤ◌, arith}
 use borrow.Author.Differences.{ints}
-use Rattle.proof_trees.specs.Program.{sum_to, where_set}
+use Rattle.proof_trees.specs.Program.{sum_to}
 use Rattle.proof_trees.specs.Boxes.{at, free_box}
 use Rattle.proof_trees.specs.Multipliers.{Closes, least, worth}
 use Rattle.zero_one_rows.specs.Variables.{Voyage, is_rehandled, var}
-use Rattle.zero_one_rows.specs.Rows.{base, whole, bit}
+use Rattle.zero_one_rows.specs.Rows.{whole, bit}
 use Rattle.bound_checker.specs.Entries.{ProvesBound}
 use Rattle.stow_answers.specs.Work.{leaf}
 use Rattle.stow_answers.specs.Trees.{IsSettled, IsLean}
-use Rattle.stow_answers.specs.Voyages.{IsBound}
+use Rattle.solution_meaning.specs.Laws.{IsVoyageBound}
 
 least_from : (o : Option Bool) (z : ℤ) → pos 0 ≤ℤ z → pos 0 ≤ℤ least o z
 least_from None z h = grind (arith, ints)
@@ -39,11 +39,6 @@ leaf_settled m = ((λ k d l. absurd (omega arith)), (λ k d l. absurd (omega ari
 pub leaf_lean : (m : Voyage) → IsLean m (leaf ∷ [])
 leaf_lean m = (tt, omega arith, tt)
 
-bit_low : (x b : Bool) → pos 0 ≤ℤ where_set x (bit b)
-bit_low true true = omega (arith, ints)
-bit_low true false = omega (arith, ints)
-bit_low false b = omega (arith, ints)
-
--- no assignment costs less than 0
-pub zero_bounds : (m : Voyage) → IsBound m 0
-zero_bounds m x h = sum_from (base m).vars _ (λ v. bit_low (x v) (is_rehandled m (var m v)))
+-- no voyage has fewer rehandles than none
+pub zero_bounds : (m : Voyage) → IsVoyageBound m 0
+zero_bounds m moves plans legal = omega arith

@@ -1,36 +1,27 @@
--- What plain inputs are answered.
+-- What accepted inputs are answered.
 use Rattle.std.proofs.Common.{◌≡◌, ℕ, ◌≤◌, List, Option, ap, subst, inl, inr, arith}
 use Rattle.std.specs.Prelude.{Result, Ok, Err, IfOk, IfErr}
 use Rattle.stow_io.specs.Files.{Files}
 use Rattle.stow_io.specs.Causes.{Rose}
-use Rattle.stow_data.specs.Shipment.{Cargo}
-use Rattle.stow_answers.specs.declared.answer.Answer.{Answer}
-use Rattle.stow_answers.specs.declared.voyage.BookedVoyage.{BookedVoyage}
-use Rattle.stow_answers.specs.declared.reading.ReadStop.{ReadStop}
-use Rattle.stow_answers.specs.declared.reading.ReadStop.TheVariants.{Failed, FailedOwn, NoMemory}
-use Rattle.stow_answers.specs.declared.reading.Found.{Found}
-use Rattle.stow_answers.specs.declared.reading.Found.TheVariants.{Plain}
+use Rattle.voyage_inputs.specs.declared.answer.Answer.{Answer}
+use Rattle.voyage_inputs.specs.declared.voyage.BookedVoyage.{BookedVoyage}
+use Rattle.voyage_inputs.specs.declared.reading.ReadStop.{ReadStop}
+use Rattle.voyage_inputs.specs.declared.reading.ReadStop.TheVariants.{Failed, FailedOwn, NoMemory}
+use Rattle.voyage_inputs.specs.declared.reading.Found.{Found}
+use Rattle.voyage_inputs.specs.declared.reading.Found.TheVariants.{Voyage}
 use Rattle.zero_one_model.specs.Building.{IsWithin}
-use Rattle.stow_answers.specs.Names.{Names}
-use Rattle.stow_answers.specs.Booked.{IsBooked, booked_voyage, voyage_of}
-use Rattle.stow_answers.specs.Reading.{AreTaken, IsFound}
-use Rattle.stow_answers.specs.Named.{IsStop}
+use Rattle.voyage_inputs.specs.Names.{Names}
+use Rattle.voyage_inputs.specs.Reading.{AreTaken, IsFound}
+use Rattle.voyage_inputs.specs.Named.{IsStop}
+use Rattle.stow_answers.specs.Voyages.{voyage_of}
 use Rattle.stow_answers.specs.Work.{cert_name}
 use Rattle.stow_answers.specs.Answers.{Judges, CheckOf, IsCertOf, IsCheckRead}
 
-pub taken : (names : Names) (files : Option Files) (found : Found) (v : BookedVoyage) → IsFound names files found → found ≡ Plain v → AreTaken names files v
+pub taken : (names : Names) (files : Option Files) (found : Found) (v : BookedVoyage) → IsFound names files found → found ≡ Voyage v → AreTaken names files v
 taken names files found v h is = subst (IsFound names files) is h
 
--- the voyage is that of its ship and its bookings
-made_so : (v : BookedVoyage) → IsBooked v → v ≡ booked_voyage v.ship v.bookings
-made_so v b =
-    let with_cargo : Cargo → BookedVoyage = λ cargo. record { ship = v.ship; bookings = v.bookings; cargo = cargo } in
-    ap with_cargo b.cargo_is
-
 pub judges : (names : Names) (files : Option Files) (P : BookedVoyage → Answer → Type 0) (a : Answer) (v : BookedVoyage) → AreTaken names files v → P v a → Judges names files P a
-judges names files P a v t h =
-    let judged = subst (λ (w : BookedVoyage). P w a) (made_so v t.booked) h in
-    inl (record { ship = v.ship; booked = v.bookings; inputs_are = t.inputs_are; plain = t.booked.plain; judged = judged })
+judges names files P a v t h = inl (record { voyage = v; inputs_are = t.inputs_are; judged = h })
 
 pub check_judges : {E : Type 0} (r : Result Answer E) (names : Names) (files files' : Option Files) (v : BookedVoyage) → AreTaken names files v → files' ≡ files → IfOk r (CheckOf names.base files' v) → IfOk r (Judges names files (CheckOf names.base files))
 check_judges (Ok a) names files files' v t same h =
@@ -40,11 +31,9 @@ check_judges (Err e) names files files' v t same h = tt
 -- the certificate is read where the voyage is within the limits
 pub cert_read : (names : Names) (files : Option Files) (v : BookedVoyage) (name : List ℕ) → AreTaken names files v → IsWithin (voyage_of v) → name ≡ cert_name names.base → IsCertOf names files name
 cert_read names files v name t within is = record {
-  ship = v.ship;
-  booked = v.bookings;
+  voyage = v;
   inputs_are = t.inputs_are;
-  plain = t.booked.plain;
-  within = subst (λ (w : BookedVoyage). IsWithin (voyage_of w)) (made_so v t.booked) within;
+  within = within;
   name_is = is;
 }
 

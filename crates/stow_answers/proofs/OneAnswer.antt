@@ -1,26 +1,12 @@
 -- Over files that are told, the answers to an order exclude each other.
-use Rattle.std.proofs.Common.{◌≡◌, ◌≢◌, ℕ, List, [], ◌∷◌, map, Option, Some, None, refl, sym, ap, subst, ◌∙◌, inl, inr, arith}
-use Rattle.std.specs.Prelude.{◌⊎◌, true, false, Result, Ok, Err, IsOk, is_ok}
+use Rattle.std.proofs.Common.{◌≡◌, ◌≢◌, ℕ, ◌-◌, ◌<◌, List, [], ◌∷◌, map, length, Option, Some, None, refl, sym, ap, subst, ◌∙◌, inl, inr, arith}
+use Rattle.std.specs.Prelude.{◌⊎◌}
+use Rattle.std.proofs.lemmas.Option.{none-some, same_Some}
 use Rattle.stow_io.specs.Files.{Files}
-use Rattle.stow_data.specs.Ship.{Ship}
 use Rattle.stow_data.specs.declared.limits.Limit.{Limit}
 use Rattle.stow_data.specs.declared.limits.Limit.TheVariants.{Calls, Containers, Places, Variables, Rows, Certificate}
-use Rattle.ship_profile.specs.ShipText.{profile_of}
-use Rattle.ship_profile.specs.declared.faults.ProfileFault.{ProfileFault}
-use Rattle.bookings.specs.Reading.{bookings_of}
-use Rattle.bookings.specs.declared.faults.BookingFault.{BookingFault}
-use Rattle.bookings.specs.declared.shipment.Bookings.{Bookings}
-use Rattle.edifact_segments.specs.declared.segments.Segment.{Segment}
-use Rattle.edifact_segments.proofs.OneReading as reading
-use Rattle.baplie_model.specs.declared.causes.Cause.{Cause}
 use Rattle.baplie_model.specs.declared.parts.Message.{Message}
-use Rattle.baplie_model.specs.Messages.{IsMessageOf}
-use Rattle.baplie_model.specs.Faults.{IsLeastFault, body, groups}
-use Rattle.baplie_model.specs.Groups.{cell_group}
-use Rattle.baplie_model.proofs.Whole.{one, not_both}
 use Rattle.baplie_read.specs.declared.faults.BaplieFault.{BaplieFault}
-use Rattle.baplie_read.specs.declared.faults.BaplieFault.TheVariants.{Seg, At, NoMemory}
-use Rattle.baplie_read.specs.Reading.{IsBaplieFault}
 use Rattle.zero_one_rows.specs.Variables.{Voyage}
 use Rattle.zero_one_model.specs.Building.{IsWithin, Passes}
 use Rattle.zero_one_rows.specs.Rows.{whole}
@@ -32,87 +18,38 @@ use Rattle.proof_trees.specs.Trees.{root}
 use Rattle.certificate.specs.declared.refusals.BoundNo.{BoundNo}
 use Rattle.bound_checker.specs.Entries.{ProvesBound, entry_of}
 use Rattle.bound_checker.specs.Faults.{first_fault}
-use Rattle.bound_checker.specs.Taken.{IsCheckable}
 use Rattle.bound_checker.proofs.FirstFault as checker
 use Rattle.stow_report.specs.Refusals.{refusal_text}
-use Rattle.stow_report.specs.Inputs.{limit_line, profile_line, booking_line}
+use Rattle.stow_report.specs.Inputs.{limit_line}
 use Rattle.stow_report.specs.Listings.{listing_text}
 use Rattle.stow_report.specs.Verdicts.{cert_line, bound_line, file_line}
-use Rattle.stow_answers.specs.declared.answer.Answer.{Answer}
-use Rattle.stow_answers.specs.declared.answer.Answer.TheVariants as answer
+use Rattle.voyage_inputs.specs.declared.answer.Answer.{Answer}
+use Rattle.voyage_inputs.specs.declared.answer.Answer.TheVariants as answer
 use Rattle.program_ends.specs.declared.files.NamedFile.{NamedFile}
-use Rattle.stow_answers.specs.declared.voyage.BookedVoyage.{BookedVoyage}
+use Rattle.voyage_inputs.specs.declared.voyage.BookedVoyage.{BookedVoyage}
 use Rattle.program_ends.specs.declared.files.Work.{Work}
 use Rattle.stow_words.specs.declared.order.Order.{Order}
 use Rattle.stow_words.specs.declared.order.Order.TheVariants.{Plan, Check, Show, Make}
-use Rattle.stow_answers.specs.Names.{Names, names_from}
-use Rattle.stow_answers.specs.Booked.{IsPlain, booked_voyage, voyage_of}
-use Rattle.stow_answers.specs.Inputs.{IsContent, AreInputs, TurnsDown, refused}
-use Rattle.stow_answers.specs.Work.{work_for, cert_name}
-use Rattle.stow_answers.specs.Answers.{Takes, Judges, IsTooLarge, PlanOf, HasCert, HasOtherCert, RefusesText, RefusesTree, Confirms, bound_text, CertOf, CheckOf, Lists, ShowOf, IsAnswerTo}
+use Rattle.voyage_inputs.specs.Names.{Names, names_from}
+use Rattle.voyage_inputs.specs.Inputs.{TurnsDown}
+use Rattle.voyage_inputs.proofs.OneMessage.{message_not_fault, one_baplie_fault, one_message}
+use Rattle.voyage_inputs.proofs.OneInput.{one_content, one_inputs, accepted_not_refused, turned_one}
+use Rattle.greedy_loader.proofs.OneVoyage.{one_voyage}
+use Rattle.voyage_meaning.specs.Voyage.{HasCount}
+use Rattle.stow_data.specs.Plans as stowed
+use Rattle.stow_answers.specs.Voyages.{voyage_of}
+use Rattle.stow_answers.specs.Work.{AreLoaded, IsWorkFor, NeedsSearch, work_of_plans, cert_name}
+use Rattle.stow_answers.specs.Answers.{Takes, Judges, IsTooLarge, PlanOf, HasCert, HasHighCert, IsLow, RefusesText, RefusesTree, Confirms, bound_text, CertOf, CheckOf, Lists, ShowOf, IsAnswerTo}
 
 -- ## Inputs
 
-one_content : (files : Files) (name b c : List ℕ) → IsContent (Some files) name b → IsContent (Some files) name c → b ≡ c
-one_content files name b c h k = h ∙ sym k
-
-one_ok : {A E : Type 0} (f : List ℕ → Result A E) (x y : List ℕ) (a b : A) → x ≡ y → f x ≡ Ok a → f y ≡ Ok b → a ≡ b
-one_ok f x y a b e h k = cc
-
-one_err : {A E : Type 0} (f : List ℕ → Result A E) (x y : List ℕ) (a b : E) → x ≡ y → f x ≡ Err a → f y ≡ Err b → a ≡ b
-one_err f x y a b e h k = cc
-
-ok_or_err : {A E : Type 0} (f : List ℕ → Result A E) (x y : List ℕ) (a : A) (b : E) → x ≡ y → f x ≡ Ok a → f y ≡ Err b → ⊥
-ok_or_err f x y a b e h k = cc
-
-accepted_or_err : {A E : Type 0} (f : List ℕ → Result A E) (x y : List ℕ) (b : E) → x ≡ y → IsOk (f x) → f y ≡ Err b → ⊥
-accepted_or_err {A} {E} f x y b e h k =
-    let bad : false ≡ true = subst (λ (r : Result A E). is_ok r ≡ true) (ap f e ∙ k) h in
-    cc
-
-one_inputs : (names : Names) (files : Files) (s t : Ship) (b c : Bookings) → AreInputs names (Some files) s b → AreInputs names (Some files) t c → (s ≡ t) × (b ≡ c)
-one_inputs names files s t b c h k = (
-  one_ok profile_of h.profile k.profile s t (one_content files names.profile _ _ h.profile_is k.profile_is) h.ship_is k.ship_is,
-  one_ok bookings_of h.bookings k.bookings b c (one_content files names.bookings _ _ h.bookings_is k.bookings_is) h.booked_is k.booked_is,
-)
-
--- inputs that are accepted aren't refused
-accepted_not_refused : (names : Names) (files : Files) (s : Ship) (c : Bookings) (a : Answer) → AreInputs names (Some files) s c → TurnsDown names (Some files) a → (IsPlain s c → ⊥) × (a ≡ answer.Unbuilt)
-accepted_not_refused names files s c a h (inl k) = absurd (ok_or_err profile_of h.profile k.profile s k.fault (one_content files names.profile _ _ h.profile_is k.profile_is) h.ship_is k.fault_is)
-accepted_not_refused names files s c a h (inr (inl k)) = absurd (ok_or_err bookings_of h.bookings k.bookings c k.fault (one_content files names.bookings _ _ h.bookings_is k.bookings_is) h.booked_is k.fault_is)
-accepted_not_refused names files s c a h (inr (inr k)) =
-    let e = one_inputs names files s k.ship c k.booked h k.inputs_are in
-    ((λ plain. k.other (subst (λ (x : Bookings). IsPlain k.ship x) e.1 (subst (λ (x : Ship). IsPlain x c) e.0 plain))), k.answer_is)
-
-turned_one : (names : Names) (files : Files) (a b : Answer) → TurnsDown names (Some files) a → TurnsDown names (Some files) b → a ≡ b
-turned_one names files a b (inl h) (inl k) =
-    let e = one_err profile_of h.profile k.profile h.fault k.fault (one_content files names.profile _ _ h.profile_is k.profile_is) h.fault_is k.fault_is in
-    h.answer_is ∙ ap (λ (f : ProfileFault). refused (profile_line f)) e ∙ sym k.answer_is
-turned_one names files a b (inl h) (inr (inl k)) = absurd (accepted_or_err profile_of k.profile h.profile h.fault (one_content files names.profile _ _ k.profile_is h.profile_is) k.accepted h.fault_is)
-turned_one names files a b (inr (inl h)) (inl k) = absurd (accepted_or_err profile_of h.profile k.profile k.fault (one_content files names.profile _ _ h.profile_is k.profile_is) h.accepted k.fault_is)
-turned_one names files a b (inr (inl h)) (inr (inl k)) =
-    let e = one_err bookings_of h.bookings k.bookings h.fault k.fault (one_content files names.bookings _ _ h.bookings_is k.bookings_is) h.fault_is k.fault_is in
-    h.answer_is ∙ ap (λ (f : BookingFault). refused (booking_line f)) e ∙ sym k.answer_is
-turned_one names files a b (inr (inr h)) k =
-    let e = accepted_not_refused names files h.ship h.booked b h.inputs_are k in
-    h.answer_is ∙ sym e.1
-turned_one names files a b (inl h) (inr (inr k)) =
-    let e = accepted_not_refused names files k.ship k.booked a k.inputs_are (inl h) in
-    e.1 ∙ sym k.answer_is
-turned_one names files a b (inr (inl h)) (inr (inr k)) =
-    let e = accepted_not_refused names files k.ship k.booked a k.inputs_are (inr (inl h)) in
-    e.1 ∙ sym k.answer_is
-
 taken_not_turned : (names : Names) (files : Files) (P : BookedVoyage → Answer → Type 0) (a b : Answer) → Takes names (Some files) P a → TurnsDown names (Some files) b → ⊥
-taken_not_turned names files P a b h k =
-    let e = accepted_not_refused names files h.ship h.booked b h.inputs_are k in
-    e.0 h.plain
+taken_not_turned names files P a b h k = accepted_not_refused names files h.voyage b h.inputs_are k
 
 judged_one : (names : Names) (files : Files) (P : BookedVoyage → Answer → Type 0) → ((v : BookedVoyage) (a b : Answer) → P v a → P v b → a ≡ b) → (a b : Answer) → Judges names (Some files) P a → Judges names (Some files) P b → a ≡ b
 judged_one names files P once a b (inl h) (inl k) =
-    let e = one_inputs names files h.ship k.ship h.booked k.booked h.inputs_are k.inputs_are in
-    once (booked_voyage k.ship k.booked) a b
-    (subst (λ (x : Bookings). P (booked_voyage k.ship x) a) e.1 (subst (λ (x : Ship). P (booked_voyage x h.booked) a) e.0 h.judged)) k.judged
+    let e = one_inputs names files h.voyage k.voyage h.inputs_are k.inputs_are in
+    once k.voyage a b (subst (λ (v : BookedVoyage). P v a) e h.judged) k.judged
 judged_one names files P once a b (inl h) (inr k) = absurd (taken_not_turned names files P a b h k)
 judged_one names files P once a b (inr h) (inl k) = absurd (taken_not_turned names files P b a k h)
 judged_one names files P once a b (inr h) (inr k) = turned_one names files a b h k
@@ -161,10 +98,31 @@ one_some o x y h k = cc
 some_or_none : {A : Type 0} (o : Option A) (x : A) → o ≡ Some x → o ≡ None → ⊥
 some_or_none o x h k = cc
 
+one_loaded : (v : BookedVoyage) (plans others : Option (List stowed.Plan)) → AreLoaded v plans → AreLoaded v others → plans ≡ others
+one_loaded v plans others h k = one_voyage v.ship v.cargo 1 v.cargo.arrival (length v.cargo.rotation - 1) plans others h k
+
+one_work : (base : List ℕ) (v : BookedVoyage) (w x : Work) → IsWorkFor base v w → IsWorkFor base v x → w ≡ x
+one_work base v w x h k =
+    let e = same_Some h.plans k.plans (one_loaded v (Some h.plans) (Some k.plans) h.loaded k.loaded) in
+    h.work_is ∙ ap (work_of_plans base v) e ∙ sym k.work_is
+
+-- plans whose count is 0 don't rehandle anything
+none_some : (v : BookedVoyage) (plans : List stowed.Plan) (n : ℕ) → HasCount v.ship v.cargo plans 0 → HasCount v.ship v.cargo plans n → 0 < n → ⊥
+none_some v plans n h k l =
+    let least = k.least h.moves h.is_legal in
+    let none = h.is_number in
+    omega (arith, least, none, l)
+
+work_or_search : (base : List ℕ) (v : BookedVoyage) (w : Work) → IsWorkFor base v w → NeedsSearch v → ⊥
+work_or_search base v w h (inl k) = none-some h.plans (one_loaded v None (Some h.plans) k h.loaded)
+work_or_search base v w h (inr k) =
+    let e = same_Some h.plans k.plans (one_loaded v (Some h.plans) (Some k.plans) h.loaded k.loaded) in
+    none_some v k.plans k.rehandles (subst (λ (plans : List stowed.Plan). HasCount v.ship v.cargo plans 0) e h.count) k.count k.some
+
 plan_one : (base : List ℕ) (v : BookedVoyage) (a b : Answer) → PlanOf base v a → PlanOf base v b → a ≡ b
-plan_one base v (answer.Work w) (answer.Work x) h k = ap (λ (y : Work). answer.Work y) (one_some (work_for base v) w x h.1 k.1)
+plan_one base v (answer.Work w) (answer.Work x) h k = ap (λ (y : Work). answer.Work y) (one_work base v w x h.1 k.1)
 plan_one base v (answer.Work w) (answer.Large line) h k = absurd (within_not_large (voyage_of v) line h.0 k)
-plan_one base v (answer.Work w) answer.Unbuilt h k = absurd (some_or_none (work_for base v) w h.1 k.1)
+plan_one base v (answer.Work w) answer.Unbuilt h k = absurd (work_or_search base v w h.1 k.1)
 plan_one base v (answer.Work w) (answer.No line) h k = absurd k
 plan_one base v (answer.Work w) (answer.Input line) h k = absurd k
 plan_one base v (answer.Large line) (answer.Large other) h k = ap (λ (y : List ℕ). answer.Large y) (large_one (voyage_of v) line other h k)
@@ -173,7 +131,7 @@ plan_one base v (answer.Large line) answer.Unbuilt h k = absurd (within_not_larg
 plan_one base v (answer.Large line) (answer.No other) h k = absurd k
 plan_one base v (answer.Large line) (answer.Input other) h k = absurd k
 plan_one base v answer.Unbuilt answer.Unbuilt h k = refl
-plan_one base v answer.Unbuilt (answer.Work x) h k = absurd (some_or_none (work_for base v) x k.1 h.1)
+plan_one base v answer.Unbuilt (answer.Work x) h k = absurd (work_or_search base v x k.1 h.1)
 plan_one base v answer.Unbuilt (answer.Large line) h k = absurd (within_not_large (voyage_of v) line h.0 k)
 plan_one base v answer.Unbuilt (answer.No line) h k = absurd k
 plan_one base v answer.Unbuilt (answer.Input line) h k = absurd k
@@ -211,14 +169,14 @@ confirmed_not_refused m bytes line w h (inr k) =
     let e = one_cert m bytes _ _ h k in
     proved_or_refused m h.head k.head h.tree k.tree k.fact.no e.0 e.1 (proved_none m h.tree h.head.bound h.fact.proves) k.fact.first
 
-checkable_not_other : (m : Voyage) (bytes : List ℕ) (P : ℕ → List Record → Type 0) → HasCert m bytes P → HasOtherCert m bytes → ⊥
-checkable_not_other m bytes P h k =
+low_not_high : (m : Voyage) (bytes : List ℕ) (P : ℕ → List Record → Type 0) → HasCert m bytes P → HasHighCert m bytes → ⊥
+low_not_high m bytes P h k =
     let e = one_tree bytes h.head k.head h.tree k.tree h.is_cert k.is_cert in
-    k.other (subst (λ (y : Head). IsCheckable m y k.tree) e.0 (subst (λ (y : List Record). IsCheckable m h.head y) e.1 h.checkable))
+    k.high (subst (λ (y : Head). IsLow m y.bound) e.0 h.low)
 
-refused_not_other : (m : Voyage) (bytes line : List ℕ) → RefusesText bytes line ⊎ HasCert m bytes (RefusesTree m line) → HasOtherCert m bytes → ⊥
-refused_not_other m bytes line (inl h) k = no_fault bytes h.fault (k.head, k.tree, k.is_cert) h.has
-refused_not_other m bytes line (inr h) k = checkable_not_other m bytes _ h k
+refused_not_high : (m : Voyage) (bytes line : List ℕ) → RefusesText bytes line ⊎ HasCert m bytes (RefusesTree m line) → HasHighCert m bytes → ⊥
+refused_not_high m bytes line (inl h) k = no_fault bytes h.fault (k.head, k.tree, k.is_cert) h.has
+refused_not_high m bytes line (inr h) k = low_not_high m bytes _ h k
 
 same_refusal : (m : Voyage) (g h : Head) (s t : List Record) (fault other : BoundNo) → g ≡ h → s ≡ t → first_fault m s g.bound ≡ Some fault → first_fault m t h.bound ≡ Some other → fault ≡ other
 same_refusal m g h s t fault other e f p q =
@@ -236,17 +194,17 @@ refused_one m bytes a b (inr h) (inr k) =
 cert_one : (m : Voyage) (bytes : List ℕ) (a b : Answer) → CertOf m bytes a → CertOf m bytes b → a ≡ b
 cert_one m bytes (answer.Work w) (answer.Work x) h k = ap (λ (y : Work). answer.Work y) (confirmed_one m bytes w x h k)
 cert_one m bytes (answer.Work w) (answer.No line) h k = absurd (confirmed_not_refused m bytes line w h k)
-cert_one m bytes (answer.Work w) answer.Unbuilt h k = absurd (checkable_not_other m bytes _ h k)
+cert_one m bytes (answer.Work w) answer.Unbuilt h k = absurd (low_not_high m bytes _ h k)
 cert_one m bytes (answer.Work w) (answer.Large line) h k = absurd k
 cert_one m bytes (answer.Work w) (answer.Input line) h k = absurd k
 cert_one m bytes (answer.No line) (answer.No other) h k = ap (λ (y : List ℕ). answer.No y) (refused_one m bytes line other h k)
 cert_one m bytes (answer.No line) (answer.Work x) h k = absurd (confirmed_not_refused m bytes line x k h)
-cert_one m bytes (answer.No line) answer.Unbuilt h k = absurd (refused_not_other m bytes line h k)
+cert_one m bytes (answer.No line) answer.Unbuilt h k = absurd (refused_not_high m bytes line h k)
 cert_one m bytes (answer.No line) (answer.Large other) h k = absurd k
 cert_one m bytes (answer.No line) (answer.Input other) h k = absurd k
 cert_one m bytes answer.Unbuilt answer.Unbuilt h k = refl
-cert_one m bytes answer.Unbuilt (answer.Work x) h k = absurd (checkable_not_other m bytes _ k h)
-cert_one m bytes answer.Unbuilt (answer.No line) h k = absurd (refused_not_other m bytes line k h)
+cert_one m bytes answer.Unbuilt (answer.Work x) h k = absurd (low_not_high m bytes _ k h)
+cert_one m bytes answer.Unbuilt (answer.No line) h k = absurd (refused_not_high m bytes line k h)
 cert_one m bytes answer.Unbuilt (answer.Large line) h k = absurd k
 cert_one m bytes answer.Unbuilt (answer.Input line) h k = absurd k
 cert_one m bytes (answer.Large line) b h k = absurd h
@@ -262,30 +220,10 @@ check_one base files v a b (inr h) (inr k) =
 
 -- ## `show`
 
-message_not_fault : (bytes : List ℕ) (message : Message) (fault : BaplieFault) → fault ≢ NoMemory → IsMessageOf bytes message → IsBaplieFault bytes fault → ⊥
-message_not_fault bytes message (Seg e) named h k = reading.never_both bytes h.segments e h.interchange k
-message_not_fault bytes message (At n cause) named h k =
-    let e = reading.one_interchange bytes k.segments h.segments k.interchange h.interchange in
-    not_both h.segments n cause (message, h.is_message) (subst (λ (s : List Segment). IsLeastFault s n cause) e k.is_fault)
-message_not_fault bytes message NoMemory named h k = named refl
-
-one_baplie_fault : (bytes : List ℕ) (f g : BaplieFault) → f ≢ NoMemory → g ≢ NoMemory → IsBaplieFault bytes f → IsBaplieFault bytes g → f ≡ g
-one_baplie_fault bytes (Seg e) (Seg d) nf ng h k = ap (λ x. Seg x) (reading.one_fault bytes e d h k)
-one_baplie_fault bytes (Seg e) (At n cause) nf ng h k = absurd (reading.never_both bytes k.segments e k.interchange h)
-one_baplie_fault bytes (At n cause) (Seg e) nf ng h k = absurd (reading.never_both bytes h.segments e h.interchange k)
-one_baplie_fault bytes (At n cause) (At m other) nf ng h k =
-    let e = reading.one_interchange bytes h.segments k.segments h.interchange k.interchange in
-    let same = one k.segments n m cause other (subst (λ (s : List Segment). IsLeastFault s n cause) e h.is_fault) k.is_fault in
-    ap (λ (x : ℕ). At x cause) same.0 ∙ ap (λ (c : Cause). At m c) same.1
-one_baplie_fault bytes NoMemory g nf ng h k = absurd (nf refl)
-one_baplie_fault bytes (Seg e) NoMemory nf ng h k = absurd (ng refl)
-one_baplie_fault bytes (At n cause) NoMemory nf ng h k = absurd (ng refl)
-
 listed_one : (bytes : List ℕ) (w x : Work) → Lists bytes w → Lists bytes x → w ≡ x
 listed_one bytes w x h k =
-    let e = reading.one_interchange bytes h.is_message.segments k.is_message.segments h.is_message.interchange k.is_message.interchange in
-    let same = h.is_message.is_message.groups ∙ ap (λ (s : List Segment). map cell_group (groups (body s))) e ∙ sym k.is_message.is_message.groups in
-    work_same w x (h.no_files ∙ sym k.no_files) (h.report ∙ ap listing_text same ∙ sym k.report)
+    let same = one_message bytes h.message k.message h.is_message k.is_message in
+    work_same w x (h.no_files ∙ sym k.no_files) (h.report ∙ ap (λ (m : Message). listing_text m.groups) same ∙ sym k.report)
 
 show_one : (bytes : List ℕ) (a b : Answer) → ShowOf bytes a → ShowOf bytes b → a ≡ b
 show_one bytes (answer.Work w) (answer.Work x) h k = ap (λ (y : Work). answer.Work y) (listed_one bytes w x h k)
@@ -307,10 +245,8 @@ show_one bytes answer.Unbuilt b h k = absurd h
 -- ## All orders
 
 pub one_answer : (order : Order) (files : Files) (a b : Answer) → IsAnswerTo order (Some files) a → IsAnswerTo order (Some files) b → a ≡ b
-one_answer (Plan profile bookings base None workers budget) files a b h k = judged_one (names_from profile bookings base) files (PlanOf base) (plan_one base) a b h k
-one_answer (Plan profile bookings base (Some arrival) workers budget) files a b h k = h ∙ sym k
-one_answer (Check profile bookings base None) files a b h k = judged_one (names_from profile bookings base) files (CheckOf base (Some files)) (check_one base files) a b h k
-one_answer (Check profile bookings base (Some arrival)) files a b h k = h ∙ sym k
+one_answer (Plan profile bookings base arrival workers budget) files a b h k = judged_one (names_from profile bookings base arrival) files (PlanOf base) (plan_one base) a b h k
+one_answer (Check profile bookings base arrival) files a b h k = judged_one (names_from profile bookings base arrival) files (CheckOf base (Some files)) (check_one base files) a b h k
 one_answer (Make number base) files a b h k = h ∙ sym k
 one_answer (Show file) files a b h k =
     let e = one_content files file h.bytes k.bytes h.content k.content in

@@ -1,10 +1,8 @@
 -- What each order is answered.
-use Rattle.std.specs.Prelude.{◌≡◌, ◌≢◌, ◌⊎◌, ℕ, codes, List, [], ◌++◌, Option, Some, None}
+use Rattle.std.specs.Prelude.{◌≡◌, ◌≢◌, ◌≤◌, ◌⊎◌, ℕ, ◌+◌, codes, List, [], ◌++◌, Option, Some, None}
 use Rattle.std.specs.Fmt.{decimal}
 use Rattle.stow_io.specs.Files.{Files}
-use Rattle.stow_data.specs.Ship.{Ship}
 use Rattle.stow_data.specs.declared.limits.Limit.{Limit}
-use Rattle.bookings.specs.declared.shipment.Bookings.{Bookings}
 use Rattle.zero_one_rows.specs.Variables.{Voyage}
 use Rattle.zero_one_model.specs.Building.{IsWithin, Passes}
 use Rattle.certificate.specs.declared.faults.CertFault.{CertFault}
@@ -14,7 +12,6 @@ use Rattle.certificate.specs.Grammar.{IsCert}
 use Rattle.certificate.specs.FirstFault.{HasFault}
 use Rattle.certificate.specs.declared.refusals.BoundNo.{BoundNo}
 use Rattle.bound_checker.specs.Entries.{ProvesBound}
-use Rattle.bound_checker.specs.Taken.{IsCheckable}
 use Rattle.bound_checker.specs.Faults.{first_fault}
 use Rattle.baplie_model.specs.declared.parts.Message.{Message}
 use Rattle.baplie_read.specs.declared.faults.BaplieFault.{BaplieFault}
@@ -24,28 +21,26 @@ use Rattle.baplie_read.specs.Reading.{IsBaplieFault}
 use Rattle.stow_report.specs.Refusals.{refusal_text}
 use Rattle.stow_report.specs.Inputs.{limit_line}
 use Rattle.stow_report.specs.Listings.{listing_text}
-use Rattle.stow_answers.specs.declared.answer.Answer.{Answer}
-use Rattle.stow_answers.specs.declared.answer.Answer.TheVariants as answer
+use Rattle.voyage_inputs.specs.declared.answer.Answer.{Answer}
+use Rattle.voyage_inputs.specs.declared.answer.Answer.TheVariants as answer
 use Rattle.program_ends.specs.declared.files.Work.{Work}
 use Rattle.stow_words.specs.declared.order.Order.{Order}
 use Rattle.stow_words.specs.declared.order.Order.TheVariants.{Plan, Check, Show, Make}
-use Rattle.stow_answers.specs.Names.{Names, names_from}
-use Rattle.stow_answers.specs.declared.voyage.BookedVoyage.{BookedVoyage}
-use Rattle.stow_answers.specs.Booked.{IsPlain, booked_voyage, voyage_of}
-use Rattle.stow_answers.specs.Inputs.{IsContent, AreInputs, TurnsDown, IsReadBy}
+use Rattle.voyage_inputs.specs.Names.{Names, names_from}
+use Rattle.voyage_inputs.specs.declared.voyage.BookedVoyage.{BookedVoyage}
+use Rattle.voyage_inputs.specs.Inputs.{IsContent, AreInputs, TurnsDown, IsReadBy}
 use Rattle.stow_report.specs.Verdicts.{cert_line, bound_line, file_line}
-use Rattle.stow_answers.specs.Voyages.{Sails, IsBound}
-use Rattle.stow_answers.specs.Work.{work_for, cert_name}
+use Rattle.solution_meaning.specs.Laws.{IsVoyageBound, most_lifts}
+use Rattle.stow_answers.specs.Voyages.{Sails, voyage_of}
+use Rattle.stow_answers.specs.Work.{IsWorkFor, NeedsSearch, cert_name}
 
 -- ## Inputs
 
--- the inputs are plain, and their voyage is answered so
+-- the inputs are accepted, and their voyage is answered so
 pub record Takes (names : Names) (files : Option Files) (P : BookedVoyage → Answer → Type 0) (a : Answer) : Type 0 where
-  pub ship : Ship
-  pub booked : Bookings
-  pub inputs_are : AreInputs names files ship booked
-  pub plain : IsPlain ship booked
-  pub judged : P (booked_voyage ship booked) a
+  pub voyage : BookedVoyage
+  pub inputs_are : AreInputs names files voyage
+  pub judged : P voyage a
 
 -- the inputs of these files are answered so, or are turned down
 abbrev pub Judges : Names → Option Files → (BookedVoyage → Answer → Type 0) → Answer → Type 0
@@ -65,30 +60,34 @@ WithinOr m (Some line) = IsTooLarge m line
 
 -- ## `plan`
 
--- the model's limits come first, then the loader's rule, which gives the plans or none
+-- the model's limits come first, then the loader's plans, which are the answer where they rehandle nothing
 abbrev pub PlanOf : List ℕ → BookedVoyage → Answer → Type 0
-PlanOf base v (answer.Work work) = IsWithin (voyage_of v) × (work_for base v ≡ Some work) × Sails base v work
+PlanOf base v (answer.Work work) = IsWithin (voyage_of v) × IsWorkFor base v work × Sails base v work
 PlanOf base v (answer.Large line) = IsTooLarge (voyage_of v) line
-PlanOf base v answer.Unbuilt = IsWithin (voyage_of v) × (work_for base v ≡ None)
+PlanOf base v answer.Unbuilt = IsWithin (voyage_of v) × NeedsSearch v
 PlanOf base v (answer.No line) = ⊥
 PlanOf base v (answer.Input line) = ⊥
 
 -- ## `check`
 
--- the text is a certificate that can be checked, and this holds of its bound and its tree
+-- the bound is at most one above the greatest rehandle count of least lifts: a greater one says no more
+abbrev pub IsLow : Voyage → ℕ → Type 0
+IsLow m bound = bound ≤ most_lifts m + 1
+
+-- the text is a certificate of a low bound, and this holds of its bound and its tree
 pub record HasCert (m : Voyage) (bytes : List ℕ) (P : ℕ → List Record → Type 0) : Type 0 where
   pub head : Head
   pub tree : List Record
   pub is_cert : IsCert bytes head tree
-  pub checkable : IsCheckable m head tree
+  pub low : IsLow m head.bound
   pub fact : P head.bound tree
 
--- the text is a certificate that can't be checked yet
-pub record HasOtherCert (m : Voyage) (bytes : List ℕ) : Type 0 where
+-- the text is a certificate of a greater bound, which isn't checked yet
+pub record HasHighCert (m : Voyage) (bytes : List ℕ) : Type 0 where
   pub head : Head
   pub tree : List Record
   pub is_cert : IsCert bytes head tree
-  pub other : IsCheckable m head tree → ⊥
+  pub high : IsLow m head.bound → ⊥
 
 -- the text is no certificate, and the line says why
 pub record RefusesText (bytes line : List ℕ) : Type 0 where
@@ -105,10 +104,10 @@ pub record RefusesTree (m : Voyage) (line : List ℕ) (bound : ℕ) (tree : List
 abbrev pub bound_text : ℕ → List ℕ
 bound_text bound = codes "bound " ++ (decimal bound ++ codes "\n")
 
--- the tree proves the bound, which is printed, and below which no solution of the 0-1 program costs
+-- the tree proves the bound, which is printed, and below which no legal voyage rehandles
 pub record Confirms (m : Voyage) (work : Work) (bound : ℕ) (tree : List Record) : Type 0 where
   pub proves : ProvesBound m tree bound
-  pub bounds : IsBound m bound
+  pub bounds : IsVoyageBound m bound
   pub no_files : work.files ≡ []
   pub report : work.report ≡ bound_text bound
 
@@ -124,7 +123,7 @@ TreeOf m tree bound answer.Unbuilt = ⊥
 abbrev pub CertOf : Voyage → List ℕ → Answer → Type 0
 CertOf m bytes (answer.Work work) = HasCert m bytes (Confirms m work)
 CertOf m bytes (answer.No line) = RefusesText bytes line ⊎ HasCert m bytes (RefusesTree m line)
-CertOf m bytes answer.Unbuilt = HasOtherCert m bytes
+CertOf m bytes answer.Unbuilt = HasHighCert m bytes
 CertOf m bytes (answer.Large line) = ⊥
 CertOf m bytes (answer.Input line) = ⊥
 
@@ -174,22 +173,18 @@ pub record IsShown (file : List ℕ) (files : Option Files) (a : Answer) : Type 
 
 -- ## All orders
 
--- An arrival and a made ship aren't built yet. A plan that is given needs no search: it is the same for any workers and any budget.
+-- A made ship isn't built yet. A plan that is given needs no search: it is the same for any workers and any budget.
 abbrev pub IsAnswerTo : Order → Option Files → Answer → Type 0
-IsAnswerTo (Plan profile bookings base None workers budget) files a = Judges (names_from profile bookings base) files (PlanOf base) a
-IsAnswerTo (Plan profile bookings base (Some arrival) workers budget) files a = a ≡ answer.Unbuilt
-IsAnswerTo (Check profile bookings base None) files a = Judges (names_from profile bookings base) files (CheckOf base files) a
-IsAnswerTo (Check profile bookings base (Some arrival)) files a = a ≡ answer.Unbuilt
+IsAnswerTo (Plan profile bookings base arrival workers budget) files a = Judges (names_from profile bookings base arrival) files (PlanOf base) a
+IsAnswerTo (Check profile bookings base arrival) files a = Judges (names_from profile bookings base arrival) files (CheckOf base files) a
 IsAnswerTo (Show file) files a = IsShown file files a
 IsAnswerTo (Make number base) files a = a ≡ answer.Unbuilt
 
--- the certificate is read where the inputs are plain and their voyage is within the limits
+-- the certificate is read where the inputs are accepted and their voyage is within the limits
 pub record IsCertOf (names : Names) (files : Option Files) (name : List ℕ) : Type 0 where
-  pub ship : Ship
-  pub booked : Bookings
-  pub inputs_are : AreInputs names files ship booked
-  pub plain : IsPlain ship booked
-  pub within : IsWithin (voyage_of (booked_voyage ship booked))
+  pub voyage : BookedVoyage
+  pub inputs_are : AreInputs names files voyage
+  pub within : IsWithin (voyage_of voyage)
   pub name_is : name ≡ cert_name names.base
 
 abbrev pub IsCheckRead : Names → Option Files → List ℕ → Type 0
@@ -197,9 +192,7 @@ IsCheckRead names files name = IsReadBy names files name ⊎ IsCertOf names file
 
 -- a file that is read for the order
 abbrev pub IsReadFor : Order → Option Files → List ℕ → Type 0
-IsReadFor (Plan profile bookings base None workers budget) files name = IsReadBy (names_from profile bookings base) files name
-IsReadFor (Plan profile bookings base (Some arrival) workers budget) files name = ⊥
-IsReadFor (Check profile bookings base None) files name = IsCheckRead (names_from profile bookings base) files name
-IsReadFor (Check profile bookings base (Some arrival)) files name = ⊥
+IsReadFor (Plan profile bookings base arrival workers budget) files name = IsReadBy (names_from profile bookings base arrival) files name
+IsReadFor (Check profile bookings base arrival) files name = IsCheckRead (names_from profile bookings base arrival) files name
 IsReadFor (Show file) files name = name ≡ file
 IsReadFor (Make number base) files name = ⊥

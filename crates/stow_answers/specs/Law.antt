@@ -1,7 +1,7 @@
 -- The answers exclude each other.
 use Rattle.std.specs.Prelude.{◌≡◌, Some}
 use Rattle.stow_io.specs.Files.{Files}
-use Rattle.stow_answers.specs.declared.answer.Answer.{Answer}
+use Rattle.voyage_inputs.specs.declared.answer.Answer.{Answer}
 use Rattle.stow_words.specs.declared.order.Order.{Order}
 use Rattle.stow_answers.specs.Answers.{IsAnswerTo}
 

@@ -1,10 +1,5 @@
-pub mod Names
-pub mod Inputs
-pub mod Booked
 pub mod Trees
 pub mod Work
 pub mod Voyages
 pub mod Answers
-pub mod Named
-pub mod Reading
 pub mod Law

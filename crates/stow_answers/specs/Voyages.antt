@@ -1,38 +1,26 @@
 -- What the files of a plan mean: the departures of a legal voyage, and their rehandle count.
-use Rattle.std.specs.Prelude.{◌≡◌, ℕ, Bool, codes, List, [], ◌∷◌, ◌++◌, map, flat_map, Option, Some, None, pos, ◌≤ℤ◌}
+use Rattle.std.specs.Prelude.{◌≡◌, ℕ, codes, List, [], ◌∷◌, ◌++◌, map, flat_map, Option, Some, None}
 use Rattle.std.specs.Fmt.{decimal}
 use Rattle.stow_data.specs.Plans.{Plan}
-use Rattle.plan_files.specs.Shown.{CellGroup, IsLegalFileSet}
-use Rattle.baplie_model.specs.declared.parts.CellGroup as baplie
-use Rattle.baplie_model.specs.declared.parts.Facts.{Facts}
+use Rattle.plan_files.specs.Shown.{IsLegalFileSet, shown_by}
 use Rattle.baplie_model.specs.declared.parts.Message.{Message}
 use Rattle.baplie_model.specs.Messages.{IsMessageOf}
 use Rattle.program_ends.specs.declared.files.NamedFile.{NamedFile}
 use Rattle.voyage_meaning.specs.Voyage.{HasCount}
 use Rattle.program_ends.specs.declared.files.Work.{Work}
 use Rattle.stow_answers.specs.Work.{files_of, cert_file}
-use Rattle.proof_trees.specs.Program.{cost_of}
 use Rattle.zero_one_rows.specs.Variables.{Voyage}
-use Rattle.zero_one_rows.specs.Rows.{base, IsSolution}
 use Rattle.certificate.specs.declared.tree.Head.{Head}
 use Rattle.certificate.specs.declared.tree.Outcome.TheVariants.{Optimal}
 use Rattle.certificate.specs.declared.tree.Record.{Record}
 use Rattle.bound_checker.specs.Entries.{ProvesBound}
-use Rattle.stow_answers.specs.declared.voyage.BookedVoyage.{BookedVoyage}
-use Rattle.stow_answers.specs.Booked.{voyage_of}
+use Rattle.solution_meaning.specs.Laws.{IsVoyageBound}
+use Rattle.voyage_inputs.specs.declared.voyage.BookedVoyage.{BookedVoyage}
 use Rattle.stow_answers.specs.Trees.{IsSettled, IsLean, handled}
 
--- what a cell group shows: its cell, and the number and the port of discharge of its container, where it has one
-abbrev pub shown_at : ℕ → ℕ → ℕ → Option Facts → List CellGroup
-shown_at bay row tier None = []
-shown_at bay row tier (Some f) = record { bay = bay; row = row; tier = tier; id = f.id; port = f.dest } ∷ []
-
-abbrev pub shown_in : baplie.CellGroup → List CellGroup
-shown_in g = shown_at g.bay g.row g.tier g.facts
-
--- what a bay plan message shows
-abbrev pub shown_by : Message → List CellGroup
-shown_by m = flat_map shown_in m.groups
+-- the voyage whose 0-1 program is the question
+abbrev pub voyage_of : BookedVoyage → Voyage
+voyage_of v = record { ship = v.ship; cargo = v.cargo }
 
 -- each file is the text of an interchange, and that of its bay plan message
 abbrev pub ReadAs : List NamedFile → List Message → Type 0
@@ -41,15 +29,11 @@ ReadAs (f ∷ fs) (m ∷ ms) = IsMessageOf f.bytes m × ReadAs fs ms
 ReadAs [] (m ∷ ms) = ⊥
 ReadAs (f ∷ fs) [] = ⊥
 
--- every solution of the voyage's 0-1 program costs at least the bound
-abbrev pub IsBound : Voyage → ℕ → Type 0
-IsBound m bound = (x : ℕ → Bool) → IsSolution m x → pos bound ≤ℤ cost_of (base m) x
-
 -- the report of an optimal plan
 abbrev pub report_of : ℕ → ℕ → ℕ → List ℕ
 report_of rehandles bound nodes = codes "outcome optimal\nrehandles " ++ (decimal rehandles ++ (codes "\nbound " ++ (decimal bound ++ (codes "\nnodes " ++ (decimal nodes ++ codes "\n")))))
 
--- The files are the departure files of calls 1 to N-1, and the certificate. The departure files read as bay plan messages, which show legal departures; these are those of a legal voyage. Their rehandle count, the least of all legal voyages with these departures, is the printed number, 0. The certificate's head has the printed numbers, of which that of the nodes is the number of records that aren't left open. Its tree proves the printed bound, below which no solution of the 0-1 program costs; it is settled at the rehandles, so that only a record left open could hold the bound below them; and it is lean.
+-- The files are the departure files of calls 1 to N-1, and the certificate. The departure files read as bay plan messages, which show legal departures; these are those of a legal voyage. Their rehandle count, the least of all legal voyages with these departures, is the printed number, 0. The certificate's head has the printed numbers, of which that of the nodes is the number of records that aren't left open. Its tree proves the printed bound, below which no legal voyage of the ship and the cargo rehandles; it is settled at the rehandles, so that only a record left open could hold the bound below them; and it is lean.
 pub record Sails (base : List ℕ) (v : BookedVoyage) (work : Work) : Type 0 where
   pub departures : List Plan
   pub head : Head
@@ -65,7 +49,7 @@ pub record Sails (base : List ℕ) (v : BookedVoyage) (work : Work) : Type 0 whe
   pub equal : bound ≡ rehandles
   pub head_is : head ≡ record { outcome = Optimal; rehandles = Some rehandles; bound = bound; nodes = handled tree }
   pub proves : ProvesBound (voyage_of v) tree bound
-  pub bounds : IsBound (voyage_of v) bound
+  pub bounds : IsVoyageBound (voyage_of v) bound
   pub settled : IsSettled (voyage_of v) tree rehandles
   pub lean : IsLean (voyage_of v) tree
   pub report : work.report ≡ report_of rehandles bound (handled tree)

@@ -1,9 +1,11 @@
 -- The files and the report of a voyage.
-use Rattle.std.specs.Prelude.{◌≡◌, ◌<◌, ℕ, ◌+◌, ◌/◌, ◌%◌, false, codes, List, [], ◌∷◌, ◌++◌, length, All, Option, Some, option_map}
+use Rattle.std.specs.Prelude.{◌≡◌, ◌⊎◌, ◌<◌, ℕ, ◌+◌, ◌-◌, ◌/◌, ◌%◌, false, codes, List, [], ◌∷◌, ◌++◌, length, All, Option, Some, None}
 use Rattle.std.specs.Fmt.{decimal}
-use Rattle.stow_data.specs.Ship.{places}
-use Rattle.stow_data.specs.Plans.{Plan, IsKnown}
-use Rattle.greedy_loader.specs.Loader.{load}
+use Rattle.stow_data.specs.Plans.{Plan}
+use Rattle.stowage_rules.specs.Plan.{IsWellFormed}
+use Rattle.voyage_meaning.specs.Voyage.{HasCount}
+use Rattle.greedy_loader.specs.Calls.{DepartFrom}
+use Rattle.arrival_plan.specs.Settled.{groups_of}
 use Rattle.plan_files.specs.DepartureFile.{groups, file_text}
 use Rattle.certificate.specs.declared.tree.End.TheVariants.{Leaf}
 use Rattle.certificate.specs.declared.tree.Head.{Head}
@@ -11,14 +13,13 @@ use Rattle.certificate.specs.declared.tree.Outcome.TheVariants.{Optimal}
 use Rattle.certificate.specs.declared.tree.Record.{Record}
 use Rattle.certificate.specs.Text.{cert_text}
 use Rattle.program_ends.specs.declared.files.NamedFile.{NamedFile}
-use Rattle.stow_answers.specs.declared.voyage.BookedVoyage.{BookedVoyage}
+use Rattle.voyage_inputs.specs.declared.voyage.BookedVoyage.{BookedVoyage}
 use Rattle.program_ends.specs.declared.files.Work.{Work}
 
--- plans that can be written: fewer than the calls, each with an entry for each place, of containers that the cargo has
+-- plans that can be written: fewer than the calls, each well formed
 pub record ArePlans (v : BookedVoyage) (plans : List Plan) : Type 0 where
   pub departs : length plans < length v.cargo.rotation
-  pub whole : All (λ plan. length plan ≡ length (places v.ship)) plans
-  pub known : All (IsKnown v.cargo) plans
+  pub formed : All (IsWellFormed v.ship v.cargo) plans
 
 -- the call in two digits
 abbrev pub two_digits : ℕ → List ℕ
@@ -29,7 +30,7 @@ file_name base call = (base ++ (codes "-" ++ two_digits call)) ++ codes ".edi"
 
 -- the departure file of a call, under its name
 abbrev pub file_of : List ℕ → BookedVoyage → ℕ → Plan → NamedFile
-file_of base v call plan = record { name = file_name base call; bytes = file_text v.cargo v.bookings call (groups v.ship v.cargo v.bookings plan) }
+file_of base v call plan = record { name = file_name base call; bytes = file_text v.cargo v.bookings call (groups v.ship v.cargo v.bookings (groups_of v.message) plan) }
 
 -- a file for each plan, from this call on
 unfoldable pub files_of : List ℕ → BookedVoyage → ℕ → List Plan → List NamedFile
@@ -61,6 +62,25 @@ all_files base v plans = files_of base v 1 plans ++ cert_file base head (leaf �
 abbrev pub work_of_plans : List ℕ → BookedVoyage → List Plan → Work
 work_of_plans base v plans = record { files = all_files base v plans; report = report }
 
--- none where the loader's rule gives no plans
-unfoldable pub work_for : List ℕ → BookedVoyage → Option Work
-work_for base v = option_map (work_of_plans base v) (load v.ship v.cargo)
+-- the departures of calls 1 to N-1 that the loader's rule makes of the arrival, or none
+abbrev pub AreLoaded : BookedVoyage → Option (List Plan) → Type 0
+AreLoaded v plans = DepartFrom v.ship v.cargo 1 v.cargo.arrival (length v.cargo.rotation - 1) plans
+
+-- the loader's plans rehandle nothing, and the work is theirs
+pub record IsWorkFor (base : List ℕ) (v : BookedVoyage) (work : Work) : Type 0 where
+  pub plans : List Plan
+  pub loaded : AreLoaded v (Some plans)
+  pub count : HasCount v.ship v.cargo plans 0
+  pub work_is : work ≡ work_of_plans base v plans
+
+-- the loader's plans rehandle something
+pub record Rehandles (v : BookedVoyage) : Type 0 where
+  pub plans : List Plan
+  pub loaded : AreLoaded v (Some plans)
+  pub rehandles : ℕ
+  pub count : HasCount v.ship v.cargo plans rehandles
+  pub some : 0 < rehandles
+
+-- the loader's rule gives no plans, or plans that rehandle something
+abbrev pub NeedsSearch : BookedVoyage → Type 0
+NeedsSearch v = AreLoaded v None ⊎ Rehandles v

@@ -2,17 +2,17 @@
 ghost use Rattle.std.specs.Prelude.{◌≡◌, ◌≤◌, IfOk, IfErr};
 ghost use Rattle.stow_io.specs.Causes.{Rose};
 ghost use Rattle.stow_answers.specs.Answers.{IsAnswerTo, IsReadFor};
-ghost use Rattle.stow_answers.specs.Named.{IsStop, IsQuiet};
+ghost use Rattle.voyage_inputs.specs.Named.{names_of, IsStop, IsQuiet};
+ghost use Rattle.voyage_inputs.specs.Names.{names_from};
 
-use crate::answer::Answer;
 use crate::checking::check;
-use crate::inputs::Inputs;
 use crate::planning::plan;
-use crate::reading::ReadStop;
 use crate::showing::show;
 use std::alloc::Global;
+use stow_data::Word;
 use stow_io::Folder;
 use stow_words::Order;
+use voyage_inputs::{Answer, Inputs, ReadStop};
 
 /// What an order is answered. Nothing is written.
 pub fn answer_to<'a, F: Folder>(
@@ -31,30 +31,36 @@ pub fn answer_to<'a, F: Folder>(
             profile,
             bookings,
             name,
-            arrival: None,
+            arrival,
             ..
-        } => {
-            let inputs = Inputs {
-                profile: profile.as_str(),
-                bookings: bookings.as_str(),
-                base: name.as_str(),
-            };
-            plan(alloc, inputs, folder)
-        }
+        } => plan(alloc, inputs_from(profile, bookings, name, arrival), folder),
         Order::Check {
             profile,
             bookings,
             name,
-            arrival: None,
-        } => {
-            let inputs = Inputs {
-                profile: profile.as_str(),
-                bookings: bookings.as_str(),
-                base: name.as_str(),
-            };
-            check(alloc, inputs, folder)
-        }
+            arrival,
+        } => check(alloc, inputs_from(profile, bookings, name, arrival), folder),
         Order::Show { file } => show(alloc, file.as_str(), folder),
-        _ => Ok(Answer::Unbuilt),
+        Order::Make { .. } => Ok(Answer::Unbuilt),
+    }
+}
+
+/// The names of the inputs.
+fn inputs_from<'a>(
+    profile: &'a Word,
+    bookings: &'a Word,
+    base: &'a Word,
+    arrival: &'a Option<Word>,
+) -> Inputs<'a>
+    ensures { names_of result ≡ names_from profile.now bookings.now base.now arrival.now }
+{
+    Inputs {
+        profile: profile.as_str(),
+        bookings: bookings.as_str(),
+        base: base.as_str(),
+        arrival: match arrival {
+            Some(name) => Some(name.as_str()),
+            None => None,
+        },
     }
 }

@@ -1,27 +1,26 @@
 //! `stow check`: the certificate of a bound.
-ghost use Rattle.std.specs.Prelude.{◌≡◌, ◌≤◌, ◌^◌, ◌++◌, [], codes, length, IfOk, IfErr};
+ghost use Rattle.std.specs.Prelude.{◌≡◌, ◌≤◌, ◌↔◌, IsTrue, ◌+◌, ◌^◌, ◌++◌, [], codes, length, IfOk, IfErr};
 ghost use Rattle.std.specs.Fmt.{decimal};
 ghost use Rattle.stow_io.specs.Causes.{Rose};
 ghost use Rattle.zero_one_model.specs.Building.{IsWithin};
-ghost use Rattle.bound_checker.specs.Entries.{IsOneLeaf, RaisesBase};
+ghost use Rattle.solution_meaning.specs.Laws.{IsProblem};
 ghost use Rattle.stow_answers.specs.Answers.{Judges, CheckOf, ReadsCert, CertOf, IsCheckRead, TreeOf, bound_text};
-ghost use Rattle.stow_answers.specs.Booked.{IsBooked, voyage_of};
-ghost use Rattle.stow_answers.specs.Named.{names_of, IsStop, IsQuiet};
+ghost use Rattle.voyage_inputs.specs.Booked.{IsBooked};
+ghost use Rattle.stow_answers.specs.Voyages.{voyage_of};
+ghost use Rattle.voyage_inputs.specs.Named.{names_of, IsStop, IsQuiet};
 ghost use Rattle.stow_answers.specs.Work.{cert_name};
 
-use crate::answer::Answer;
-use crate::inputs::Inputs;
-use crate::reading::{Found, ReadStop, read_inputs};
 use crate::refusing::{bound_text as refused_bound, cert_text, limit_text};
-use crate::voyage::BookedVoyage;
 use crate::work::cert_name;
-use bound_checker::{BoundNo, check_bound, is_checkable};
+use bound_checker::{BoundNo, check_bound};
 use certificate::{CertFault, Tree, read_cert};
 use itoa::Buffer;
 use program_ends::{FileList, Work};
+use solution_meaning::bounds_are_of_voyages;
 use std::alloc::Global;
 use stow_data::{Bytes, NoMemory};
 use stow_io::{Folder, FolderNo};
+use voyage_inputs::{Answer, BookedVoyage, Found, Inputs, ReadStop, read_inputs};
 use zero_one_model::{Model, ModelNo};
 
 /// What the certificate beside the departure files is answered.
@@ -37,8 +36,8 @@ pub fn check<'a, F: Folder>(
     ensures failed { IfErr result (IsStop (Rose (F.faults folder.old) (F.faults folder.new)) (IsCheckRead (names_of inputs.entry) (F.files folder.old))) }
 {
     let voyage = match read_inputs(alloc, inputs, folder)? {
-        Found::Plain(voyage) => voyage,
-        Found::Other(answer) => return Ok(answer),
+        Found::Voyage(voyage) => voyage,
+        Found::Refused(answer) => return Ok(answer),
     };
     check_voyage(alloc, inputs.base, &voyage, folder)
 }
@@ -74,7 +73,8 @@ fn check_model<'a, F: Folder>(
     model: &Model,
     folder: &mut F,
 ) -> Result<Answer, ReadStop<'a>>
-    requires { IsWithin model.now }
+    requires problem { IsProblem model.now }
+    requires within { IsWithin model.now }
     ensures stays { F.files folder.new ≡ F.files folder.old }
     ensures gives { IfOk result (ReadsCert model.now base.now (F.files folder.old)) }
     ensures later { F.faults folder.old ≤ F.faults folder.new }
@@ -96,12 +96,13 @@ fn check_model<'a, F: Folder>(
 
 /// What the text of a certificate is answered.
 fn cert_answer(alloc: Global, model: &Model, bytes: &[u8]) -> Result<Answer, NoMemory>
-    requires { length bytes.now ≤ 2 ^ 29 }
+    requires problem { IsProblem model.now }
+    requires small { length bytes.now ≤ 2 ^ 29 }
     ensures { IfOk result (CertOf model.now bytes.now) }
 {
     match read_cert(alloc, bytes) {
         Ok((head, tree)) => {
-            if !is_checkable(model, &head, &tree) {
+            if !is_low(head.bound, model.limit()) {
                 return Ok(Answer::Unbuilt);
             }
             tree_answer(alloc, model, &tree, head.bound)
@@ -111,12 +112,19 @@ fn cert_answer(alloc: Global, model: &Model, bytes: &[u8]) -> Result<Answer, NoM
     }
 }
 
+/// Whether a bound is at most one above a number of rehandles.
+fn is_low(bound: u64, most: u64) -> bool
+    ensures { IsTrue result ↔ bound ≤ most + 1 }
+{
+    bound == 0 || bound - 1 <= most
+}
+
 /// What a tree is answered that should prove the bound.
 fn tree_answer(alloc: Global, model: &Model, tree: &Tree, bound: u64) -> Result<Answer, NoMemory>
-    requires leaf { IsOneLeaf tree.now }
-    requires base { RaisesBase tree.now }
+    requires { IsProblem model.now }
     ensures { IfOk result (TreeOf model.now tree.now bound) }
 {
+    bounds_are_of_voyages();
     match check_bound(alloc, model, tree, bound) {
         Ok(()) => Ok(Answer::Work(Work {
             files: FileList::new(alloc),

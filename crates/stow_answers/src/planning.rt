@@ -2,19 +2,17 @@
 ghost use Rattle.std.specs.Prelude.{◌≡◌, ◌≤◌, IfOk, IfErr};
 ghost use Rattle.stow_io.specs.Causes.{Rose};
 ghost use Rattle.stow_answers.specs.Answers.{Judges, PlanOf, WithinOr};
-ghost use Rattle.stow_answers.specs.Booked.{IsBooked, voyage_of};
-ghost use Rattle.stow_answers.specs.Inputs.{IsReadBy};
-ghost use Rattle.stow_answers.specs.Named.{names_of, IsStop, IsQuiet};
+ghost use Rattle.voyage_inputs.specs.Booked.{IsBooked};
+ghost use Rattle.stow_answers.specs.Voyages.{voyage_of};
+ghost use Rattle.voyage_inputs.specs.Inputs.{IsReadBy};
+ghost use Rattle.voyage_inputs.specs.Named.{names_of, IsStop, IsQuiet};
 
-use crate::answer::Answer;
-use crate::inputs::Inputs;
-use crate::reading::{Found, ReadStop, read_inputs};
 use crate::refusing::limit_text;
-use crate::voyage::BookedVoyage;
 use crate::work::work_of;
 use std::alloc::Global;
 use stow_data::{Bytes, NoMemory};
 use stow_io::Folder;
+use voyage_inputs::{Answer, BookedVoyage, Found, Inputs, ReadStop, read_inputs};
 use zero_one_model::{Model, ModelNo};
 
 /// The plans of the voyage of the inputs, or why there are none.
@@ -30,8 +28,8 @@ pub fn plan<'a, F: Folder>(
     ensures failed { IfErr result (IsStop (Rose (F.faults folder.old) (F.faults folder.new)) (IsReadBy (names_of inputs.entry) (F.files folder.old))) }
 {
     let voyage = match read_inputs(alloc, inputs, folder)? {
-        Found::Plain(voyage) => voyage,
-        Found::Other(answer) => return Ok(answer),
+        Found::Voyage(voyage) => voyage,
+        Found::Refused(answer) => return Ok(answer),
     };
     match plan_of(alloc, inputs.base, &voyage) {
         Ok(answer) => Ok(answer),

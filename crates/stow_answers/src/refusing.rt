@@ -1,17 +1,15 @@
-//! Answers that refuse.
+//! The texts of refusals.
 ghost use Rattle.std.specs.Prelude.{◌≡◌, IfOk};
 ghost use Rattle.stow_report.specs.Refusals.{refusal_text};
 ghost use Rattle.stow_report.specs.Inputs.{limit_line};
 ghost use Rattle.stow_report.specs.Verdicts.{cert_line, bound_line, file_line};
-ghost use Rattle.stow_answers.specs.Inputs.{refused};
 
-use crate::answer::Answer;
 use baplie_read::BaplieFault;
 use bound_checker::BoundNo;
 use certificate::CertFault;
 use std::alloc::Global;
 use stow_data::{Bytes, Limit, NoMemory};
-use stow_report::{Group, Line, bound_line, cert_line, file_line, limit_line, refusal};
+use stow_report::{bound_line, cert_line, file_line, limit_line, refusal};
 
 /// The text of a limit that is passed, and of the number that passes it.
 pub fn limit_text(alloc: Global, limit: Limit, value: u64) -> Result<Bytes, NoMemory>
@@ -39,15 +37,4 @@ pub fn file_text(alloc: Global, fault: BaplieFault) -> Result<Bytes, NoMemory>
     ensures { IfOk result (λ text. text ≡ refusal_text (file_line fault)) }
 {
     refusal(alloc, &file_line(alloc, fault)?)
-}
-
-/// The answer to an input that is refused with this line.
-pub fn refused(alloc: Global, line: &Line) -> Result<Answer, NoMemory>
-    ensures { IfOk result (λ a. a ≡ refused line.now) }
-{
-    let text = refusal(alloc, line)?;
-    match line.group {
-        Group::Large => Ok(Answer::Large(text)),
-        _ => Ok(Answer::Input(text)),
-    }
 }

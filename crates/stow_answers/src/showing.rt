@@ -3,10 +3,8 @@ ghost use Rattle.std.specs.Prelude.{◌≡◌, ◌≤◌, ◌^◌, [], length, I
 ghost use Rattle.stow_report.specs.Listings.{AreListable, listing_text};
 ghost use Rattle.stow_io.specs.Causes.{Rose};
 ghost use Rattle.stow_answers.specs.Answers.{IsShown, ShowOf};
-ghost use Rattle.stow_answers.specs.Named.{IsStop, IsQuiet};
+ghost use Rattle.voyage_inputs.specs.Named.{IsStop, IsQuiet};
 
-use crate::answer::Answer;
-use crate::reading::{ReadStop, read};
 use crate::refusing::file_text;
 use baplie_model::Message;
 use baplie_read::{BaplieFault, read_baplie};
@@ -15,6 +13,7 @@ use std::alloc::Global;
 use stow_data::NoMemory;
 use stow_io::Folder;
 use stow_report::listing;
+use voyage_inputs::{Answer, ReadStop, read};
 
 /// The list of the bay plan in the file, or its fault.
 pub fn show<'a, F: Folder>(

@@ -1,18 +1,22 @@
 //! What is written and printed for a voyage.
-ghost use Rattle.std.specs.Prelude.{◌≡◌, ◌<◌, ◌≤◌, ◌+◌, ◌++◌, ◌∷◌, [], IfOk, IfSome, length, All};
-ghost use Rattle.stow_data.specs.Ship.{places};
-ghost use Rattle.stow_data.specs.Plans.{IsKnown};
-ghost use Rattle.stow_answers.specs.Booked.{IsBooked};
+ghost use Rattle.std.specs.Prelude.{◌≡◌, ◌<◌, ◌≤◌, ◌+◌, ◌++◌, ◌∷◌, [], IfOk, IfSome, MatchOption, length, All};
+ghost use Rattle.stowage_rules.specs.Plan.{IsWellFormed};
+ghost use Rattle.arrival_plan.specs.Settled.{groups_of};
+ghost use Rattle.stowage_rules.specs.Departure.{AreDepartures, HasArrival};
+ghost use Rattle.voyage_meaning.specs.Voyage.{HasCount};
+ghost use Rattle.voyage_inputs.specs.Booked.{IsBooked};
 ghost use Rattle.stow_answers.specs.Voyages.{Sails};
-ghost use Rattle.stow_answers.specs.Work.{ArePlans, file_name, file_of, files_of, cert_name, cert_file, head, leaf, work_of_plans, work_for};
+ghost use Rattle.stow_answers.specs.Work.{ArePlans, file_name, file_of, files_of, cert_name, cert_file, head, leaf, work_of_plans, IsWorkFor, NeedsSearch};
 
-use crate::voyage::BookedVoyage;
+use baplie_model::CellGroup;
 use certificate::{End, Head, Outcome, Record, Tree, write_cert};
 use greedy_loader::load;
 use plan_files::departure_text;
+use plan_lifts::{LiftsFault, lifts};
 use program_ends::{FileList, NamedFile, Work};
 use std::alloc::Global;
-use stow_data::{Bytes, NoMemory, Plan, Word};
+use stow_data::{Bytes, Cargo, NoMemory, Plan, PlanList, Ship, Word};
+use voyage_inputs::BookedVoyage;
 use zero_one_rows::{RaiseList, RowList};
 
 /// The name of the departure file of a call, of which there are fewer than a hundred.
@@ -25,6 +29,16 @@ fn file_name(alloc: Global, base: &str, call: u32) -> Result<Word, NoMemory>
     Ok(Word::of(alloc, name.as_str())?)
 }
 
+/// The cell groups of the bay plan with which the ship comes in.
+fn arrived_groups(v: &BookedVoyage) -> &[CellGroup]
+    ensures { result.now ≡ groups_of v.now.message }
+{
+    match &v.message {
+        Some(message) => message.groups.as_slice(),
+        None => &[],
+    }
+}
+
 /// The departure file of a call, under its name.
 fn file_of(
     alloc: Global,
@@ -35,13 +49,20 @@ fn file_of(
 ) -> Result<NamedFile, NoMemory>
     requires booked { IsBooked v.now }
     requires departs { call < length v.now.cargo.rotation }
-    requires whole { length plan.now ≡ length (places v.now.ship) }
-    requires known { IsKnown v.now.cargo plan.now }
+    requires formed { IsWellFormed v.now.ship v.now.cargo plan.now }
     ensures { IfOk result (λ file. file ≡ file_of base.now v.now call plan.now) }
 {
     Ok(NamedFile {
         name: file_name(alloc, base, call)?,
-        bytes: departure_text(alloc, &v.ship, &v.cargo, &v.bookings, plan, call)?,
+        bytes: departure_text(
+            alloc,
+            &v.ship,
+            &v.cargo,
+            &v.bookings,
+            arrived_groups(v),
+            plan,
+            call,
+        )?,
     })
 }
 
@@ -121,14 +142,31 @@ fn work_of_plans(
     Ok(Work { files, report })
 }
 
-/// The files and the report, none where the loader's rule gives no plans.
+/// The rehandle count of legal departures.
+fn count_of(alloc: Global, ship: &Ship, cargo: &Cargo, plans: &PlanList) -> Result<u64, NoMemory>
+    requires arrival { HasArrival ship.now cargo.now }
+    requires each_call { length plans.now + 1 ≡ length cargo.now.rotation }
+    requires legal { AreDepartures ship.now cargo.now 1 plans.now }
+    ensures { IfOk result (λ count. HasCount ship.now cargo.now plans.now count) }
+{
+    match lifts(alloc, ship, cargo, plans) {
+        Ok(lifted) => Ok(lifted.count),
+        Err(LiftsFault::NoMemory) => Err(NoMemory),
+        Err(LiftsFault::Illegal { .. }) => unreachable!(),
+    }
+}
+
+/// The files and the report of the loader's plans, where they rehandle nothing.
 pub fn work_of(alloc: Global, base: &str, v: &BookedVoyage) -> Result<Option<Work>, NoMemory>
     requires { IsBooked v.now }
-    ensures work { IfOk result (λ work. work ≡ work_for base.now v.now) }
+    ensures work { IfOk result (λ work. MatchOption work (NeedsSearch v.now) (IsWorkFor base.now v.now)) }
     ensures sails { IfOk result (λ work. IfSome work (Sails base.now v.now)) }
 {
-    match load(alloc, &v.ship, &v.cargo)? {
-        None => Ok(None),
-        Some(plans) => Ok(Some(work_of_plans(alloc, base, v, plans.as_slice())?)),
+    let Some(plans) = load(alloc, &v.ship, &v.cargo)? else {
+        return Ok(None);
+    };
+    if count_of(alloc, &v.ship, &v.cargo, &plans)? > 0 {
+        return Ok(None);
     }
+    Ok(Some(work_of_plans(alloc, base, v, plans.as_slice())?))
 }

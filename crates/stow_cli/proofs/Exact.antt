@@ -5,8 +5,8 @@ use Rattle.stow_io.specs.Files.{Files}
 use Rattle.program_ends.specs.Outside.{Outside, HasRisen}
 use Rattle.stow_words.specs.declared.order.Order.{Order}
 use Rattle.stow_words.specs.declared.order.WordsNo.{WordsNo}
-use Rattle.stow_answers.specs.declared.answer.Answer.{Answer}
-use Rattle.stow_answers.specs.declared.answer.Answer.TheVariants as answer
+use Rattle.voyage_inputs.specs.declared.answer.Answer.{Answer}
+use Rattle.voyage_inputs.specs.declared.answer.Answer.TheVariants as answer
 use Rattle.stow_answers.specs.Answers.{IsAnswerTo}
 use Rattle.stow_answers.proofs.OneAnswer.{one_answer}
 use Rattle.stow_cli.specs.declared.status.Status.{Status}

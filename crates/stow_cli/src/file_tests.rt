@@ -56,8 +56,8 @@ const CHECKS: &[(&[u8], Status, &[u8])] = &[
     ),
     (
         b"stow-cert 1\noutcome no-plan\nrehandles none\nbound 3\nnodes 1\nn 0\no\nend\n",
-        Status::Unbuilt,
-        b"unbuilt\n",
+        Status::No,
+        b"check no bound 4 1 0 33\n",
     ),
     (
         b"stow-cert 1\noutcome no-plan\nrehandles none\nbound 3\nnodes 1\nn 0\nr 1 weight 1 0\nl\nend\n",

@@ -11,6 +11,8 @@ pub use status::Status;
 pub use top::{run, stow};
 
 #[cfg(test)]
+mod arrival_tests;
+#[cfg(test)]
 mod file_tests;
 #[cfg(test)]
 mod plan_tests;

@@ -187,7 +187,7 @@ UNT+14+1'
 UNZ+1+1'
 ";
 
-/// One container with all that bookings can say of a plain one.
+/// One container with all that bookings can say of one that is no reefer.
 const TOLD: &[u8] = b"vessel = \"V\"
 voyage = \"1\"
 sender = \"LINE\"
@@ -228,6 +228,68 @@ fn groups_are_written_as_printed<R: Abort>(rt: &R, alloc: Global) -> Result<(), 
     Ok(())
 }
 
+/// A hold of three tiers, the lowest with a plug, a deck of two tiers on its cover, and a separation.
+const WHOLE: &[u8] = b"name = \"V\"
+stack = [
+  { bay = 2, row = 1, tiers = [2, 4, 6], lengths = \"20/40\", limit_kg = 80000, plugs = [2] },
+  { bay = 2, row = 1, tiers = [82, 84], lengths = \"40\", limit_kg = 30000 },
+]
+cover = [{ under = [[2, 1]], on = [[2, 1]] }]
+separate = [{ a = \"3\", b = \"8\", level = 1 }]
+";
+
+/// Two of 20 foot, one of them a reefer, and two of 40 foot, whose classes are kept apart.
+const MIXED: &[u8] = b"vessel = \"V\"
+voyage = \"1\"
+date = \"2601010000\"
+rotation = [\"AAAAA\", \"BBBBB\", \"CCCCC\"]
+container = [
+  { id = \"AAAU0000001\", from = 1, to = 3, type = \"42G1\", kg = 20000, class = \"3\" },
+  { id = \"AAAU0000002\", from = 1, to = 2, type = \"42G1\", kg = 20000, class = \"8\" },
+  { id = \"AAAU0000003\", from = 1, to = 3, type = \"22R1\", kg = 10000, temperature = -18 },
+  { id = \"AAAU0000004\", from = 1, to = 3, type = \"22G1\", kg = 10000 },
+]
+";
+
+const MIXED_FIRST: &[u8] = b"UNB+UNOA:2+STOW+STOW+260101:0000+1'
+UNH+1+BAPLIE:D:95B:UN:SMDG22'
+BGM++1+9'
+DTM+137:2601010000:201'
+TDT+20+1++++++:::V'
+LOC+5+AAAAA:139:6'
+LOC+61+BBBBB:139:6'
+DTM+133:2601010000:201'
+LOC+147+0010102::5'
+MEA+WT++KGM:10000'
+TMP+2+-18:CEL'
+LOC+9+AAAAA:139:6'
+LOC+11+CCCCC:139:6'
+RFF+BM:1'
+EQD+CN+AAAU0000003+22R1+++5'
+LOC+147+0030102::5'
+MEA+WT++KGM:10000'
+LOC+9+AAAAA:139:6'
+LOC+11+CCCCC:139:6'
+RFF+BM:1'
+EQD+CN+AAAU0000004+22G1+++5'
+LOC+147+0020104::5'
+MEA+WT++KGM:20000'
+LOC+9+AAAAA:139:6'
+LOC+11+CCCCC:139:6'
+RFF+BM:1'
+EQD+CN+AAAU0000001+42G1+++5'
+DGS+IMD+3'
+LOC+147+0020182::5'
+MEA+WT++KGM:20000'
+LOC+9+AAAAA:139:6'
+LOC+11+BBBBB:139:6'
+RFF+BM:1'
+EQD+CN+AAAU0000002+42G1+++5'
+DGS+IMD+8'
+UNT+35+1'
+UNZ+1+1'
+";
+
 /// Sixteen stacks of six tiers.
 pub fn feeder_ship(alloc: Global) -> Result<String, NoMemory> {
     let mut text = String::from_str(alloc, "name = \"FEEDER\"\n")?;
@@ -259,6 +321,15 @@ fn feeder_cargo(alloc: Global) -> Result<String, NoMemory> {
     Ok(text)
 }
 
+/// The 20-foot pair goes below, the reefer at the plug; what is kept apart from the container on it goes on deck.
+fn a_ship_with_all_is_planned<R: Abort>(rt: &R, alloc: Global) -> Result<(), NoMemory> {
+    let mut folder = folder_of(alloc, WHOLE, MIXED, &[])?;
+    ends(rt, alloc, PLAN, &mut folder, Status::Fine, REPORT)?;
+    assert!(rt; holds(&folder, "X-01.edi", MIXED_FIRST));
+    assert!(rt; holds(&folder, "X.cert", CERTIFICATE));
+    Ok(())
+}
+
 /// Whether a file ends so.
 fn closes(folder: &MemFolder, name: &str, last: &[u8]) -> bool {
     match folder.file(name) {
@@ -287,6 +358,7 @@ fn voyages_are_planned(rt: HostRuntime) -> Result<(), Fail> {
     a_failed_report_is_a_fault(&rt, rt.alloc())?;
     empty_ships_are_planned(&rt, rt.alloc())?;
     groups_are_written_as_printed(&rt, rt.alloc())?;
+    a_ship_with_all_is_planned(&rt, rt.alloc())?;
     a_feeder_is_planned(&rt, rt.alloc())?;
     Ok(())
 }

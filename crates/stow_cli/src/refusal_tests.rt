@@ -24,29 +24,26 @@ fn plan_ends<R: Abort>(
     Ok(())
 }
 
-/// A ship with a reefer plug.
+/// One place, which has a reefer plug.
 const PLUGGED: &[u8] = b"name = \"V\"
 stack = [{ bay = 2, row = 1, tiers = [82], lengths = \"40\", limit_kg = 1000000, plugs = [82] }]
 ";
 
-/// A stack of two tiers, whose limit two containers of 99,999 kg, rounded up to the step, pass by a kilogram.
+/// A stack of two tiers, whose limit is a kilogram below two containers of 10,000 kg.
 const LOW: &[u8] = b"name = \"V\"
-weight_step = 500
-stack = [{ bay = 2, row = 1, tiers = [82, 84], lengths = \"40\", limit_kg = 199999 }]
+stack = [{ bay = 2, row = 1, tiers = [82, 84], lengths = \"40\", limit_kg = 19999 }]
 ";
 
-/// A hatch cover over the hold, with nothing on it.
+/// A 40-foot place on a hatch cover, and a 20-foot pair under it.
 const COVERED: &[u8] = b"name = \"V\"
-stack = [{ bay = 2, row = 1, tiers = [2], lengths = \"40\", limit_kg = 1000000 }]
-cover = [{ under = [[2, 1]], on = [] }]
+stack = [
+  { bay = 2, row = 1, tiers = [82], lengths = \"40\", limit_kg = 1000000 },
+  { bay = 2, row = 1, tiers = [2], lengths = \"20\", limit_kg = 1000000 },
+]
+cover = [{ under = [[2, 1]], on = [[2, 1]] }]
 ";
 
-const SEPARATED: &[u8] = b"name = \"V\"
-stack = [{ bay = 2, row = 1, tiers = [82], lengths = \"40\", limit_kg = 1000000 }]
-separate = [{ a = \"3\", b = \"8\", level = 2 }]
-";
-
-/// A container of 20 foot.
+/// A container of 20 foot, for a ship of 40-foot places.
 const TWENTY: &[u8] = b"vessel = \"V\"
 voyage = \"1\"
 date = \"2601010000\"
@@ -65,13 +62,13 @@ container = [
 ]
 ";
 
-/// Profiles that are accepted and not plain.
-const OTHER_PROFILES: &[&[u8]] = &[PLUGGED, LOW, COVERED, SEPARATED];
+/// Profiles with no place for one of the two containers.
+const OTHER_PROFILES: &[&[u8]] = &[PLUGGED, LOW, COVERED];
 
-/// Bookings that are accepted and not plain, and some for which the loader's rule finds no plans.
+/// Bookings for which the loader's rule finds no plan, and some whose plan rehandles a container.
 const OTHER_BOOKINGS: &[&[u8]] = &[TWENTY, LATER_ON_EARLIER];
 
-fn other_inputs_are_unbuilt<R: Abort>(rt: &R, alloc: Global) -> Result<(), NoMemory> {
+fn voyages_that_need_a_search_are_unbuilt<R: Abort>(rt: &R, alloc: Global) -> Result<(), NoMemory> {
     for profile in OTHER_PROFILES {
         plan_ends(rt, alloc, *profile, CARGO, Status::Unbuilt, b"unbuilt\n")?;
     }
@@ -240,7 +237,7 @@ fn too_many_variables<R: Abort>(rt: &R, alloc: Global) -> Result<(), NoMemory> {
 
 #[test]
 fn nothing_is_written(rt: HostRuntime) -> Result<(), Fail> {
-    other_inputs_are_unbuilt(&rt, rt.alloc())?;
+    voyages_that_need_a_search_are_unbuilt(&rt, rt.alloc())?;
     refused_profiles_are_told(&rt, rt.alloc())?;
     refused_bookings_are_told(&rt, rt.alloc())?;
     a_lost_line_leaves_the_status(&rt, rt.alloc())?;

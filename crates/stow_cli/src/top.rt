@@ -11,10 +11,11 @@ use program_ends::{say, say_name};
 use std::alloc::Global;
 use std::sync::Wait;
 use std::thread::Threads;
-use stow_answers::{Answer, ReadStop, answer_to};
+use stow_answers::answer_to;
 use stow_data::WordList;
 use stow_io::{Folder, Gate, Sink};
 use stow_words::{Order, read_words};
+use voyage_inputs::{Answer, ReadStop};
 
 /// Does what the words ask for, over the folder's files, and prints into the sink.
 pub fn stow<R: Threads + Wait + Sync, F: Folder, K: Sink, G: Gate + Sync>(

@@ -202,30 +202,7 @@ fn options_stand_anywhere(rt: HostRuntime) -> Result<(), Fail> {
 
 #[test]
 fn what_waits_for_the_search_is_unbuilt(rt: HostRuntime) -> Result<(), Fail> {
-    let alloc = rt.alloc();
-    let plan = &[
-        "stow",
-        "plan",
-        "ship.toml",
-        "cargo.toml",
-        "X",
-        "--arrival",
-        "P",
-    ];
-    unbuilt(&rt, alloc, plan)?;
-    unbuilt(
-        &rt,
-        alloc,
-        &[
-            "stow",
-            "check",
-            "ship.toml",
-            "cargo.toml",
-            "X",
-            "--arrival=P",
-        ],
-    )?;
-    unbuilt(&rt, alloc, &["stow", "make", "2147483647", "X"])?;
+    unbuilt(&rt, rt.alloc(), &["stow", "make", "2147483647", "X"])?;
     Ok(())
 }
 

@@ -1,0 +1,11 @@
+use Rattle.std.proofs.Common.{subst}
+use Rattle.plan_lifts.specs.declared.lifting.LiftsFault.{LiftsFault}
+use Rattle.plan_lifts.specs.Lifted.{IsLiftsFault}
+use Rattle.stow_answers.proofs.Works.{departures_formed, never_illegal}
+use Rattle.stow_answers.proofs.work.count_of.Goals as goal
+
+pub lifts-requires-clause-formed : goal.lifts-requires-clause-formed
+lifts-requires-clause-formed c = departures_formed c.args.ship.now c.args.cargo.now 1 c.args.plans.now c.requires.legal
+
+pub unreachable-requires : goal.unreachable-requires
+unreachable-requires c = never_illegal c.args.ship.now c.args.cargo.now 1 c.args.plans.now _ _ c.requires.legal (subst (λ (f : LiftsFault). IsLiftsFault c.args.ship.now c.args.cargo.now c.args.plans.now 1 f) c.in-Err-Illegal.field-0-is c.in-Err-Illegal.ensures.lists)
