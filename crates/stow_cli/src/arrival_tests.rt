@@ -6,9 +6,25 @@ use std::process::Abort;
 use std::test::Fail;
 use stow_data::NoMemory;
 
-const WORDS: &[&str] = &["stow", "plan", "ship.toml", "cargo.toml", "X", "--arrival", "P"];
+const WORDS: &[&str] = &[
+    "stow",
+    "plan",
+    "ship.toml",
+    "cargo.toml",
+    "X",
+    "--arrival",
+    "P",
+];
 
-const CHECK_WORDS: &[&str] = &["stow", "check", "ship.toml", "cargo.toml", "X", "--arrival", "P"];
+const CHECK_WORDS: &[&str] = &[
+    "stow",
+    "check",
+    "ship.toml",
+    "cargo.toml",
+    "X",
+    "--arrival",
+    "P",
+];
 
 /// A hold stack of two tiers.
 const HOLD: &[u8] = b"name = \"V\"
@@ -71,7 +87,14 @@ fn a_loaded_ship_is_planned<R: Abort>(rt: &R, alloc: Global) -> Result<(), NoMem
     folder.lay("P", PORT)?;
     ends(rt, alloc, WORDS, &mut folder, Status::Fine, REPORT)?;
     assert!(rt; holds(&folder, "X-01.edi", KEPT));
-    ends(rt, alloc, CHECK_WORDS, &mut folder, Status::Fine, b"bound 0\n")
+    ends(
+        rt,
+        alloc,
+        CHECK_WORDS,
+        &mut folder,
+        Status::Fine,
+        b"bound 0\n",
+    )
 }
 
 /// A stack of two tiers that takes both lengths.
@@ -80,10 +103,17 @@ stack = [{ bay = 2, row = 1, tiers = [82, 84], lengths = \"20/40\", limit_kg = 1
 ";
 
 /// A bay plan's head.
-const HEAD: &str = "UNB+UNOA:2+L+S+260131:0900+77'UNH+1+BAPLIE:D:95B:UN:SMDG22'BGM++PLAN1+9'DTM+137:2601310900:201'TDT+20+1++++++:::V'LOC+5+NLRTM:139:6'LOC+61+DEHAM:139:6'DTM+133:2601310900:201'";
+const HEAD: &str =
+    "UNB+UNOA:2+L+S+260131:0900+77'UNH+1+BAPLIE:D:95B:UN:SMDG22'BGM++PLAN1+9'DTM+137:2601310900:201'TDT+20+1++++++:::V'LOC+5+NLRTM:139:6'LOC+61+DEHAM:139:6'DTM+133:2601310900:201'";
 
 /// A cell group of six segments.
-fn group_of(alloc: Global, cell: &str, port: &str, id: &str, iso: &str) -> Result<String, NoMemory> {
+fn group_of(
+    alloc: Global,
+    cell: &str,
+    port: &str,
+    id: &str,
+    iso: &str,
+) -> Result<String, NoMemory> {
     let text = format!(in alloc;
         "LOC+147+{cell}::5'MEA+WT++KGM:18400'LOC+9+NLRTM:139:6'LOC+11+{port}:139:6'RFF+BM:1'EQD+CN+{id}+{iso}+++5'"
     )?;
@@ -115,7 +145,13 @@ fn an_arrival_is_refused<R: Abort>(rt: &R, alloc: Global) -> Result<(), NoMemory
     let long = ("0020182", "DEHAM", "AAAU0000001", "42G1");
     let short = ("0010184", "DEHAM", "AAAU0000002", "22G1");
     comes_in(rt, alloc, BOTH, &[long, short], b"refused arrival 6 2 2\n")?;
-    comes_in(rt, alloc, BOTH, &[long, long], b"refused arrival 3 AAAU0000001\n")?;
+    comes_in(
+        rt,
+        alloc,
+        BOTH,
+        &[long, long],
+        b"refused arrival 3 AAAU0000001\n",
+    )?;
     comes_in(rt, alloc, HOLD, &[long], b"refused arrival 1 1\n")?;
     Ok(())
 }
@@ -123,12 +159,40 @@ fn an_arrival_is_refused<R: Abort>(rt: &R, alloc: Global) -> Result<(), NoMemory
 /// A bay plan is read as `show` reads it, and behind the bookings.
 fn a_text_that_is_no_bay_plan_is_refused<R: Abort>(rt: &R, alloc: Global) -> Result<(), NoMemory> {
     let mut folder = folder_of(alloc, HOLD, NOTHING, &[])?;
-    ends(rt, alloc, WORDS, &mut folder, Status::Fault, b"fault read P\n")?;
+    ends(
+        rt,
+        alloc,
+        WORDS,
+        &mut folder,
+        Status::Fault,
+        b"fault read P\n",
+    )?;
     folder.lay("P", b"")?;
-    ends(rt, alloc, WORDS, &mut folder, Status::Input, b"refused edifact 1\n")?;
-    ends(rt, alloc, CHECK_WORDS, &mut folder, Status::Input, b"refused edifact 1\n")?;
+    ends(
+        rt,
+        alloc,
+        WORDS,
+        &mut folder,
+        Status::Input,
+        b"refused edifact 1\n",
+    )?;
+    ends(
+        rt,
+        alloc,
+        CHECK_WORDS,
+        &mut folder,
+        Status::Input,
+        b"refused edifact 1\n",
+    )?;
     let mut folder = folder_of(alloc, HOLD, b"", &[])?;
-    ends(rt, alloc, WORDS, &mut folder, Status::Input, b"refused bookings 2 vessel 0\n")
+    ends(
+        rt,
+        alloc,
+        WORDS,
+        &mut folder,
+        Status::Input,
+        b"refused bookings 2 vessel 0\n",
+    )
 }
 
 #[test]

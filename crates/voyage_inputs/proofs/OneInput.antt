@@ -89,9 +89,9 @@ one_inputs names files v w h k =
     let e = one_accepted names files v.ship w.ship v.bookings w.bookings h.accepted k.accepted in
     let m = one_arrival files names.arrival v.message w.message h.comes_in k.comes_in in
     let moved : Settles w.ship w.bookings (groups_of w.message) (Ok v.cargo) =
-        subst (λ (z : Option Message). Settles w.ship w.bookings (groups_of z) (Ok v.cargo)) m
-        (subst (λ (b : Bookings). Settles w.ship b (groups_of v.message) (Ok v.cargo)) e.1
-        (subst (λ (s : Ship). Settles s v.bookings (groups_of v.message) (Ok v.cargo)) e.0 h.settled)) in
+    subst (λ (z : Option Message). Settles w.ship w.bookings (groups_of z) (Ok v.cargo)) m
+    (subst (λ (b : Bookings). Settles w.ship b (groups_of v.message) (Ok v.cargo)) e.1
+    (subst (λ (s : Ship). Settles s v.bookings (groups_of v.message) (Ok v.cargo)) e.0 h.settled)) in
     same_voyage v w e.0 e.1 m (one_cargo w.ship w.bookings (groups_of w.message) v.cargo w.cargo moved k.settled)
 
 refused_plan : (bytes : List ℕ) (ship : Ship) (booked : Bookings) (message : Message) (cargo : Cargo) (a : Answer) → IsMessageOf bytes message → Settles ship booked message.groups (Ok cargo) → IsNoBayPlan bytes a ⊎ IsUnsettled ship booked bytes a → ⊥
@@ -109,9 +109,9 @@ accepted_not_refused names files v a h (inr (inr k)) =
     let plan = named_plan (Some files) names.arrival k.name v.message k.is_named h.comes_in in
     let same = one_content files k.name (plan.has).bytes k.bytes (plan.has).content k.content in
     let moved : Settles k.ship k.booked (plan.message).groups (Ok v.cargo) =
-        subst (λ (z : Option Message). Settles k.ship k.booked (groups_of z) (Ok v.cargo)) plan.is
-        (subst (λ (b : Bookings). Settles k.ship b (groups_of v.message) (Ok v.cargo)) e.1
-        (subst (λ (s : Ship). Settles s v.bookings (groups_of v.message) (Ok v.cargo)) e.0 h.settled)) in
+    subst (λ (z : Option Message). Settles k.ship k.booked (groups_of z) (Ok v.cargo)) plan.is
+    (subst (λ (b : Bookings). Settles k.ship b (groups_of v.message) (Ok v.cargo)) e.1
+    (subst (λ (s : Ship). Settles s v.bookings (groups_of v.message) (Ok v.cargo)) e.0 h.settled)) in
     refused_plan k.bytes k.ship k.booked plan.message v.cargo a (subst (λ (y : List ℕ). IsMessageOf y plan.message) same (plan.has).is_message) moved k.why
 
 -- ## One refusal
@@ -136,9 +136,9 @@ arrival_one names files a b h k =
     let n : h.name ≡ k.name = same_Some h.name k.name (sym h.is_named ∙ k.is_named) in
     let same = one_content files k.name h.bytes k.bytes (subst (λ (z : List ℕ). IsContent (Some files) z h.bytes) n h.content) k.content in
     let moved : WhyOf k.bytes k.ship k.booked a =
-        subst (λ (y : List ℕ). WhyOf y k.ship k.booked a) same
-        (subst (λ (c : Bookings). WhyOf h.bytes k.ship c a) e.1
-        (subst (λ (s : Ship). WhyOf h.bytes s h.booked a) e.0 h.why)) in
+    subst (λ (y : List ℕ). WhyOf y k.ship k.booked a) same
+    (subst (λ (c : Bookings). WhyOf h.bytes k.ship c a) e.1
+    (subst (λ (s : Ship). WhyOf h.bytes s h.booked a) e.0 h.why)) in
     one_why k.bytes k.ship k.booked a b moved k.why
 
 profile_or_arrival : (names : Names) (files : Files) (a b : Answer) → RefusesProfile names (Some files) a → RefusesArrival names (Some files) b → ⊥

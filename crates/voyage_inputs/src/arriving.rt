@@ -59,10 +59,7 @@ fn settled(
             }))
         }
         Err(ArrivalFault::NoMemory) => Err(NoMemory),
-        Err(fault) => Ok(Found::Refused(refused(
-            alloc,
-            &arrival_line(alloc, fault)?,
-        )?)),
+        Err(fault) => Ok(Found::Refused(refused(alloc, &arrival_line(alloc, fault)?)?)),
     }
 }
 
