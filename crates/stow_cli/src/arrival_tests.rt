@@ -129,11 +129,11 @@ fn comes_in<R: Abort>(
     printed: &[u8],
 ) -> Result<(), NoMemory> {
     let mut text = String::from_str(alloc, HEAD)?;
-    let mut segments = 8u32;
     for (cell, port, id, iso) in groups {
         text.push_str(group_of(alloc, cell, port, id, iso)?.as_str())?;
-        segments += 6;
     }
+    assert!(rt; groups.len() <= 9);
+    let segments = 8 + 6 * groups.len();
     let end = format!(in alloc; "UNT+{segments}+1'UNZ+1+77'")?;
     text.push_str(end.as_str())?;
     let mut folder = folder_of(alloc, ship, NOTHING, &[])?;
