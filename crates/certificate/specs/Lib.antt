@@ -1,3 +1,4 @@
+pub mod Entries
 pub mod FirstFault
 pub mod Grammar
 pub mod Reading

@@ -7,7 +7,8 @@ use Rattle.certificate.specs.declared.tree.End.TheVariants.{Leaf, Left, Branch}
 use Rattle.certificate.specs.declared.journals.Entry.{Entry}
 use Rattle.search_machine.specs.Bags.{weigh, Every}
 use Rattle.search_machine.specs.Journals.{Path, Placed, branches, is_left, halves, left_at, all_nodes}
-use Rattle.node_ledger.specs.Gathered.{entries, end_of, record_of, placed, AreWhole}
+use Rattle.certificate.specs.Entries.{end_of, record_of}
+use Rattle.node_ledger.specs.Gathered.{entries, placed, AreWhole}
 use Rattle.node_ledger.specs.Preorder.{left_node}
 
 module _ (m n : Var → ℕ) where

@@ -5,7 +5,8 @@ use Rattle.certificate.specs.declared.tree.End.{End}
 use Rattle.certificate.specs.declared.tree.End.TheVariants.{Leaf, Branch}
 use Rattle.certificate.specs.declared.journals.Entry.{Entry}
 use Rattle.search_machine.specs.Journals.{Path, branches, is_left, halves}
-use Rattle.node_ledger.specs.Gathered.{end_of, placed, AreWhole}
+use Rattle.certificate.specs.Entries.{end_of}
+use Rattle.node_ledger.specs.Gathered.{placed, AreWhole}
 
 abbrev zero_for_all : Var → ℕ
 zero_for_all x = 0

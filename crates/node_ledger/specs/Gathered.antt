@@ -1,36 +1,21 @@
 -- Journals of certificate records in the words of the search machine, and the tree that they are.
-use Rattle.std.specs.Prelude.{◌≡◌, ℕ, List, map, ℤ}
+use Rattle.std.specs.Prelude.{◌≡◌, ℕ, List, map}
 use Rattle.std.specs.List.{flat_map}
 use Rattle.zero_one_rows.specs.declared.program.Var.{Var}
 use Rattle.zero_one_rows.specs.declared.program.Row.{Row}
-use Rattle.zero_one_rows.specs.declared.program.Raise.{Raise}
-use Rattle.certificate.specs.declared.tree.End.{End}
-use Rattle.certificate.specs.declared.tree.End.TheVariants.{Leaf, Left, Branch}
 use Rattle.certificate.specs.declared.tree.Record.{Record}
 use Rattle.certificate.specs.declared.journals.Entry.{Entry}
-use Rattle.proof_trees.specs.Trees as trees
+use Rattle.certificate.specs.Entries.{record_of}
 use Rattle.search_machine.specs.Journals.{Path, Placed, Whole, Tree, preorder, Gathers, all_nodes}
 
 -- all journals' entries, one journal after the other
 abbrev pub entries : List (List Entry) → List Entry
 entries journals = flat_map (λ journal. journal) journals
 
-abbrev pub raise_of : Raise → Row × ℤ
-raise_of r = (r.row, r.amount)
-
 -- a numbering gives each variable of a branch its number in the program
 module _ (number : Var → ℕ) where
-  abbrev pub end_of : End → trees.End
-  end_of Leaf = trees.Leaf
-  end_of Left = trees.Left
-  end_of (Branch x) = trees.Branch (number x)
-
-  -- a certificate's record as one of a proof tree
-  abbrev pub record_of : Record → trees.Entry Row
-  record_of r = record { from_zero = r.from_zero; steps = r.steps; raises = map raise_of r.raises; end = end_of r.end }
-
   abbrev pub placed : Entry → Placed Row
-  placed e = record { path = e.path; entry = record_of e.record_of }
+  placed e = record { path = e.path; entry = record_of number e.record_of }
 
   -- the entries of all journals, with their paths
   abbrev pub placed_entries : List (List Entry) → List (Placed Row)
@@ -48,4 +33,4 @@ module _ (number : Var → ℕ) where
   pub record IsGathered (journals : List (List Entry)) (left : List Path) (records : List Record) : Type 0 where
     pub tree : Tree Row
     pub gathers : Gathers (nodes_of journals left) tree
-    pub in_preorder : map record_of records ≡ preorder tree
+    pub in_preorder : map (record_of number) records ≡ preorder tree

@@ -7,7 +7,8 @@ ghost use Rattle.certificate.specs.declared.journals.Entry.{Entry};
 ghost use Rattle.proof_trees.specs.Program.{Program};
 ghost use Rattle.proof_trees.specs.Trees.{Proves};
 ghost use Rattle.search_machine.specs.Journals.{Path, Settled, EachAllowed};
-ghost use Rattle.node_ledger.specs.Gathered.{record_of, placed_entries, nodes_of, AreWhole, IsGathered};
+ghost use Rattle.certificate.specs.Entries.{record_of};
+ghost use Rattle.node_ledger.specs.Gathered.{placed_entries, nodes_of, AreWhole, IsGathered};
 
 use search_machine::journals_are_a_tree;
 use zero_one_rows::Row;
