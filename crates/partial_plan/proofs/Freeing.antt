@@ -1,6 +1,7 @@
 -- Variables that are freed, one after the other.
 use Rattle.std.proofs.Common.{◌≡◌, ℕ, zero, suc, ◌+◌, ◌<◌, ◌≤◌, Bool, true, List, [], ◌∷◌, ◌++◌, Option, Some, None, length, length-append, set, get_or, take, drop, All, arith, refl, sym, ◌∙◌, ap, subst, append_assoc, append-nil}
 use Rattle.std.specs.Option.{is_some}
+use Rattle.std.proofs.Math.Seq.{get_or-append_seam}
 use Rattle.std.proofs.lemmas.List.{drop-append-le, take-append-le, length-set, get_or-set_same}
 use Rattle.std.proofs.lemmas.List.Elements.{All-append, All-cons, All-nil}
 use Rattle.proof_trees.specs.Boxes.{Box, at, fixed}
@@ -45,7 +46,7 @@ freed_more b c d xs ys h k = freed_append d xs ys ∙ freed_turned d xs ys ∙ a
 
 -- ## Fixes
 
-fixed_back : (b : Box) (v : ℕ) (y : Bool) → at b v ≡ None → freed (fixed b v y) (v ∷ []) ≡ b
+pub fixed_back : (b : Box) (v : ℕ) (y : Bool) → at b v ≡ None → freed (fixed b v y) (v ∷ []) ≡ b
 fixed_back b v y free = set_twice b v (Some y) None ∙ set_itself b v free
 
 length_back : (b c : Box) (vs : List ℕ) → freed c vs ≡ b → length c ≡ length b
@@ -113,10 +114,20 @@ get_before [] ys i d lt = absurd (omega arith)
 get_before (x ∷ xs) ys zero d lt = refl
 get_before (x ∷ xs) ys (suc i) d lt = get_before xs ys i d (omega arith)
 
-pub inside_less : (b c : Box) (us vs : List ℕ) (v : ℕ) → us ≡ vs ++ v ∷ [] → c ≡ set b v None → All (λ w. w < length b) us → All (λ w. w < length c) vs
-inside_less b c us vs v is e h i d lt =
-    let n : length us ≡ length vs + 1 = ap (λ (xs : List ℕ). length xs) is ∙ length-append vs (v ∷ []) in
+pub inside_less : (b c : Box) (us vs : List ℕ) (v to : ℕ) → us ≡ vs ++ v ∷ [] → to ≤ length vs → c ≡ set b v None → All (λ w. w < length b) (drop to us) → All (λ w. w < length c) (drop to vs)
+inside_less b c us vs v to is le e h i d lt =
+    let split : drop to us ≡ drop to vs ++ v ∷ [] = ap (drop to) is ∙ drop-append-le to vs (v ∷ []) le in
+    let n : length (drop to us) ≡ length (drop to vs) + 1 = ap (λ (xs : List ℕ). length xs) split ∙ length-append (drop to vs) (v ∷ []) in
     let l : length c ≡ length b = ap (λ (x : Box). length x) e ∙ length-set b v None in
-    let g : get_or us i d ≡ get_or vs i d = ap (λ (xs : List ℕ). get_or xs i d) is ∙ get_before vs (v ∷ []) i d lt in
-    let k : get_or us i d < length b = h i d (omega arith) in
+    let g : get_or (drop to us) i d ≡ get_or (drop to vs) i d = ap (λ (xs : List ℕ). get_or xs i d) split ∙ get_before (drop to vs) (v ∷ []) i d lt in
+    let k : get_or (drop to us) i d < length b = h i d (omega arith) in
     omega arith
+
+-- the last one stands past the place
+pub last_in : (b : Box) (us vs : List ℕ) (v to : ℕ) → us ≡ vs ++ v ∷ [] → to ≤ length vs → All (λ w. w < length b) (drop to us) → v < length b
+last_in b us vs v to is le h =
+    let split : drop to us ≡ drop to vs ++ v ∷ [] = ap (drop to) is ∙ drop-append-le to vs (v ∷ []) le in
+    let n : length (drop to us) ≡ length (drop to vs) + 1 = ap (λ (xs : List ℕ). length xs) split ∙ length-append (drop to vs) (v ∷ []) in
+    let g : get_or (drop to us) (length (drop to vs)) v ≡ v = ap (λ (xs : List ℕ). get_or xs (length (drop to vs)) v) split ∙ get_or-append_seam (drop to vs) v [] v in
+    let k : get_or (drop to us) (length (drop to vs)) v < length b = h (length (drop to vs)) v (omega arith) in
+    subst (λ (w : ℕ). w < length b) g k

@@ -11,7 +11,7 @@ use Rattle.partial_plan.specs.Forced.{forces, is_above}
 use Rattle.partial_plan.proofs.Summing.{sum_one}
 
 -- what a row's greatest value loses where a free variable gets the value
-abbrev loss : Bool → ℤ → ℤ
+abbrev pub loss : Bool → ℤ → ℤ
 loss y a = int_max (pos 0) a -ℤ where_set y a
 
 most_fixed : {R : Type 0} (p : Program R) (b : Box) (r : R) (v : ℕ) (x : Bool) → v < length b → v < p.vars → most p (fixed b v x) r +ℤ greatest (at b v) (p.coef r v) ≡ most p b r +ℤ where_set x (p.coef r v)
@@ -20,22 +20,22 @@ most_fixed p b r v x lt lt' =
     let here : greatest (at (fixed b v x) v) (p.coef r v) ≡ where_set x (p.coef r v) = ap (λ o. greatest o (p.coef r v)) (get_or-set_same b v (Some x) None lt) in
     omega (arith, ints)
 
-most_less : {R : Type 0} (p : Program R) (b : Box) (r : R) (v : ℕ) (x : Bool) → v < length b → v < p.vars → at b v ≡ None → most p (fixed b v x) r ≡ most p b r -ℤ loss x (p.coef r v)
+pub most_less : {R : Type 0} (p : Program R) (b : Box) (r : R) (v : ℕ) (x : Bool) → v < length b → v < p.vars → at b v ≡ None → most p (fixed b v x) r ≡ most p b r -ℤ loss x (p.coef r v)
 most_less p b r v x lt lt' free =
     let g : greatest (at b v) (p.coef r v) ≡ int_max (pos 0) (p.coef r v) = ap (λ o. greatest o (p.coef r v)) free in
     omega (arith, ints, most_fixed p b r v x lt lt')
 
-lt_same : (a b c d : ℤ) → a -ℤ b ≡ c -ℤ d → int_lt a b ≡ int_lt c d
+pub lt_same : (a b c d : ℤ) → a -ℤ b ≡ c -ℤ d → int_lt a b ≡ int_lt c d
 lt_same a b c d e = grind (arith, ints)
 
-forced_is : {R : Type 0} (p : Program R) (b : Box) (r : R) (v : ℕ) (y : Bool) (s : ℤ) → v < length b → v < p.vars → at b v ≡ None → s ≡ most p b r -ℤ p.rhs r → forced p b r v y ≡ int_lt s (loss (not y) (p.coef r v))
+pub forced_is : {R : Type 0} (p : Program R) (b : Box) (r : R) (v : ℕ) (y : Bool) (s : ℤ) → v < length b → v < p.vars → at b v ≡ None → s ≡ most p b r -ℤ p.rhs r → forced p b r v y ≡ int_lt s (loss (not y) (p.coef r v))
 forced_is p b r v y s lt lt' free e = lt_same (most p (fixed b v (not y)) r) (p.rhs r) s (loss (not y) (p.coef r v)) (omega (arith, ints, most_less p b r v (not y) lt lt' free))
 
 -- the value that a variable gets
 abbrev pub landed : ℤ → Option Bool → ℤ → Option Bool
 landed s o a = cond (forces s o a) (Some (is_above a)) o
 
-not_below : (s : ℤ) → pos 0 ≤ℤ s → int_lt s (pos 0) ≡ false
+pub not_below : (s : ℤ) → pos 0 ≤ℤ s → int_lt s (pos 0) ≡ false
 not_below s h = grind (arith, ints)
 
 lost_up : (n : ℕ) → loss true (pos n) ≡ pos 0
@@ -67,10 +67,10 @@ by_option : {R : Type 0} (p : Program R) (b : Box) (r : R) (v : ℕ) (s : ℤ) �
 by_option p b r v s lt lt' e h (Some y) is = refl
 by_option p b r v s lt lt' e h None is = rw (forced_is p b r v true s lt lt' is e, forced_is p b r v false s lt lt' is e) (by_landed s (p.coef r v) h)
 
-tight_landed : {R : Type 0} (p : Program R) (b : Box) (r : R) (v : ℕ) (s : ℤ) → v < length b → v < p.vars → s ≡ most p b r -ℤ p.rhs r → pos 0 ≤ℤ s → tight_at p b r v ≡ landed s (at b v) (p.coef r v)
+pub tight_landed : {R : Type 0} (p : Program R) (b : Box) (r : R) (v : ℕ) (s : ℤ) → v < length b → v < p.vars → s ≡ most p b r -ℤ p.rhs r → pos 0 ≤ℤ s → tight_at p b r v ≡ landed s (at b v) (p.coef r v)
 tight_landed p b r v s lt lt' e h = by_option p b r v s lt lt' e h (at b v) refl
 
-met_is : {R : Type 0} (p : Program R) (b : Box) (r : R) (s : ℤ) → s ≡ most p b r -ℤ p.rhs r → pos 0 ≤ℤ s → violated p b r ≡ false
+pub met_is : {R : Type 0} (p : Program R) (b : Box) (r : R) (s : ℤ) → s ≡ most p b r -ℤ p.rhs r → pos 0 ≤ℤ s → violated p b r ≡ false
 met_is p b r s e h = grind (arith, ints)
 
 pub broken_is : {R : Type 0} (p : Program R) (b : Box) (r : R) (s : ℤ) → s ≡ most p b r -ℤ p.rhs r → int_lt s (pos 0) ≡ violated p b r

@@ -12,12 +12,12 @@ use Rattle.zero_one_rows.specs.Rows.{whole}
 use Rattle.zero_one_model.specs.Indexed.{Touches}
 use Rattle.partial_plan.proofs.Summing.{equal}
 
-zero_or_other : (z : ℤ) → (z ≡ pos 0) ⊎ (z ≢ pos 0)
+pub zero_or_other : (z : ℤ) → (z ≡ pos 0) ⊎ (z ≢ pos 0)
 zero_or_other (pos zero) = inl refl
 zero_or_other (pos (suc n)) = inr (λ e. omega (arith, ints))
 zero_or_other (negsuc n) = inr (λ e. omega (arith, ints))
 
-greatest_none : (o : Option Bool) → greatest o (pos 0) ≡ pos 0
+pub greatest_none : (o : Option Bool) → greatest o (pos 0) ≡ pos 0
 greatest_none None = refl
 greatest_none (Some true) = refl
 greatest_none (Some false) = refl

@@ -1,7 +1,13 @@
 -- Variables that are fixed, and freed again.
-use Rattle.std.specs.Prelude.{◌≡◌, ℕ, ◌<◌, true, All, List, [], ◌∷◌, None, length, slice_set, drop}
+use Rattle.std.specs.Prelude.{◌≡◌, ℕ, ◌+◌, ◌<◌, true, All, List, [], ◌∷◌, Some, None, length, slice_set, drop}
 use Rattle.std.specs.Option.{is_some}
 use Rattle.proof_trees.specs.Boxes.{Box, at}
+
+-- how many variables are free
+abbrev pub free_in : Box → ℕ
+free_in [] = 0
+free_in (None ∷ b) = free_in b + 1
+free_in (Some y ∷ b) = free_in b
 
 -- these variables are free again
 abbrev pub freed : Box → List ℕ → Box

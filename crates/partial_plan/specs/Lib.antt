@@ -1,2 +1,5 @@
 pub mod Fixing
 pub mod Forced
+pub mod Full
+pub mod Stopping
+pub mod Tightening

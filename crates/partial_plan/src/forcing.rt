@@ -95,7 +95,7 @@ fn note_one(
 }
 
 // Fixes all variables that a row with this slack forces, and notes them.
-fn note_all(
+pub(crate) fn note_all(
     model: &Model,
     b: &mut Box01,
     undo: &mut UndoList,

@@ -1,5 +1,5 @@
 //! Variables that were fixed, and how they are freed again.
-ghost use Rattle.std.specs.Prelude.{◌≡◌, ℕ, ◌+◌, ◌<◌, ◌≤◌, All, [], ◌∷◌, ◌++◌, length, take, None, slice_set, is_ok, if◌then◌else◌};
+ghost use Rattle.std.specs.Prelude.{◌≡◌, ℕ, ◌+◌, ◌<◌, ◌≤◌, All, [], ◌∷◌, ◌++◌, drop, length, take, None, slice_set, is_ok, if◌then◌else◌};
 ghost use Rattle.partial_plan.specs.Fixing.{released};
 
 use std::alloc::Global;
@@ -54,10 +54,10 @@ impl UndoList {
     }
 }
 
-/// Frees what was fixed past a place of the list, the last first. It takes no memory.
-pub fn undo(b: &mut Box01, undo: &mut UndoList, to: usize)
+// Frees what was fixed past a place of the list, the last first, where what stands there is of the box.
+pub(crate) fn take_back(b: &mut Box01, undo: &mut UndoList, to: usize)
     requires to { to ≤ length undo.old }
-    requires inside { All (λ v. v < length b.old) undo.old }
+    requires inside { All (λ v. v < length b.old) (drop to undo.old) }
     ensures freed { b.new ≡ released b.old undo.old to }
     ensures kept { undo.new ≡ take to undo.old }
 {
@@ -66,4 +66,14 @@ pub fn undo(b: &mut Box01, undo: &mut UndoList, to: usize)
             b.release(x);
         }
     }
+}
+
+/// Frees what was fixed past a place of the list, the last first. It takes no memory.
+pub fn undo(b: &mut Box01, undo: &mut UndoList, to: usize)
+    requires to { to ≤ length undo.old }
+    requires inside { All (λ v. v < length b.old) undo.old }
+    ensures freed { b.new ≡ released b.old undo.old to }
+    ensures kept { undo.new ≡ take to undo.old }
+{
+    take_back(b, undo, to);
 }

@@ -1,0 +1,11 @@
+use Rattle.std.proofs.Common.{◌≡◌, length}
+use Rattle.kept_box.proofs.slacks.Slacks.next.Given as goal
+
+abbrev pub invariant-loop-row : goal.invariant-loop-row
+invariant-loop-row l = record {
+  slack : l.self.slack ≡ l.fn.self.slack;
+  waits : l.self.waits ≡ l.fn.self.waits;
+}
+
+abbrev pub decreases-loop-row : goal.decreases-loop-row
+decreases-loop-row l = length l.self.hints.items

@@ -1,0 +1,58 @@
+-- What holds of the parts of a kept box. No public clause cites this module.
+use Rattle.std.specs.Prelude.{◌≡◌, ◌⊎◌, ℕ, ◌+◌, ◌*◌, ◌<◌, ◌≤◌, Bool, true, false, All, List, [], ◌∷◌, None, length, slice_index_or, vec_capacity, ℤ, pos, ◌≤ℤ◌}
+use Rattle.std.specs.Int.RustNames.{unsigned_abs}
+use Rattle.proof_trees.specs.Boxes.{Box, at}
+use Rattle.zero_one_rows.specs.Variables.{Voyage, variables}
+use Rattle.zero_one_rows.specs.Rows.{whole}
+use Rattle.partial_plan.specs.Fixing.{free_in, released}
+use Rattle.partial_plan.specs.Forced.{forces}
+use Rattle.partial_plan.specs.Tightening.{IsQuiet}
+use Rattle.kept_box.specs.declared.slacks.Slacks.{Slacks}
+use Rattle.kept_box.specs.declared.desk.Desk.{Desk}
+use Rattle.kept_box.specs.Terms.{count, row_at, slack_in}
+use Rattle.kept_box.specs.Waiting.{number_at, waits_at, IsShort}
+
+-- how many rows wait
+abbrev pub waiting_in : List Bool → ℕ
+waiting_in [] = 0
+waiting_in (true ∷ ws) = waiting_in ws + 1
+waiting_in (false ∷ ws) = waiting_in ws
+
+-- what is still to be done
+abbrev pub work : Voyage → Desk → ℕ
+work m d = free_in d.b * (count m + 1) + waiting_in d.slacks.waits.items
+
+-- each slack is the row's greatest value over the box less its right side
+pub record Holds (m : Voyage) (b : Box) (s : Slacks) : Type 0 where
+  pub whole : length b ≡ length (variables m)
+  pub short : IsShort s (count m)
+  pub slack : (k : ℕ) → k < count m → number_at s.slack.items k ≡ slack_in m b k
+
+-- what was fixed is of the box, and has room for all that is free; and where a place of the list is marked quiet, the box was quiet when the list was so long
+pub record Trails (m : Voyage) (d : Desk) : Type 0 where
+  pub inside : All (λ v. v < length d.b) d.undo.items
+  pub room : length d.undo.items + free_in d.b ≤ length d.b
+  pub capacity : length d.b ≤ vec_capacity d.undo
+  pub marks : length d.quiet.items ≡ length d.b + 1
+  pub quiet : (j : ℕ) → j ≤ length d.undo.items → slice_index_or d.quiet.items j false ≡ true → IsQuiet m (released d.b d.undo.items j)
+
+pub record IsDesk (m : Voyage) (d : Desk) : Type 0 where
+  pub holds : Holds m d.b d.slacks
+  pub trails : Trails m d
+
+-- base row k, with this slack, is neither violated nor forces a free variable
+pub record CalmAt (m : Voyage) (b : Box) (s : ℤ) (k : ℕ) : Type 0 where
+  pub met : pos 0 ≤ℤ s
+  pub still : (v : ℕ) → v < length (variables m) → at b v ≡ None → forces s None ((whole m).coef (row_at m k) v) ≡ false
+
+-- rows that don't wait are calm
+abbrev pub Rests : Voyage → Box → Slacks → Type 0
+Rests m b s = (k : ℕ) → k < count m → waits_at s.waits.items k ≡ false → CalmAt m b (number_at s.slack.items k) k
+
+-- no coefficient of row k passes the number
+abbrev pub IsWide : Voyage → ℤ → ℕ → Type 0
+IsWide m s k = (v : ℕ) → v < length (variables m) → pos (unsigned_abs ((whole m).coef (row_at m k) v)) ≤ℤ s
+
+-- a row that doesn't wait now didn't wait before, and its slack is the same, or one that no coefficient passes
+abbrev pub Marks : Voyage → Slacks → Slacks → Type 0
+Marks m old new = (k : ℕ) → k < count m → waits_at new.waits.items k ≡ false → (waits_at old.waits.items k ≡ false) × ((number_at new.slack.items k ≡ number_at old.slack.items k) ⊎ ((pos 0 ≤ℤ number_at new.slack.items k) × IsWide m (number_at new.slack.items k) k))

@@ -1,0 +1,19 @@
+-- Slacks by row, and rows that wait. No public clause cites this module.
+use Rattle.std.specs.Prelude.{◌≡◌, ◌⊎◌, ℕ, Bool, false, List, length, slice_index_or, ℤ, pos, ◌≤ℤ◌}
+use Rattle.kept_box.specs.declared.slacks.Slacks.{Slacks}
+
+abbrev pub number_at : List ℤ → ℕ → ℤ
+number_at s r = slice_index_or s r (pos 0)
+
+-- the row waits to be looked at
+abbrev pub waits_at : List Bool → ℕ → Bool
+waits_at w r = slice_index_or w r false
+
+-- slacks and marks of n rows
+pub record IsShort (s : Slacks) (n : ℕ) : Type 0 where
+  pub slacks : length s.slack.items ≡ n
+  pub marks : length s.waits.items ≡ n
+
+-- a row that doesn't wait now didn't wait before, and its slack is the same or no coefficient passes it
+abbrev pub Marked : List ℕ → Slacks → Slacks → Type 0
+Marked tops old new = (r : ℕ) → waits_at new.waits.items r ≡ false → (waits_at old.waits.items r ≡ false) × ((number_at new.slack.items r ≡ number_at old.slack.items r) ⊎ (pos (slice_index_or tops r 0) ≤ℤ number_at new.slack.items r))

@@ -1,0 +1,126 @@
+//! Rows that are looked at until none forces anything.
+ghost use Rattle.std.specs.Prelude.{◌≡◌, ℕ, ◌+◌, ◌<◌, ◌≤◌, ◌++◌, List, All, IfNone, IfSome, None, length, slice_index_or, true, false, pos, ◌≤ℤ◌, cond};
+ghost use Rattle.proof_trees.specs.Boxes.{at, tight, violated};
+ghost use Rattle.zero_one_rows.specs.declared.program.Row.{Row};
+ghost use Rattle.zero_one_rows.specs.Variables.{variables};
+ghost use Rattle.zero_one_rows.specs.Rows.{base, whole};
+ghost use Rattle.partial_plan.specs.Fixing.{Fixes};
+ghost use Rattle.partial_plan.specs.Forced.{forces, is_above, stepped};
+ghost use Rattle.partial_plan.specs.Tightening.{IsQuiet, Tightens};
+ghost use Rattle.kept_box.specs.Terms.{count, row_at, slack_in};
+ghost use Rattle.kept_box.specs.Waiting.{waits_at};
+ghost use Rattle.kept_box.specs.Desk.{IsDesk, Marks, Rests, work};
+ghost use Rattle.kept_box.specs.Looking.{AnyForced, Ends, NoneForced};
+
+use crate::desk::Desk;
+use crate::matrix::BaseMatrix;
+use crate::terms::Term;
+use partial_plan::Tightened;
+use program_rows::rows_are_listed;
+use zero_one_model::Box01;
+use zero_one_rows::RowList;
+
+// Whether a row with this slack forces a variable that is free.
+fn is_forced(allowed: Option<bool>, slack: i64, by: i32) -> bool
+    ensures { result ≡ forces slack allowed by }
+{
+    allowed.is_none() && slack < i64::from(by.unsigned_abs())
+}
+
+// Whether a row with this slack forces one of its variables.
+fn forces_any(b: &Box01, terms: &[Term], slack: i64) -> bool
+    requires { All (λ t. t.at < length b.now) terms.now }
+    ensures none { result ≡ false → NoneForced b.now slack terms.now }
+    ensures some { result ≡ true → AnyForced b.now slack terms.now }
+{
+    for term in terms {
+        if is_forced(b.at(term.at), slack, term.by) {
+            return true;
+        }
+    }
+    false
+}
+
+impl Desk {
+    // Fixes the variable of a term, where a row with this slack forces it.
+    fn fix_term(&mut self, matrix: &BaseMatrix, term: &Term, slack: i64)
+        requires desk { IsDesk matrix.now self.old }
+        requires var { term.now.at < length self.old.b }
+        ensures desk { IsDesk matrix.now self.new }
+        ensures known { self.new.b ≡ stepped slack self.old.b term.now.at term.now.by }
+        ensures noted { (xs : List ℕ) × (self.new.undo.items ≡ self.old.undo.items ++ xs) × Fixes self.old.b self.new.b xs }
+        ensures marks { Marks matrix.now self.old.slacks self.new.slacks }
+    {
+        if !is_forced(self.b.at(term.at), slack, term.by) {
+            return;
+        }
+        self.fix(matrix, term.at, term.by > 0);
+    }
+
+    // Fixes all that a base row with this slack forces.
+    fn fix_all(&mut self, matrix: &BaseMatrix, k: usize, slack: i64)
+        requires desk { IsDesk matrix.now self.old }
+        requires row { k < count matrix.now }
+        requires slack { slack ≡ slack_in matrix.now self.old.b k }
+        requires met { pos 0 ≤ℤ slack }
+        ensures desk { IsDesk matrix.now self.new }
+        ensures known { self.new.b ≡ tight (whole matrix.now) self.old.b (row_at matrix.now k) }
+        ensures noted { (xs : List ℕ) × (self.new.undo.items ≡ self.old.undo.items ++ xs) × Fixes self.old.b self.new.b xs }
+        ensures marks { Marks matrix.now self.old.slacks self.new.slacks }
+    {
+        for term in matrix.terms(k) {
+            self.fix_term(matrix, term, slack);
+        }
+    }
+
+    // Looks at a row that waits; what it answers ends tightening.
+    fn look(&mut self, matrix: &BaseMatrix, steps: &mut RowList, k: usize) -> Option<Tightened>
+        requires desk { IsDesk matrix.now self.old }
+        requires rests { Rests matrix.now self.old.b self.old.slacks }
+        requires row { k < count matrix.now }
+        requires waits { waits_at self.old.slacks.waits.items k ≡ true }
+        ensures desk { IsDesk matrix.now self.new }
+        ensures rests { Rests matrix.now self.new.b self.new.slacks }
+        ensures steps { Tightens matrix.now self.old.b self.new.b steps.old steps.new }
+        ensures noted { (xs : List ℕ) × (self.new.undo.items ≡ self.old.undo.items ++ xs) × Fixes self.old.b self.new.b xs }
+        ensures less { IfNone result (work matrix.now self.new < work matrix.now self.old) }
+        ensures ends { IfSome result (Ends matrix.now self.new.b) }
+    {
+        let slack = self.slacks.slack[k];
+        if slack < 0 {
+            return Some(Tightened::Violated(matrix.row(k)));
+        }
+        if !forces_any(&self.b, matrix.terms(k), slack) {
+            self.slacks.clear(k);
+            return None;
+        }
+        match steps.push(matrix.row(k)) {
+            Ok(()) => {
+                self.slacks.clear(k);
+                self.fix_all(matrix, k, slack);
+                None
+            }
+            Err(_) => Some(Tightened::NoMemory),
+        }
+    }
+
+    // Looks at rows that wait until none is left, or one is violated.
+    pub(crate) fn tighten(&mut self, matrix: &BaseMatrix, steps: &mut RowList) -> Tightened
+        requires desk { IsDesk matrix.now self.old }
+        requires rests { Rests matrix.now self.old.b self.old.slacks }
+        ensures desk { IsDesk matrix.now self.new }
+        ensures rests { Rests matrix.now self.new.b self.new.slacks }
+        ensures steps { Tightens matrix.now self.old.b self.new.b steps.old steps.new }
+        ensures noted { (xs : List ℕ) × (self.new.undo.items ≡ self.old.undo.items ++ xs) × Fixes self.old.b self.new.b xs }
+        ensures ends { Ends matrix.now self.new.b result }
+    {
+        while let Some(k) = self.slacks.next() {
+            if let Some(end) = self.look(matrix, steps, k) {
+                return end;
+            }
+        }
+        rows_are_listed();
+        self.settle(matrix);
+        Tightened::Quiet
+    }
+}

@@ -1,0 +1,191 @@
+//! The slack of each base row, and which rows wait to be looked at.
+ghost use Rattle.std.specs.Prelude.{◌≡◌, ℕ, ◌+◌, ◌<◌, ◌≤◌, ◌^◌, ◌==◌, true, false, IfOk, IfSome, None, length, pos, ◌+ℤ◌, ◌-ℤ◌, ◌≤ℤ◌, slice_index_or, slice_set, unsigned_abs};
+ghost use Rattle.proof_trees.specs.Program.{where_set};
+ghost use Rattle.kept_box.specs.Terms.{lost};
+ghost use Rattle.kept_box.specs.Waiting.{number_at, waits_at, Marked, IsShort};
+
+use crate::terms::Loss;
+use std::alloc::Global;
+use stow_data::NoMemory;
+
+// The slack of each base row, whether it waits to be looked at, and hints where to look; a hint may be wrong or missing.
+#[derive(Drop)]
+pub(crate) struct Slacks {
+    pub slack: Vec<i64>,
+    pub waits: Vec<bool>,
+    pub hints: Vec<usize>,
+}
+
+fn less(slack: i64, by: u32) -> i64
+    requires { unsigned_abs slack ≤ 2 ^ 39 }
+    ensures { result ≡ slack -ℤ pos by }
+{
+    slack - i64::from(by)
+}
+
+fn more(slack: i64, by: u32) -> i64
+    requires { unsigned_abs slack ≤ 2 ^ 39 }
+    ensures { result ≡ slack +ℤ pos by }
+{
+    slack + i64::from(by)
+}
+
+// Marks all rows.
+fn set_all(waits: &mut Vec<bool>, value: bool)
+    ensures len { length waits.new.items ≡ length waits.old.items }
+    ensures all { (r : ℕ) → r < length waits.new.items → waits_at waits.new.items r ≡ value }
+{
+    for row in 0..waits.len() {
+        waits[row] = value;
+    }
+}
+
+// Hints that lead to all of so many rows, the first one next.
+fn hint_all(hints: &mut Vec<usize>, rows: usize) {
+    for row in (0..rows).rev() {
+        let _ = hints.push(row);
+    }
+}
+
+impl Slacks {
+    // A row loses slack, and waits where what is left may force something.
+    fn lower_row(&mut self, row: usize, by: u32, top: u32)
+        requires row { row < length self.old.slack.items }
+        requires marks { length self.old.waits.items ≡ length self.old.slack.items }
+        requires room { unsigned_abs (number_at self.old.slack.items row) ≤ 2 ^ 39 }
+        ensures len { length self.new.slack.items ≡ length self.old.slack.items }
+        ensures marks { length self.new.waits.items ≡ length self.old.waits.items }
+        ensures slack { (r : ℕ) → number_at self.new.slack.items r ≡ number_at self.old.slack.items r -ℤ where_set (row == r) (pos by) }
+        ensures waits { (r : ℕ) → waits_at self.new.waits.items r ≡ false → waits_at self.old.waits.items r ≡ false }
+        ensures wide { waits_at self.new.waits.items row ≡ false → pos top ≤ℤ number_at self.new.slack.items row }
+    {
+        let left = less(self.slack[row], by);
+        self.slack[row] = left;
+        if left >= i64::from(top) {
+            return;
+        }
+        if self.waits[row] {
+            return;
+        }
+        self.waits[row] = true;
+        let _ = self.hints.push(row);
+    }
+
+    // One row that loses slack, where it is a base row.
+    fn lower_one(&mut self, loss: Loss, tops: &[u32])
+        requires short { IsShort self.old (length tops.now) }
+        requires room { (r : ℕ) → r < length tops.now → unsigned_abs (number_at self.old.slack.items r) ≤ 2 ^ 39 }
+        ensures short { IsShort self.new (length tops.now) }
+        ensures slack { (r : ℕ) → r < length tops.now → number_at self.new.slack.items r ≡ number_at self.old.slack.items r -ℤ where_set (loss.row == r) (pos loss.by) }
+        ensures waits { Marked tops.now self.old self.new }
+    {
+        let row = loss.row as usize;
+        if row >= tops.len() {
+            return;
+        }
+        self.lower_row(row, loss.by, tops[row]);
+    }
+
+    // Rows lose slack, and wait where they may force something.
+    pub(crate) fn lower(&mut self, losses: &[Loss], tops: &[u32])
+        requires short { IsShort self.old (length tops.now) }
+        requires room { (r : ℕ) → r < length tops.now → unsigned_abs (number_at self.old.slack.items r) ≤ 2 ^ 38 }
+        requires left { (r : ℕ) → r < length tops.now → unsigned_abs (number_at self.old.slack.items r -ℤ lost losses.now r) ≤ 2 ^ 38 }
+        ensures short { IsShort self.new (length tops.now) }
+        ensures slack { (r : ℕ) → r < length tops.now → number_at self.new.slack.items r ≡ number_at self.old.slack.items r -ℤ lost losses.now r }
+        ensures waits { Marked tops.now self.old self.new }
+    {
+        for loss in losses {
+            self.lower_one(*loss, tops);
+        }
+    }
+
+    // One row that gains slack, where it is a base row.
+    fn lift_one(&mut self, loss: Loss)
+        requires room { (r : ℕ) → r < length self.old.slack.items → unsigned_abs (number_at self.old.slack.items r) ≤ 2 ^ 39 }
+        ensures len { length self.new.slack.items ≡ length self.old.slack.items }
+        ensures waits { self.new.waits ≡ self.old.waits }
+        ensures slack { (r : ℕ) → r < length self.old.slack.items → number_at self.new.slack.items r ≡ number_at self.old.slack.items r +ℤ where_set (loss.row == r) (pos loss.by) }
+    {
+        let row = loss.row as usize;
+        if row >= self.slack.len() {
+            return;
+        }
+        self.slack[row] = more(self.slack[row], loss.by);
+    }
+
+    // Rows gain slack.
+    pub(crate) fn lift(&mut self, losses: &[Loss])
+        requires room { (r : ℕ) → r < length self.old.slack.items → unsigned_abs (number_at self.old.slack.items r) ≤ 2 ^ 38 }
+        requires left { (r : ℕ) → r < length self.old.slack.items → unsigned_abs (number_at self.old.slack.items r +ℤ lost losses.now r) ≤ 2 ^ 38 }
+        ensures len { length self.new.slack.items ≡ length self.old.slack.items }
+        ensures waits { self.new.waits ≡ self.old.waits }
+        ensures slack { (r : ℕ) → r < length self.old.slack.items → number_at self.new.slack.items r ≡ number_at self.old.slack.items r +ℤ lost losses.now r }
+    {
+        for loss in losses {
+            self.lift_one(*loss);
+        }
+    }
+
+    // A row doesn't wait.
+    pub(crate) fn clear(&mut self, row: usize)
+        requires { row < length self.old.waits.items }
+        ensures slack { self.new.slack ≡ self.old.slack }
+        ensures waits { self.new.waits.items ≡ slice_set self.old.waits.items row false }
+    {
+        self.waits[row] = false;
+    }
+
+    // A row that waits, if there is one.
+    pub(crate) fn next(&mut self) -> Option<usize>
+        ensures slack { self.new.slack ≡ self.old.slack }
+        ensures waits { self.new.waits ≡ self.old.waits }
+        ensures some { IfSome result (λ row. (row < length self.old.waits.items) × (waits_at self.old.waits.items row ≡ true)) }
+        ensures none { result ≡ None → (r : ℕ) → r < length self.old.waits.items → waits_at self.old.waits.items r ≡ false }
+    {
+        while let Some(row) = self.hints.pop() {
+            if row < self.waits.len() {
+                if self.waits[row] {
+                    return Some(row);
+                }
+            }
+        }
+        self.waits.iter().position(|waits| *waits)
+    }
+
+    // No row waits.
+    pub(crate) fn rest(&mut self)
+        ensures slack { self.new.slack ≡ self.old.slack }
+        ensures len { length self.new.waits.items ≡ length self.old.waits.items }
+        ensures none { (r : ℕ) → waits_at self.new.waits.items r ≡ false }
+    {
+        self.hints.truncate(0);
+        set_all(&mut self.waits, false);
+    }
+
+    // All rows wait.
+    pub(crate) fn rouse(&mut self)
+        ensures slack { self.new.slack ≡ self.old.slack }
+        ensures len { length self.new.waits.items ≡ length self.old.waits.items }
+        ensures all { (r : ℕ) → r < length self.new.waits.items → waits_at self.new.waits.items r ≡ true }
+    {
+        self.hints.truncate(0);
+        hint_all(&mut self.hints, self.waits.len());
+        set_all(&mut self.waits, true);
+    }
+
+    // These slacks; all rows wait.
+    pub(crate) fn of(alloc: Global, slacks: &[i64]) -> Result<Slacks, NoMemory>
+        ensures slack { IfOk result (λ s. s.slack.items ≡ slacks.now) }
+        ensures len { IfOk result (λ s. length s.waits.items ≡ length slacks.now) }
+        ensures all { IfOk result (λ s. (r : ℕ) → r < length slacks.now → waits_at s.waits.items r ≡ true) }
+    {
+        let mut all = Slacks {
+            slack: Vec::from_slice(alloc, slacks)?,
+            waits: Vec::from_elem(alloc, true, slacks.len())?,
+            hints: Vec::with_capacity(alloc, slacks.len())?,
+        };
+        all.rouse();
+        Ok(all)
+    }
+}
