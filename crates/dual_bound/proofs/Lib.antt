@@ -1,0 +1,12 @@
+pub mod RowsAlike
+pub mod RowsTold
+pub mod Summing
+pub mod Multiplied
+pub mod RowsListed
+pub mod Touched
+pub mod Pricing
+pub mod Placing
+pub mod Raises
+pub mod Flat
+pub mod TermsMore
+pub mod Keeping

@@ -1,0 +1,12 @@
+use Rattle.std.proofs.Common.{◌≡◌, ℕ, ◌<◌, ◌≤◌, length, pos, ◌*ℤ◌}
+use Rattle.std.specs.Int.RustNames.{unsigned_abs}
+use Rattle.zero_one_rows.specs.Rows.{whole}
+use Rattle.dual_bound.specs.Costs.{number_at}
+use Rattle.dual_bound.proofs.costs.first_costs.Given as goal
+
+abbrev pub invariant-loop-v : goal.invariant-loop-v
+invariant-loop-v l = record {
+  len : length l.costs.items ≡ l.v;
+  each : (v : ℕ) → v < l.v → number_at l.costs.items v ≡ pos 16 *ℤ (whole l.model).cost v;
+  small : (v : ℕ) → v < l.v → unsigned_abs (number_at l.costs.items v) ≤ 16;
+}

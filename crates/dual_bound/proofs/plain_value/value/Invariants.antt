@@ -1,0 +1,13 @@
+use Rattle.std.proofs.Common.{◌≡◌, ◌+◌, ◌*◌, ◌≤◌, ◌^◌, pos, ◌+ℤ◌, ◌-ℤ◌, ◌*ℤ◌}
+use Rattle.std.specs.Int.RustNames.{unsigned_abs}
+use Rattle.zero_one_rows.specs.Rows.{whole}
+use Rattle.proof_trees.specs.Program.{sum_to}
+use Rattle.proof_trees.specs.Boxes.{at}
+use Rattle.proof_trees.specs.Multipliers.{least, weighed, weighed_rhs}
+use Rattle.dual_bound.proofs.plain_value.value.Given as goal
+
+abbrev pub invariant-loop-v : goal.invariant-loop-v
+invariant-loop-v l = record {
+  value : l.total ≡ weighed_rhs (whole l.model) l.m +ℤ sum_to l.v (λ v. least (at l.b v) (pos 16 *ℤ (whole l.model).cost v -ℤ weighed (whole l.model) l.m v));
+  size : unsigned_abs l.total ≤ 2 ^ 98 + l.v * 2 ^ 99;
+}

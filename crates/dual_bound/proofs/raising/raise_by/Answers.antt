@@ -1,0 +1,5 @@
+use Rattle.dual_bound.proofs.Multiplied.{are_multipliers}
+use Rattle.dual_bound.proofs.raising.raise_by.Goals as goal
+
+pub returns-clause-kept : goal.returns-clause-kept
+returns-clause-kept c = are_multipliers c.args.model.now c.raise_kept.new.m c.raise_kept.ensures.priced.small

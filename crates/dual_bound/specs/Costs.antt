@@ -1,0 +1,81 @@
+-- What is kept beside a box and multipliers: reduced costs and the dual value, and the sizes that keep them in range. No public clause cites this module.
+use Rattle.std.specs.Prelude.{◌≡◌, ◌≢◌, ◌↔◌, ℕ, Bool, ◌+◌, ◌<◌, ◌≤◌, ◌^◌, true, All, Contains, List, [], ◌∷◌, length, map, slice_index_or, Option, ℤ, pos, ◌+ℤ◌, ◌-ℤ◌, ◌*ℤ◌, unsigned_abs}
+use Rattle.std.specs.List.{AllPairs}
+use Rattle.zero_one_rows.specs.declared.program.Row.{Row}
+use Rattle.zero_one_rows.specs.Variables.{Voyage, variables}
+use Rattle.zero_one_rows.specs.Rows.{whole}
+use Rattle.proof_trees.specs.Program.{sum_to}
+use Rattle.proof_trees.specs.Boxes.{Box, at}
+use Rattle.proof_trees.specs.Multipliers.{Multipliers, amount_of, with_amount, least, weighed, weighed_rhs, worth}
+use Rattle.certificate.specs.Entries.{same_row}
+use Rattle.dual_bound.specs.Raising.{Lacks}
+use Rattle.zero_one_model.specs.Indexed.{Touches}
+use Rattle.dual_bound.specs.declared.terms.Term.{Term}
+use Rattle.dual_bound.specs.declared.costs.Costs.{Costs}
+
+abbrev pub number_at : List ℤ → ℕ → ℤ
+number_at zs v = slice_index_or zs v (pos 0)
+
+-- a row of the program, of the sizes that rows have
+pub record IsSmall (m : Voyage) (r : Row) : Type 0 where
+  pub named : (whole m).has r ≡ true
+  pub right : unsigned_abs ((whole m).rhs r) ≤ 2 ^ 37
+  pub coefs : (v : ℕ) → v < length (variables m) → unsigned_abs ((whole m).coef r v) ≤ 2 ^ 17
+
+-- each is of such a row and at most 2^40, and each row stands once
+abbrev pub AreSmall : Voyage → Multipliers Row → Type 0
+AreSmall m [] = Unit {0}
+AreSmall m (x ∷ xs) = IsSmall m x.0 × (x.1 ≤ 2 ^ 40) × Lacks xs x.0 × AreSmall m xs
+
+-- these are a row's variables, each once, with their coefficients
+pub record AreTerms (m : Voyage) (r : Row) (ts : List Term) : Type 0 where
+  pub each : (x : ℕ) → Contains (map (λ t. t.var) ts) x ↔ Touches m r x
+  pub once : AllPairs (λ x y. x ≢ y) (map (λ t. t.var) ts)
+  pub coefs : All (λ t. t.coef ≡ (whole m).coef r t.var) ts
+  pub small : All (λ t. unsigned_abs t.coef ≤ 2 ^ 17) ts
+
+-- a row of the program with its right side and terms
+pub record IsListed (m : Voyage) (r : Row) (side : ℤ) (ts : List Term) : Type 0 where
+  pub row : (whole m).has r ≡ true
+  pub right : side ≡ (whole m).rhs r
+  pub low : unsigned_abs side ≤ 2 ^ 37
+  pub terms : AreTerms m r ts
+
+-- what a variable's part of the dual value gains where its reduced cost falls by a
+abbrev pub gap : Option Bool → ℤ → ℤ → ℤ
+gap o d a = least o (d -ℤ a) -ℤ least o d
+
+-- the sum of what the variables gain where a row's multiplier changes by so much
+abbrev pub gaps_of : Voyage → Box → List ℤ → Row → ℤ → ℤ
+gaps_of m b ds r by = sum_to (length (variables m)) (λ v. gap (at b v) (number_at ds v) (by *ℤ (whole m).coef r v))
+
+-- the sum of what the variables bring
+abbrev pub parts : Voyage → Box → List ℤ → ℤ
+parts m b ds = sum_to (length (variables m)) (λ v. least (at b v) (number_at ds v))
+
+-- the value is that of the reduced costs
+pub record Gauged (m : Voyage) (b : Box) (c : Costs) : Type 0 where
+  pub len : length c.reduced.items ≡ length (variables m)
+  pub value : c.value ≡ c.right +ℤ parts m b c.reduced.items
+
+-- reduced costs and value are those of these multipliers
+pub record Priced (m : Voyage) (b : Box) (ms : Multipliers Row) (c : Costs) : Type 0 where
+  pub gauged : Gauged m b c
+  pub right : c.right ≡ weighed_rhs (whole m) ms
+  pub reduced : (v : ℕ) → v < length (variables m) → number_at c.reduced.items v ≡ pos 16 *ℤ (whole m).cost v -ℤ weighed (whole m) ms v
+  pub small : AreSmall m ms
+
+-- small enough for one more raise
+pub record HasRoom (m : Voyage) (b : Box) (c : Costs) : Type 0 where
+  pub gauged : Gauged m b c
+  pub right : unsigned_abs c.right ≤ 2 ^ 98
+  pub reduced : (v : ℕ) → v < length (variables m) → unsigned_abs (number_at c.reduced.items v) ≤ 2 ^ 79
+  pub value : unsigned_abs c.value ≤ 2 ^ 100
+
+-- some multipliers have these costs
+abbrev pub PricedSome : Voyage → Box → Costs → Type 0
+PricedSome m b c = (ms : Multipliers Row) × Priced m b ms c
+
+-- this row's multiplier, raised by so much, makes the box worth so much more
+abbrev pub Gains : Voyage → Box → Multipliers Row → Row → ℕ → ℤ → Type 0
+Gains m b ms r more gain = worth (whole m) b (with_amount same_row ms r (amount_of same_row ms r + more)) ≡ worth (whole m) b ms +ℤ gain

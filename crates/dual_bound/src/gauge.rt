@@ -1,0 +1,128 @@
+//! A box and multipliers, with the dual value kept from step to step.
+ghost use Rattle.std.specs.Prelude.{◌≡◌, ◌+◌, ◌<◌, length, slice_get, slice_set, Some, None, [], IfOk};
+ghost use Rattle.proof_trees.specs.Multipliers.{worth};
+ghost use Rattle.zero_one_rows.specs.Variables.{variables};
+ghost use Rattle.zero_one_rows.specs.Rows.{whole};
+ghost use Rattle.dual_bound.specs.Raising.{Raises};
+ghost use Rattle.dual_bound.specs.Rising.{Ends};
+
+use crate::costs::Costs;
+use crate::multipliers::Multipliers;
+use crate::raising::{Raised, raise_kept};
+use crate::table::RowTable;
+use std::alloc::Global;
+use stow_data::{NoMemory, VarNo};
+use zero_one_model::{Box01, Model};
+use zero_one_rows::RaiseList;
+
+/// A box and multipliers of a program, with every reduced cost and the dual value, which are kept from step to step. Contracts see the voyage, the box and the multipliers.
+#[derive(Drop)]
+pub struct Gauge<'a> {
+    model: &'a Model<'a>,
+    b: Box01,
+    multipliers: Multipliers,
+    costs: Costs,
+}
+
+impl<'a> std::marker::Model for Gauge<'a> {
+    ghost use Rattle.dual_bound.specs.Gauging.{Gauging};
+
+    ghost Value = { Gauging };
+
+    ghost use Rattle.dual_bound.specs.GaugeRule.{gauging_of, IsGauge};
+
+    ghost view = { gauging_of };
+
+    ghost invariant = { IsGauge };
+}
+
+impl<'a> Gauge<'a> {
+    /// A box without multipliers.
+    pub fn start(alloc: Global, model: &'a Model<'a>, b: Box01) -> Result<Gauge<'a>, NoMemory>
+        requires { length b ≡ length (variables model.now) }
+        ensures { IfOk result (λ g. g ≡ record { voyage = model.now; box = b; multipliers = [] }) }
+    {
+        let costs = Costs::start(alloc, model, &b)?;
+        Ok(Gauge {
+            model,
+            b,
+            multipliers: Multipliers::zero(alloc),
+            costs,
+        })
+    }
+
+    /// The box.
+    pub fn current(&self) -> &Box01
+        ensures { result.now ≡ self.now.box }
+    {
+        &self.b
+    }
+
+    /// The multipliers.
+    pub fn multipliers(&self) -> &Multipliers
+        ensures { result.now ≡ self.now.multipliers }
+    {
+        &self.multipliers
+    }
+
+    /// The dual value of the box.
+    pub fn value(&self) -> i128
+        ensures { result ≡ worth (whole self.now.voyage) self.now.box self.now.multipliers }
+    {
+        self.costs.total()
+    }
+
+    /// The dual value that the box has with a free variable fixed.
+    pub fn other(&self, x: VarNo, value: bool) -> i128
+        requires { slice_get self.now.box x ≡ Some None }
+        ensures { result ≡ worth (whole self.now.voyage) (slice_set self.now.box x (Some value)) self.now.multipliers }
+    {
+        self.costs.other(self.model, &self.b, x, Some(value))
+    }
+
+    /// Fixes a free variable.
+    pub fn fix(&mut self, x: VarNo, value: bool)
+        requires { slice_get self.old.box x ≡ Some None }
+        ensures { self.new ≡ record self.old { box = slice_set self.old.box x (Some value) } }
+    {
+        self.costs.allow(self.model, &self.b, x, Some(value));
+        self.b.fix(x, value);
+    }
+
+    /// Frees a variable.
+    pub fn release(&mut self, x: VarNo)
+        requires { x < length self.old.box }
+        ensures { self.new ≡ record self.old { box = slice_set self.old.box x None } }
+    {
+        self.costs.allow(self.model, &self.b, x, None);
+        self.b.release(x);
+    }
+
+    /// Raises multipliers until the box closes at the cut, or no multiplier raised by 1 raises the dual value, or `most` raises are made. Each raise is appended to the list, also where memory is wanting after it.
+    pub fn raise(
+        &mut self,
+        alloc: Global,
+        table: &RowTable,
+        cut: u64,
+        most: u32,
+        raises: &mut RaiseList,
+    ) -> Raised
+        requires { table.now ≡ self.old.voyage }
+        ensures same { (self.new.voyage ≡ self.old.voyage) × (self.new.box ≡ self.old.box) }
+        ensures raised { Raises self.old.voyage self.old.box most self.old.multipliers self.new.multipliers raises.old raises.new }
+        ensures ends { Ends self.old.voyage self.old.box self.new.multipliers cut result }
+        ensures spent { result ≡ Raised.Spent → length raises.new ≡ length raises.old + most }
+    {
+        raise_kept(
+            alloc,
+            self.model,
+            table,
+            &self.b,
+            &mut self.multipliers,
+            &mut self.costs,
+            cut,
+            most,
+            raises,
+        )
+    }
+}

@@ -1,0 +1,17 @@
+//! Multipliers of a program's rows, the dual value of a box, and how multipliers are raised (weak duality with whole multipliers).
+#![tactic(auto)]
+
+mod costs;
+mod gauge;
+mod multipliers;
+mod plain_value;
+mod raising;
+mod sizes;
+mod table;
+mod terms;
+
+pub use gauge::Gauge;
+pub use multipliers::{AddNo, Multipliers};
+pub use plain_value::value;
+pub use raising::{Raised, raise, raise_by};
+pub use table::RowTable;

@@ -1,0 +1,487 @@
+//! Raises of multipliers.
+ghost use Rattle.std.specs.Prelude.{◌≡◌, ℕ, true, ◌+◌, ◌<◌, ◌≤◌, ◌^◌, length, slice_get, Some, None, Ok, IfOk, OnOk, OnErr, IfSome, IfNone, ◌⊎◌, IsTrue, ◌↔◌, pos, ◌-ℤ◌, ◌*ℤ◌, ◌<ℤ◌};
+ghost use Rattle.proof_trees.specs.Multipliers.{Multipliers as Prices, Closes, worth, amount_of, with_amount};
+ghost use Rattle.certificate.specs.Entries.{same_row};
+ghost use Rattle.zero_one_rows.specs.Variables.{variables};
+ghost use Rattle.zero_one_rows.specs.declared.program.Row.{Row as Rows};
+ghost use Rattle.zero_one_rows.specs.Rows.{whole};
+ghost use Rattle.program_rows.specs.Counted.{all_rows};
+ghost use Rattle.dual_bound.specs.Raising.{AreMultipliers, IsStuck, Raises};
+ghost use Rattle.dual_bound.specs.Costs.{IsListed, Priced, PricedSome};
+ghost use Rattle.dual_bound.specs.Rising.{raised_by, IsFlat, RisesBy, Rises, Ends};
+
+use crate::costs::Costs;
+use crate::multipliers::{MOST, Multipliers, copy_of};
+use crate::sizes::signed;
+use crate::table::RowTable;
+use crate::terms::{Listed, Term, list_row, terms_of};
+use std::alloc::Global;
+use stow_data::{NoMemory, Seq};
+use zero_one_model::{Box01, Model};
+use zero_one_rows::{Raise, RaiseList, Row};
+
+/// How raising ends.
+#[derive(Clone, Copy, Debug, PartialEq, Eq)]
+pub enum Raised {
+    /// The dual value is above 16 times the cut less 1: the box closes at the cut.
+    Reached,
+
+    /// It isn't, and no multiplier below 2^40, raised by 1, raises it.
+    Stuck,
+
+    /// Neither holds, and as many raises are made as are allowed.
+    Spent,
+    NoMemory,
+}
+
+/// A row whose multiplier can be raised with gain: its number in the order of rows, its right side and terms, and by how much.
+#[derive(Drop)]
+pub struct Rising {
+    pub number: u64,
+    pub row: Row,
+    pub right: i64,
+    pub terms: Seq<Term>,
+    pub more: u64,
+}
+
+impl Costs {
+    // Whether the last of so many raises by 1 still makes the box worth more: a guess.
+    fn still_gains(&self, model: &Model, b: &Box01, listed: Listed, more: u64) -> bool
+        requires whole { length b.now ≡ length (variables model.now) }
+        requires more { (1 ≤ more) × (more ≤ 2 ^ 40) }
+        requires listed { IsListed model.now listed.row.now listed.right listed.terms.now }
+        requires priced { PricedSome model.now b.now self.now }
+    {
+        self.gain(model, b, listed, more) > self.gain(model, b, listed, more - 1)
+    }
+
+    // A number of raises, doubled while the last still gains: a guess, of which only the range is claimed.
+    fn doubled(&self, model: &Model, b: &Box01, listed: Listed, room: u64) -> u64
+        requires whole { length b.now ≡ length (variables model.now) }
+        requires room { (1 ≤ room) × (room ≤ 2 ^ 40) }
+        requires listed { IsListed model.now listed.row.now listed.right listed.terms.now }
+        requires priced { PricedSome model.now b.now self.now }
+        ensures { (1 ≤ result) × (result ≤ room) }
+    {
+        let mut more = 1;
+        for _ in 0..40 {
+            if more > room / 2 || !self.still_gains(model, b, listed, 2 * more) {
+                return more;
+            }
+            more = 2 * more;
+        }
+        more
+    }
+
+    // How far a multiplier may be raised so that the last raise by 1 still gains: a guess, of which only the range is claimed.
+    fn guess(&self, model: &Model, b: &Box01, listed: Listed, room: u64) -> u64
+        requires whole { length b.now ≡ length (variables model.now) }
+        requires room { (1 ≤ room) × (room ≤ 2 ^ 40) }
+        requires listed { IsListed model.now listed.row.now listed.right listed.terms.now }
+        requires priced { PricedSome model.now b.now self.now }
+        ensures { (1 ≤ result) × (result ≤ room) }
+    {
+        let mut low = self.doubled(model, b, listed, room);
+        let mut step = low;
+        while step > 1 {
+            step /= 2;
+            if low + step <= room && self.still_gains(model, b, listed, low + step) {
+                low += step;
+            }
+        }
+        low
+    }
+
+    // How far to raise a row whose multiplier, raised by 1, makes the box worth more.
+    fn choose(&self, model: &Model, b: &Box01, listed: Listed, room: u64) -> u64
+        requires whole { length b.now ≡ length (variables model.now) }
+        requires room { (1 ≤ room) × (room ≤ 2 ^ 40) }
+        requires listed { IsListed model.now listed.row.now listed.right listed.terms.now }
+        requires priced { PricedSome model.now b.now self.now }
+        ensures range { (1 ≤ result) × (result ≤ room) }
+        ensures much { (ms : Prices Rows) → Priced model.now b.now ms self.now
+            → worth (whole model.now) b.now ms <ℤ worth (whole model.now) b.now (raised_by ms listed.entry.row.now 1)
+            → worth (whole model.now) b.now ms <ℤ worth (whole model.now) b.now (raised_by ms listed.entry.row.now result) }
+    {
+        let more = self.guess(model, b, listed, room);
+        if self.gain(model, b, listed, more) > 0 {
+            return more;
+        }
+        1
+    }
+
+    // By how much to raise a row with gain; None where its multiplier, raised by 1, brings nothing.
+    fn chance(&self, model: &Model, b: &Box01, m: &Multipliers, listed: Listed) -> Option<u64>
+        requires whole { length b.now ≡ length (variables model.now) }
+        requires listed { IsListed model.now listed.row.now listed.right listed.terms.now }
+        requires priced { Priced model.now b.now m.now self.now }
+        ensures none { IfNone result (IsFlat model.now b.now m.now listed.entry.row.now) }
+        ensures some { IfSome result (λ more. RisesBy model.now b.now m.now listed.entry.row.now more) }
+    {
+        if self.gain(model, b, listed, 1) <= 0 {
+            return None;
+        }
+        let amount = m.amount(m.place(listed.row));
+        if amount >= MOST {
+            return None;
+        }
+        Some(self.choose(model, b, listed, MOST - amount))
+    }
+
+    // Whether the value is above 16 times the cut less 1.
+    fn is_above(&self, cut: u64) -> bool
+        ensures { IsTrue result ↔ (pos 16 *ℤ (pos cut -ℤ pos 1)) <ℤ self.now.value }
+    {
+        self.value > 16 * (cut as i128 - 1)
+    }
+
+    // Whether the box closes at the cut.
+    fn closes(&self, model: &Model, b: &Box01, m: &Multipliers, cut: u64) -> bool
+        requires { Priced model.now b.now m.now self.now }
+        ensures { IsTrue result ↔ Closes (whole model.now) b.now m.now cut }
+    {
+        self.is_above(cut)
+    }
+}
+
+// A row with gain, as it is to be raised; None where its multiplier, raised by 1, brings nothing.
+fn rising_of(
+    alloc: Global,
+    model: &Model,
+    b: &Box01,
+    m: &Multipliers,
+    costs: &Costs,
+    number: u64,
+    listed: Listed,
+) -> Result<Option<Rising>, NoMemory>
+    requires whole { length b.now ≡ length (variables model.now) }
+    requires listed { IsListed model.now listed.row.now listed.right listed.terms.now }
+    requires priced { Priced model.now b.now m.now costs.now }
+    ensures none { result ≡ Ok None → IsFlat model.now b.now m.now listed.entry.row.now }
+    ensures some { IfOk result (λ o. IfSome o (λ c. Rises model.now b.now m.now c)) }
+{
+    let Some(more) = costs.chance(model, b, m, listed) else {
+        return Ok(None);
+    };
+    Ok(Some(Rising {
+        number,
+        row: copy_of(listed.row)?,
+        right: listed.right,
+        terms: Seq::of(alloc, listed.terms)?,
+        more,
+    }))
+}
+
+// Looks at the row with this number: whether its multiplier can be raised by 1 with gain, and then by how much.
+fn look(
+    alloc: Global,
+    model: &Model,
+    table: &RowTable,
+    b: &Box01,
+    m: &Multipliers,
+    costs: &Costs,
+    number: u64,
+) -> Result<Option<Rising>, NoMemory>
+    requires number { number < length (all_rows model.now) }
+    requires table { table.now ≡ model.now }
+    requires whole { length b.now ≡ length (variables model.now) }
+    requires priced { Priced model.now b.now m.now costs.now }
+    ensures none { result ≡ Ok None → (r : Rows) → slice_get (all_rows model.now) number ≡ Some r → IsFlat model.now b.now m.now r }
+    ensures some { IfOk result (λ o. IfSome o (λ c. Rises model.now b.now m.now c)) }
+{
+    let row = model.row_at(number);
+    if let Some((right, terms)) = table.row(number) {
+        let listed = Listed {
+            row: &row,
+            right,
+            terms,
+        };
+        return rising_of(alloc, model, b, m, costs, number, listed);
+    }
+    let terms = terms_of(alloc, model, &row)?;
+    let listed = list_row(model, &row, terms.as_slice());
+    rising_of(alloc, model, b, m, costs, number, listed)
+}
+
+// The first row that can be raised with gain, among those with numbers in a range.
+fn find_between(
+    alloc: Global,
+    model: &Model,
+    table: &RowTable,
+    b: &Box01,
+    m: &Multipliers,
+    costs: &Costs,
+    from: u64,
+    to: u64,
+) -> Result<Option<Rising>, NoMemory>
+    requires to { to ≤ length (all_rows model.now) }
+    requires table { table.now ≡ model.now }
+    requires whole { length b.now ≡ length (variables model.now) }
+    requires priced { Priced model.now b.now m.now costs.now }
+    ensures none { result ≡ Ok None → (k : ℕ) (r : Rows) → from ≤ k → k < to → slice_get (all_rows model.now) k ≡ Some r → IsFlat model.now b.now m.now r }
+    ensures some { IfOk result (λ o. IfSome o (λ c. Rises model.now b.now m.now c)) }
+{
+    for number in from..to {
+        let found = look(alloc, model, table, b, m, costs, number)?;
+        if found.is_some() {
+            return Ok(found);
+        }
+    }
+    Ok(None)
+}
+
+// A row that can be raised with gain, the first from this number on, or else from the first row on.
+fn find(
+    alloc: Global,
+    model: &Model,
+    table: &RowTable,
+    b: &Box01,
+    m: &Multipliers,
+    costs: &Costs,
+    from: u64,
+) -> Result<Option<Rising>, NoMemory>
+    requires table { table.now ≡ model.now }
+    requires whole { length b.now ≡ length (variables model.now) }
+    requires priced { Priced model.now b.now m.now costs.now }
+    ensures none { result ≡ Ok None → IsStuck model.now b.now m.now }
+    ensures some { IfOk result (λ o. IfSome o (λ c. Rises model.now b.now m.now c)) }
+{
+    let rows = model.rows();
+    let from = from.min(rows);
+    match find_between(alloc, model, table, b, m, costs, from, rows)? {
+        Some(rising) => Ok(Some(rising)),
+        None => find_between(alloc, model, table, b, m, costs, 0, from),
+    }
+}
+
+// Makes one raise, and appends it. After want of memory nothing is changed.
+fn step(
+    model: &Model,
+    b: &Box01,
+    m: &mut Multipliers,
+    costs: &mut Costs,
+    rising: &Rising,
+    raises: &mut RaiseList,
+) -> Result<(), NoMemory>
+    requires whole { length b.now ≡ length (variables model.now) }
+    requires priced { Priced model.now b.now m.old costs.old }
+    requires rises { Rises model.now b.now m.old rising.now }
+    ensures priced { Priced model.now b.now m.new costs.new }
+    ensures raised { OnOk result (Raises model.now b.now 1 m.old m.new raises.old raises.new) }
+    ensures one { OnOk result (length raises.new ≡ length raises.old + 1) }
+    ensures refused { OnErr result ((m.new ≡ m.old) × (raises.new ≡ raises.old)) }
+{
+    let by = signed(rising.more);
+    let raise = Raise {
+        row: copy_of(&rising.row)?,
+        amount: by,
+    };
+    let place = m.place(&rising.row);
+    let old = m.amount(place);
+    m.give(place, copy_of(&rising.row)?, old + rising.more)?;
+    if raises.push(raise).is_err() {
+        m.take_back(place, old);
+        return Err(NoMemory);
+    }
+    let listed = Listed {
+        row: &rising.row,
+        right: rising.right,
+        terms: rising.terms.as_slice(),
+    };
+    costs.add_row(model, b, listed, by);
+    Ok(())
+}
+
+// How raising ends after the last raise that is allowed.
+fn last(
+    alloc: Global,
+    model: &Model,
+    table: &RowTable,
+    b: &Box01,
+    m: &Multipliers,
+    costs: &Costs,
+    cut: u64,
+) -> Raised
+    requires table { table.now ≡ model.now }
+    requires whole { length b.now ≡ length (variables model.now) }
+    requires priced { Priced model.now b.now m.now costs.now }
+    ensures { Ends model.now b.now m.now cut result }
+{
+    if costs.closes(model, b, m, cut) {
+        return Raised::Reached;
+    }
+    match find(alloc, model, table, b, m, costs, 0) {
+        Err(_) => Raised::NoMemory,
+        Ok(None) => Raised::Stuck,
+        Ok(Some(_)) => Raised::Spent,
+    }
+}
+
+// Makes one raise where the box doesn't close at the cut and some row can be raised with gain; else says how raising ends, with nothing changed.
+fn turn(
+    alloc: Global,
+    model: &Model,
+    table: &RowTable,
+    b: &Box01,
+    m: &mut Multipliers,
+    costs: &mut Costs,
+    cut: u64,
+    from: &mut u64,
+    raises: &mut RaiseList,
+) -> Option<Raised>
+    requires table { table.now ≡ model.now }
+    requires whole { length b.now ≡ length (variables model.now) }
+    requires priced { Priced model.now b.now m.old costs.old }
+    ensures priced { Priced model.now b.now m.new costs.new }
+    ensures raised { IfNone result (Raises model.now b.now 1 m.old m.new raises.old raises.new) }
+    ensures one { IfNone result (length raises.new ≡ length raises.old + 1) }
+    ensures same { IfSome result (λ e. (m.new ≡ m.old) × (raises.new ≡ raises.old)) }
+    ensures ends { IfSome result (λ e. Ends model.now b.now m.new cut e) }
+    ensures not_spent { result ≡ Some Raised.Spent → ⊥ }
+{
+    if costs.closes(model, b, m, cut) {
+        return Some(Raised::Reached);
+    }
+    let Ok(found) = find(alloc, model, table, b, m, costs, *from) else {
+        return Some(Raised::NoMemory);
+    };
+    let Some(rising) = found else {
+        return Some(Raised::Stuck);
+    };
+    if step(model, b, m, costs, &rising, raises).is_err() {
+        return Some(Raised::NoMemory);
+    }
+    *from = rising.number;
+    None
+}
+
+/// Raises multipliers whose costs are kept.
+pub fn raise_kept(
+    alloc: Global,
+    model: &Model,
+    table: &RowTable,
+    b: &Box01,
+    m: &mut Multipliers,
+    costs: &mut Costs,
+    cut: u64,
+    most: u32,
+    raises: &mut RaiseList,
+) -> Raised
+    requires table { table.now ≡ model.now }
+    requires whole { length b.now ≡ length (variables model.now) }
+    requires priced { Priced model.now b.now m.old costs.old }
+    ensures priced { Priced model.now b.now m.new costs.new }
+    ensures raised { Raises model.now b.now most m.old m.new raises.old raises.new }
+    ensures ends { Ends model.now b.now m.new cut result }
+    ensures spent { result ≡ Raised.Spent → length raises.new ≡ length raises.old + most }
+{
+    let mut from = 0;
+    for _ in 0..most {
+        if let Some(end) = turn(alloc, model, table, b, m, costs, cut, &mut from, raises) {
+            return end;
+        }
+    }
+    last(alloc, model, table, b, m, costs, cut)
+}
+
+// Adds a row without a multiplier to costs, with this one.
+fn add_entry(
+    alloc: Global,
+    model: &Model,
+    table: &RowTable,
+    b: &Box01,
+    costs: &mut Costs,
+    row: &Row,
+    amount: u64,
+) -> Result<(), NoMemory>
+    requires row { (whole model.now).has row.now ≡ true }
+    requires amount { amount ≤ 2 ^ 40 }
+    requires table { table.now ≡ model.now }
+    requires whole { length b.now ≡ length (variables model.now) }
+    requires priced { PricedSome model.now b.now costs.old }
+    ensures { (ms : Prices Rows) → Priced model.now b.now ms costs.old → amount_of same_row ms row.now ≡ 0 → OnOk result (Priced model.now b.now (with_amount same_row ms row.now amount) costs.new) }
+{
+    if let Some(number) = model.row_number(row) {
+        if let Some((right, terms)) = table.row(number) {
+            let listed = Listed { row, right, terms };
+            costs.add_row(model, b, listed, signed(amount));
+            return Ok(());
+        }
+    }
+    let terms = terms_of(alloc, model, row)?;
+    let listed = list_row(model, row, terms.as_slice());
+    costs.add_row(model, b, listed, signed(amount));
+    Ok(())
+}
+
+// The costs of multipliers in a box.
+fn price(
+    alloc: Global,
+    model: &Model,
+    table: &RowTable,
+    b: &Box01,
+    m: &Multipliers,
+) -> Result<Costs, NoMemory>
+    requires multipliers { AreMultipliers model.now m.now }
+    requires table { table.now ≡ model.now }
+    requires whole { length b.now ≡ length (variables model.now) }
+    ensures { IfOk result (λ c. Priced model.now b.now m.now c) }
+{
+    let mut costs = Costs::start(alloc, model, b)?;
+    for entry in m.as_slice() {
+        add_entry(alloc, model, table, b, &mut costs, &entry.0, entry.1)?;
+    }
+    Ok(costs)
+}
+
+/// As `raise`, with a table of the program's rows at hand, which makes it fast: raises multipliers until the box closes at the cut, or no multiplier raised by 1 raises the dual value, or `most` raises are made. Each raise is appended to the list, also where memory is wanting after it.
+pub fn raise_by(
+    alloc: Global,
+    model: &Model,
+    table: &RowTable,
+    b: &Box01,
+    m: &mut Multipliers,
+    cut: u64,
+    most: u32,
+    raises: &mut RaiseList,
+) -> Raised
+    requires multipliers { AreMultipliers model.now m.old }
+    requires table { table.now ≡ model.now }
+    requires whole { length b.now ≡ length (variables model.now) }
+    ensures raised { Raises model.now b.now most m.old m.new raises.old raises.new }
+    ensures kept { AreMultipliers model.now m.new }
+    ensures reached { result ≡ Raised.Reached → Closes (whole model.now) b.now m.new cut }
+    ensures not_reached { (result ≡ Raised.Stuck) ⊎ (result ≡ Raised.Spent) → Closes (whole model.now) b.now m.new cut → ⊥ }
+    ensures stuck { result ≡ Raised.Stuck → IsStuck model.now b.now m.new }
+    ensures not_stuck { result ≡ Raised.Spent → IsStuck model.now b.now m.new → ⊥ }
+    ensures spent { result ≡ Raised.Spent → length raises.new ≡ length raises.old + most }
+{
+    let Ok(mut costs) = price(alloc, model, table, b, m) else {
+        return Raised::NoMemory;
+    };
+    raise_kept(alloc, model, table, b, m, &mut costs, cut, most, raises)
+}
+
+/// Raises multipliers until the box closes at the cut, or no multiplier raised by 1 raises the dual value, or `most` raises are made. Each raise is appended to the list, also where memory is wanting after it.
+pub fn raise(
+    alloc: Global,
+    model: &Model,
+    b: &Box01,
+    m: &mut Multipliers,
+    cut: u64,
+    most: u32,
+    raises: &mut RaiseList,
+) -> Raised
+    requires multipliers { AreMultipliers model.now m.old }
+    requires whole { length b.now ≡ length (variables model.now) }
+    ensures raised { Raises model.now b.now most m.old m.new raises.old raises.new }
+    ensures kept { AreMultipliers model.now m.new }
+    ensures reached { result ≡ Raised.Reached → Closes (whole model.now) b.now m.new cut }
+    ensures not_reached { (result ≡ Raised.Stuck) ⊎ (result ≡ Raised.Spent) → Closes (whole model.now) b.now m.new cut → ⊥ }
+    ensures stuck { result ≡ Raised.Stuck → IsStuck model.now b.now m.new }
+    ensures not_stuck { result ≡ Raised.Spent → IsStuck model.now b.now m.new → ⊥ }
+    ensures spent { result ≡ Raised.Spent → length raises.new ≡ length raises.old + most }
+{
+    let table = RowTable::none(alloc, model);
+    raise_by(alloc, model, &table, b, m, cut, most, raises)
+}
