@@ -4,7 +4,7 @@ use borrow.Author.Differences.{ints}
 use Rattle.proof_trees.specs.Multipliers.{Multipliers, dot, amount_of, with_amount}
 use Rattle.zero_one_rows.specs.declared.program.Row.{Row}
 use Rattle.zero_one_rows.specs.Variables.{Voyage}
-use Rattle.bound_checker.specs.Entries.{same_row}
+use Rattle.certificate.specs.Entries.{same_row}
 use Rattle.bound_checker.specs.Sums.{Lacks, AreSmall}
 use Rattle.bound_checker.proofs.RowsAlike.{same_equal, same_itself}
 use Rattle.bound_checker.proofs.Multiplied.{amount_with}

@@ -13,7 +13,7 @@ use Rattle.proof_trees.specs.Multipliers.{Multipliers, worth, Closes, raised, ra
 use Rattle.proof_trees.specs.Trees.{End, Leaf, Left, Branch, Entry, Pending, begun, EndProves, ProveAll}
 use Rattle.certificate.specs.declared.refusals.BoundNo.{BoundNo}
 use Rattle.certificate.specs.declared.refusals.BoundNo.TheVariants.{Multiplier, StepRow, BranchFixed, LeafShort}
-use Rattle.bound_checker.specs.Entries.{same_row}
+use Rattle.certificate.specs.Entries.{same_row}
 use Rattle.bound_checker.proofs.InOrder.{failed}
 use Rattle.bound_checker.specs.Faults.{needed, step_fault, raised_rows, short_fault, end_fault, tree_fault}
 

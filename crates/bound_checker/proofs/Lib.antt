@@ -17,3 +17,4 @@ pub mod Bounding
 pub mod Stepping
 pub mod Numbered
 pub mod Walks
+pub mod FewRecords

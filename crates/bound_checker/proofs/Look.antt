@@ -8,7 +8,7 @@ use Rattle.std.specs.BTreeMap.{is_at}
 use Rattle.zero_one_rows.specs.declared.program.Row.{Row}
 use Rattle.zero_one_rows.specs.contracts.program.RowOrd.TheImpl as order
 use Rattle.proof_trees.specs.Multipliers.{amount_of}
-use Rattle.bound_checker.specs.Entries.{same_row}
+use Rattle.certificate.specs.Entries.{same_row}
 use Rattle.bound_checker.proofs.RowsAlike.{same_equal, same_itself, bits_equal}
 use Rattle.bound_checker.proofs.RowsOrdered.{order_same}
 

@@ -6,7 +6,7 @@ use Rattle.zero_one_rows.specs.declared.program.Var.{Var}
 use Rattle.zero_one_rows.specs.Variables.{Voyage, variables, var, no_var}
 use Rattle.program_rows.proofs.Rising.{rising_get}
 use Rattle.zero_one_model.proofs.Rising.{Precedes, by_put, by_kind, by_lifted, by_place, variables_rise}
-use Rattle.bound_checker.specs.Entries.{same_var, number_of}
+use Rattle.certificate.specs.Entries.{same_var, number_of}
 
 both : (a b : Bool) → (a && b) ≡ true → (a ≡ true) × (b ≡ true)
 both true b h = (refl, h)

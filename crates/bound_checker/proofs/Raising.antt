@@ -12,7 +12,7 @@ use Rattle.certificate.specs.declared.refusals.BoundNo.TheVariants.{Multiplier, 
 use Rattle.bound_checker.specs.declared.sums.Sums.{Sums}
 use Rattle.bound_checker.specs.declared.prices.Change.{Change}
 use Rattle.bound_checker.specs.declared.prices.Prices.{Prices}
-use Rattle.bound_checker.specs.Entries.{same_row}
+use Rattle.certificate.specs.Entries.{same_row}
 use Rattle.bound_checker.specs.Faults.{raised_row}
 use Rattle.bound_checker.specs.Sums.{in_range, weight_at, IsSmall, AreSmall, Carries, HasRoom}
 use Rattle.bound_checker.specs.Prices.{Holds, Ends}

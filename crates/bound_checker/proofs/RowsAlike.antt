@@ -5,7 +5,7 @@ use Rattle.std.specs.Cmp.Lexicographic.{pointwise}
 use Rattle.std.proofs.lemmas.Bool.Decides.{nat_tests}
 use Rattle.zero_one_rows.specs.declared.program.Row.{Row}
 use Rattle.zero_one_rows.specs.declared.program.Row.TheVariants.{Flow, Start, Cell, Support, Twenty, Block, Hatch, Weight, Apart, Cross}
-use Rattle.bound_checker.specs.Entries.{same_row}
+use Rattle.certificate.specs.Entries.{same_row}
 
 both : (a b : Bool) → (a && b) ≡ true → (a ≡ true) × (b ≡ true)
 both true b h = (refl, h)

@@ -6,7 +6,7 @@ use Rattle.zero_one_rows.specs.Variables.{Voyage}
 use Rattle.program_rows.specs.Counted.{all_rows}
 use Rattle.program_rows.proofs.EveryRow.{row_listed}
 use Rattle.proof_trees.specs.Multipliers.{Multipliers}
-use Rattle.bound_checker.specs.Entries.{same_row}
+use Rattle.certificate.specs.Entries.{same_row}
 use Rattle.bound_checker.specs.Sums.{Lacks, AreSmall}
 use Rattle.bound_checker.proofs.RowsAlike.{same_itself}
 

@@ -6,7 +6,7 @@ use Rattle.zero_one_rows.specs.declared.program.Row.TheVariants.{Flow, Start, Ce
 use Rattle.zero_one_rows.specs.contracts.program.RowPartialEq.TheImpl as equality
 use Rattle.zero_one_rows.specs.contracts.program.RowOrd.TheImpl as order
 use Rattle.zero_one_rows.specs.contracts.program.RowOrd.TheImpl.Laws.{matches_eq-law}
-use Rattle.bound_checker.specs.Entries.{same_row}
+use Rattle.certificate.specs.Entries.{same_row}
 
 equal_same : (r s : Row) → equality.ghosts.eq r s ≡ same_row r s
 equal_same (Flow q i g) (Flow q' i' g') = refl

@@ -10,7 +10,7 @@ use Rattle.zero_one_rows.specs.Variables.{Voyage, variables}
 use Rattle.zero_one_rows.specs.Rows.{whole}
 use Rattle.proof_trees.specs.Boxes.{Box, at, fixed, tightened}
 use Rattle.proof_trees.specs.Multipliers.{Multipliers}
-use Rattle.proof_trees.specs.Trees.{End, Leaf, Left, Branch, Entry, Pending, begun}
+use Rattle.proof_trees.specs.Trees.{End, Leaf, Left, Branch, Entry, Pending, begun, root}
 use Rattle.certificate.specs.declared.tree.End.{End as Told}
 use Rattle.certificate.specs.declared.tree.End.TheVariants as told
 use Rattle.certificate.specs.declared.refusals.BoundNo.{BoundNo}
@@ -19,13 +19,16 @@ use Rattle.partial_plan.specs.Fixing.{released, Fixes}
 use Rattle.partial_plan.proofs.Freeing.{freed_length, fixes_one}
 use Rattle.bound_checker.specs.declared.prices.Change.{Change}
 use Rattle.bound_checker.specs.declared.walk.Frame.{Frame}
+use Rattle.bound_checker.specs.declared.walk.Bounds.{Bounds}
 use Rattle.bound_checker.specs.declared.walk.Walk.{Walk}
-use Rattle.bound_checker.specs.Entries.{end_of}
-use Rattle.bound_checker.specs.Faults.{step_fault, raised_rows, short_fault, end_fault, tree_fault}
+use Rattle.certificate.specs.declared.tree.Record.{Record}
+use Rattle.certificate.specs.Entries.{end_of, entry_of, number_of}
+use Rattle.bound_checker.specs.Faults.{step_fault, raised_rows, short_fault, end_fault, tree_fault, first_fault}
+use Rattle.bound_checker.proofs.Bounding.{up_to}
 use Rattle.bound_checker.specs.Sums.{AreSmall, Carries}
 use Rattle.bound_checker.specs.Waits.{Before, IsSound, Waits, AllWait}
 use Rattle.bound_checker.specs.Prices.{Holds, Ends}
-use Rattle.bound_checker.specs.Walks.{Stands, StandsSome, IsAt, IsSomewhere, Opens, Closes, Takes}
+use Rattle.bound_checker.specs.Walks.{Stands, StandsSome, IsAt, IsSomewhere, Narrows, Opens, Closes, Takes}
 use Rattle.bound_checker.proofs.Waiting.{still_wait, moves_none, divided}
 
 no_two : (b : Bool) → b ≡ true → b ≡ false → ⊥
@@ -41,69 +44,94 @@ stands_some m w at going = by at.0 at.1
     by [] h = absurd (no_two w.done h going)
     by (q ∷ qs) h = (q, qs, h)
 
-module _ (m : Voyage) (bound node : ℕ) where
-  pub too_long : (w v : Walk) (qs : List (Pending Row)) (e : Entry Row) → w.done ≡ true → IsAt m w qs → Takes m bound node qs e (Err TreeTooLong) v
+none_first : {A : Type 0} (o q : Option A) → option_or o q ≡ None → o ≡ None
+none_first None q e = refl
+none_first (Some x) q e = e
+
+module _ (m : Voyage) (bounds : Bounds) (node : ℕ) where
+  pub too_long : (w v : Walk) (qs : List (Pending Row)) (e : Entry Row) → w.done ≡ true → IsAt m w qs → Takes m bounds node qs e (Err TreeTooLong) v
   too_long w v [] e done h = λ other es. refl
   too_long w v (q ∷ qs) e done h = absurd (no_two w.done done h.in_hand)
 
   pub opens_some : (w v : Walk) (e : Entry Row) → StandsSome m w → ((q : Pending Row) (qs : List (Pending Row)) → Stands m w q qs → Opens m node q qs e (Ok tt) v) → StandsSome m v
   opens_some w v e some opens = let o = opens some.0 some.1 some.2 in (record { box = tightened (whole m) some.0.box e.steps; multipliers = o.1.0 }, some.1, o.1.2)
 
-  abbrev end_of_record : List (Entry Row) → List (Pending Row) → Box → Result (Multipliers Row) BoundNo → End → Option BoundNo
-  end_of_record es qs b o end = end_fault (whole m) bound (λ boxes. tree_fault (whole m) bound (node + 1) boxes es) node qs b o end
+  abbrev end_of_record : ℕ → List (Entry Row) → List (Pending Row) → Box → Result (Multipliers Row) BoundNo → End → Option BoundNo
+  end_of_record bound es qs b o end = end_fault (whole m) bound (λ boxes. tree_fault (whole m) bound (node + 1) boxes es) node qs b o end
 
-  opened_fault : (q : Pending Row) (qs : List (Pending Row)) (e : Entry Row) (ms : Multipliers Row) (es : List (Entry Row)) → step_fault (whole m) node e.steps ≡ None → raised_rows (whole m) node (Ok (begun e.from_zero q.multipliers)) e.raises ≡ Ok ms
-      → tree_fault (whole m) bound node (q ∷ qs) (e ∷ es) ≡ end_of_record es qs (tightened (whole m) q.box e.steps) (Ok ms) e.end
-  opened_fault q qs e ms es none raised =
-      ap (λ (o : Option BoundNo). option_or o (end_of_record es qs (tightened (whole m) q.box e.steps) (raised_rows (whole m) node (Ok (begun e.from_zero q.multipliers)) e.raises) e.end)) none
-      ∙ ap (λ (o : Result (Multipliers Row) BoundNo). end_of_record es qs (tightened (whole m) q.box e.steps) o e.end) raised
+  opened_fault : (bound : ℕ) (q : Pending Row) (qs : List (Pending Row)) (e : Entry Row) (ms : Multipliers Row) (es : List (Entry Row)) → step_fault (whole m) node e.steps ≡ None → raised_rows (whole m) node (Ok (begun e.from_zero q.multipliers)) e.raises ≡ Ok ms
+      → tree_fault (whole m) bound node (q ∷ qs) (e ∷ es) ≡ end_of_record bound es qs (tightened (whole m) q.box e.steps) (Ok ms) e.end
+  opened_fault bound q qs e ms es none raised =
+      ap (λ (o : Option BoundNo). option_or o (end_of_record bound es qs (tightened (whole m) q.box e.steps) (raised_rows (whole m) node (Ok (begun e.from_zero q.multipliers)) e.raises) e.end)) none
+      ∙ ap (λ (o : Result (Multipliers Row) BoundNo). end_of_record bound es qs (tightened (whole m) q.box e.steps) o e.end) raised
 
   -- a record is opened, and its end taken
-  pub taken : (w v u : Walk) (qs : List (Pending Row)) (e : Entry Row) (r : Result (Unit {0}) BoundNo) → w.done ≡ false → IsAt m w qs
+  pub taken : (w v u : Walk) (qs : List (Pending Row)) (e : Entry Row) (r : Result ℕ BoundNo) → w.done ≡ false → IsAt m w qs
       → ((q : Pending Row) (qs : List (Pending Row)) → Stands m w q qs → Opens m node q qs e (Ok tt) v)
-      → ((q : Pending Row) (qs : List (Pending Row)) → Stands m v q qs → Closes m bound node q qs e.end r u) → Takes m bound node qs e r u
+      → ((q : Pending Row) (qs : List (Pending Row)) → Stands m v q qs → Closes m bounds node q qs e.end r u) → Takes m bounds node qs e r u
   taken w v u [] e r going at opens closes = absurd (no_two w.done at going)
-  taken w v u (q ∷ qs) e (Ok x) going at opens closes =
+  taken w v u (q ∷ qs) e (Ok best) going at opens closes =
       let o = opens q qs at in
-      let c = closes (record { box = tightened (whole m) q.box e.steps; multipliers = o.1.0 }) qs o.1.2 in
-      (c.0, c.1, λ es. opened_fault q qs e o.1.0 es o.0 o.1.1 ∙ c.2 (λ boxes. tree_fault (whole m) bound (node + 1) boxes es))
+      let c = closes (record { box = tightened (whole m) q.box e.steps; multipliers = o.1.0 }) qs o.1.2 in (
+        c.0,
+        c.1,
+        record {
+          from = c.2.from;
+          to = c.2.to;
+          passes = λ bound le es. opened_fault bound q qs e o.1.0 es o.0 o.1.1 ∙ c.2.passes bound le (λ boxes. tree_fault (whole m) bound (node + 1) boxes es);
+          fails = λ bound lt le es none. c.2.fails bound lt le (λ boxes. tree_fault (whole m) bound (node + 1) boxes es) (sym (opened_fault bound q qs e o.1.0 es o.0 o.1.1) ∙ none);
+        },
+      )
   taken w v u (q ∷ qs) e (Err f) going at opens closes = λ other es.
       let o = opens q qs at in
       let c = closes (record { box = tightened (whole m) q.box e.steps; multipliers = o.1.0 }) qs o.1.2 in
-      opened_fault q qs e o.1.0 es o.0 o.1.1 ∙ c other (λ boxes. tree_fault (whole m) bound (node + 1) boxes es)
+      opened_fault bounds.low q qs e o.1.0 es o.0 o.1.1 ∙ c other (λ boxes. tree_fault (whole m) bounds.low (node + 1) boxes es)
 
   -- a record whose steps or raises have a fault
   not_opened : (w v : Walk) (qs : List (Pending Row)) (e : Entry Row) (f : BoundNo) → w.done ≡ false → IsAt m w qs
-      → ((q : Pending Row) (qs : List (Pending Row)) → Stands m w q qs → Opens m node q qs e (Err f) v) → Takes m bound node qs e (Err f) v
+      → ((q : Pending Row) (qs : List (Pending Row)) → Stands m w q qs → Opens m node q qs e (Err f) v) → Takes m bounds node qs e (Err f) v
   not_opened w v [] e f going at opens = absurd (no_two w.done at going)
   not_opened w v (q ∷ qs) e f going at opens = λ other es. by es (opens q qs at other)
     where
       by : (es : List (Entry Row)) → (step_fault (whole m) node e.steps ≡ Some f) ⊎ ((step_fault (whole m) node e.steps ≡ None) × (raised_rows (whole m) node (Ok (begun e.from_zero q.multipliers)) e.raises ≡ Err f))
-          → tree_fault (whole m) bound node (q ∷ qs) (e ∷ es) ≡ Some f
-      by es (inl step) = ap (λ (o : Option BoundNo). option_or o (end_of_record es qs (tightened (whole m) q.box e.steps) (raised_rows (whole m) node (Ok (begun e.from_zero q.multipliers)) e.raises) e.end)) step
-      by es (inr h) = ap (λ (o : Option BoundNo). option_or o (end_of_record es qs (tightened (whole m) q.box e.steps) (raised_rows (whole m) node (Ok (begun e.from_zero q.multipliers)) e.raises) e.end)) h.0 ∙ ap (λ (o : Result (Multipliers Row) BoundNo). end_of_record es qs (tightened (whole m) q.box e.steps) o e.end) h.1
+          → tree_fault (whole m) bounds.low node (q ∷ qs) (e ∷ es) ≡ Some f
+      by es (inl step) = ap (λ (o : Option BoundNo). option_or o (end_of_record bounds.low es qs (tightened (whole m) q.box e.steps) (raised_rows (whole m) node (Ok (begun e.from_zero q.multipliers)) e.raises) e.end)) step
+      by es (inr h) = ap (λ (o : Option BoundNo). option_or o (end_of_record bounds.low es qs (tightened (whole m) q.box e.steps) (raised_rows (whole m) node (Ok (begun e.from_zero q.multipliers)) e.raises) e.end)) h.0 ∙ ap (λ (o : Result (Multipliers Row) BoundNo). end_of_record bounds.low es qs (tightened (whole m) q.box e.steps) o e.end) h.1
 
-  pub fails_open : (w v : Walk) (qs : List (Pending Row)) (e : Entry Row) (r : Result (Unit {0}) BoundNo) (f : BoundNo) → r ≡ Err f → w.done ≡ false → IsAt m w qs
-      → ((q : Pending Row) (qs : List (Pending Row)) → Stands m w q qs → Opens m node q qs e (Err f) v) → Takes m bound node qs e r v
-  fails_open w v qs e r f is going at opens = subst (λ (r : Result (Unit {0}) BoundNo). Takes m bound node qs e r v) (sym is) (not_opened w v qs e f going at opens)
+  pub fails_open : (w v : Walk) (qs : List (Pending Row)) (e : Entry Row) (r : Result ℕ BoundNo) (f : BoundNo) → r ≡ Err f → w.done ≡ false → IsAt m w qs
+      → ((q : Pending Row) (qs : List (Pending Row)) → Stands m w q qs → Opens m node q qs e (Err f) v) → Takes m bounds node qs e r v
+  fails_open w v qs e r f is going at opens = subst (λ (r : Result ℕ BoundNo). Takes m bounds node qs e r v) (sym is) (not_opened w v qs e f going at opens)
 
   -- ## Ends
 
-  pub left_too : (q : Pending Row) (qs : List (Pending Row)) (r : Result (Unit {0}) BoundNo) (w : Walk) → Closes m bound node q qs Leaf r w → Closes m bound node q qs Left r w
-  left_too q qs (Ok u) w h = h
+  pub left_too : (q : Pending Row) (qs : List (Pending Row)) (r : Result ℕ BoundNo) (w : Walk) → Closes m bounds node q qs Leaf r w → Closes m bounds node q qs Left r w
+  left_too q qs (Ok best) w h = h
   left_too q qs (Err f) w h = h
 
-  pub leaf_or_left : (q : Pending Row) (qs : List (Pending Row)) (end : Told) (r : Result (Unit {0}) BoundNo) (w : Walk) → (end ≡ told.Leaf) ⊎ (end ≡ told.Left) → Closes m bound node q qs Leaf r w → Closes m bound node q qs (end_of m end) r w
-  leaf_or_left q qs end r w (inl e) h = subst (λ (x : Told). Closes m bound node q qs (end_of m x) r w) (sym e) h
-  leaf_or_left q qs end r w (inr e) h = subst (λ (x : Told). Closes m bound node q qs (end_of m x) r w) (sym e) (left_too q qs r w h)
+  pub leaf_or_left : (q : Pending Row) (qs : List (Pending Row)) (end : Told) (r : Result ℕ BoundNo) (w : Walk) → (end ≡ told.Leaf) ⊎ (end ≡ told.Left) → Closes m bounds node q qs Leaf r w → Closes m bounds node q qs (end_of (number_of m) end) r w
+  leaf_or_left q qs end r w (inl e) h = subst (λ (x : Told). Closes m bounds node q qs (end_of (number_of m) x) r w) (sym e) h
+  leaf_or_left q qs end r w (inr e) h = subst (λ (x : Told). Closes m bounds node q qs (end_of (number_of m) x) r w) (sym e) (left_too q qs r w h)
 
-  pub closed : (q : Pending Row) (qs : List (Pending Row)) (b : Box) (w : Walk) → q.box ≡ b → short_fault (whole m) bound node b q.multipliers ≡ None → IsAt m w qs → Closes m bound node q qs Leaf (Ok tt) w
-  closed q qs b w same none at = (qs, at, λ R. ap (λ (o : Option BoundNo). option_or o (R qs)) (ap (λ (x : Box). short_fault (whole m) bound node x q.multipliers) same ∙ none))
+  pub closed : (q : Pending Row) (qs : List (Pending Row)) (b : Box) (best : ℕ) (w : Walk) → q.box ≡ b
+      → Narrows bounds.low bounds.high best (λ bound. short_fault (whole m) bound node b q.multipliers ≡ None) (λ bound. short_fault (whole m) bound node b q.multipliers ≢ None) → IsAt m w qs → Closes m bounds node q qs Leaf (Ok best) w
+  closed q qs b best w same narrows at = (
+    qs,
+    at,
+    record {
+      from = narrows.from;
+      to = narrows.to;
+      passes = λ bound le R. ap (λ (o : Option BoundNo). option_or o (R qs)) (here bound ∙ narrows.passes bound le);
+      fails = λ bound lt le R none. narrows.fails bound lt le (sym (here bound) ∙ none_first (short_fault (whole m) bound node q.box q.multipliers) (R qs) none);
+    },
+  )
+    where
+      here : (bound : ℕ) → short_fault (whole m) bound node q.box q.multipliers ≡ short_fault (whole m) bound node b q.multipliers
+      here bound = ap (λ (x : Box). short_fault (whole m) bound node x q.multipliers) same
 
-  pub not_closed : (q : Pending Row) (qs : List (Pending Row)) (b : Box) (f : BoundNo) (w : Walk) → q.box ≡ b → short_fault (whole m) bound node b q.multipliers ≡ Some f → Closes m bound node q qs Leaf (Err f) w
-  not_closed q qs b f w same some = λ other R. ap (λ (o : Option BoundNo). option_or o (R qs)) (ap (λ (x : Box). short_fault (whole m) bound node x q.multipliers) same ∙ some)
+  pub not_closed : (q : Pending Row) (qs : List (Pending Row)) (b : Box) (f : BoundNo) (w : Walk) → q.box ≡ b → short_fault (whole m) bounds.low node b q.multipliers ≡ Some f → Closes m bounds node q qs Leaf (Err f) w
+  not_closed q qs b f w same some = λ other R. ap (λ (o : Option BoundNo). option_or o (R qs)) (ap (λ (x : Box). short_fault (whole m) bounds.low node x q.multipliers) same ∙ some)
 
-  pub no_memory : (q : Pending Row) (qs : List (Pending Row)) (end : End) (r : Result (Unit {0}) BoundNo) (f : BoundNo) (w : Walk) → r ≡ Err f → f ≡ NoMemory → Closes m bound node q qs end r w
+  pub no_memory : (q : Pending Row) (qs : List (Pending Row)) (end : End) (r : Result ℕ BoundNo) (f : BoundNo) (w : Walk) → r ≡ Err f → f ≡ NoMemory → Closes m bounds node q qs end r w
   no_memory q qs end r f w e h = rw (e, h) (λ k. absurd (k refl))
 
   not_below : (v n : ℕ) → n ≤ v → nat_lt v n ≡ false
@@ -112,10 +140,10 @@ module _ (m : Voyage) (bound node : ℕ) where
   below : (v n : ℕ) → v < n → nat_lt v n ≡ true
   below v n lt = grind (arith, nat_tests)
 
-  pub outside : (q : Pending Row) (qs : List (Pending Row)) (v : ℕ) (w : Walk) → v ≡ length (variables m) → Closes m bound node q qs (Branch v) (Err (BranchFixed node)) w
+  pub outside : (q : Pending Row) (qs : List (Pending Row)) (v : ℕ) (w : Walk) → v ≡ length (variables m) → Closes m bounds node q qs (Branch v) (Err (BranchFixed node)) w
   outside q qs v w e = λ other R. ap (λ (c : Bool). cond (c && is_none (at q.box v)) (R (record { box = fixed q.box v true; multipliers = q.multipliers } ∷ record { box = fixed q.box v false; multipliers = q.multipliers } ∷ qs)) (Some (BranchFixed node))) (not_below v (length (variables m)) (omega arith))
 
-  pub not_free : (q : Pending Row) (qs : List (Pending Row)) (v x : ℕ) (b : Box) (o : Option Bool) (w : Walk) → v ≡ x → x < length (variables m) → q.box ≡ b → at b x ≡ o → is_none o ≡ false → Closes m bound node q qs (Branch v) (Err (BranchFixed node)) w
+  pub not_free : (q : Pending Row) (qs : List (Pending Row)) (v x : ℕ) (b : Box) (o : Option Bool) (w : Walk) → v ≡ x → x < length (variables m) → q.box ≡ b → at b x ≡ o → is_none o ≡ false → Closes m bounds node q qs (Branch v) (Err (BranchFixed node)) w
   not_free q qs v x b o w e lt same is some =
       let n : is_none (at q.box v) ≡ false = ap (λ (y : Box). is_none (at y v)) same ∙ ap (λ (k : ℕ). is_none (at b k)) e ∙ ap is_none is ∙ some in
       let l : nat_lt v (length (variables m)) ≡ true = below v (length (variables m)) (omega arith) in
@@ -126,10 +154,18 @@ module _ (m : Voyage) (bound node : ℕ) where
   reversed_more fs fs' f e = ap reverse e ∙ reverse-append fs (f ∷ [])
 
   pub branched : (w u : Walk) (q : Pending Row) (qs : List (Pending Row)) (v x : ℕ) → Stands m w q qs → v ≡ x → x < length (variables m) → at w.b x ≡ None
-      → u.b ≡ fixed w.b x true → u.undo ≡ w.undo ++ x ∷ [] → u.prices ≡ w.prices → u.frames.items ≡ w.frames.items ++ record { var = x; mark = length w.undo; changes = length w.prices.changes.items } ∷ [] → u.done ≡ w.done
-      → Closes m bound node q qs (Branch v) (Ok tt) u
-  branched w u q qs v x stands e lt free box undo prices frames done =
-      (first ∷ other ∷ qs, here, λ R. goes R)
+      → u.b ≡ fixed w.b x true → u.undo ≡ w.undo ++ x ∷ [] → u.prices ≡ w.prices → u.frames.items ≡ w.frames.items ++ record { var = x; mark = length w.undo; changes = length w.prices.changes.items } ∷ [] → u.done ≡ w.done → bounds.low ≤ bounds.high
+      → Closes m bounds node q qs (Branch v) (Ok bounds.high) u
+  branched w u q qs v x stands e lt free box undo prices frames done order = (
+    first ∷ other ∷ qs,
+    here,
+    record {
+      from = order;
+      to = omega arith;
+      passes = λ bound le R. goes bound R;
+      fails = λ bound lt le. absurd (omega arith);
+    },
+  )
     where
       first : Pending Row
       first = record { box = fixed q.box v true; multipliers = q.multipliers }
@@ -143,8 +179,8 @@ module _ (m : Voyage) (bound node : ℕ) where
       inside : x < length w.b
       inside = omega (arith, stands.len)
 
-      goes : (R : List (Pending Row) → Option BoundNo) → end_fault (whole m) bound R node qs q.box (Ok q.multipliers) (Branch v) ≡ R (first ∷ other ∷ qs)
-      goes R =
+      goes : (bound : ℕ) (R : List (Pending Row) → Option BoundNo) → end_fault (whole m) bound R node qs q.box (Ok q.multipliers) (Branch v) ≡ R (first ∷ other ∷ qs)
+      goes bound R =
           let n : is_none (at q.box v) ≡ true = ap (λ (y : Box). is_none (at y v)) stands.box ∙ ap (λ (k : ℕ). is_none (at w.b k)) e ∙ ap is_none free in
           let l : nat_lt v (length (variables m)) ≡ true = below v (length (variables m)) (omega arith) in
           ap (λ (c : Bool). cond (c && is_none (at q.box v)) (R (first ∷ other ∷ qs)) (Some (BranchFixed node))) l ∙ ap (λ (c : Bool). cond c (R (first ∷ other ∷ qs)) (Some (BranchFixed node))) n
@@ -274,29 +310,60 @@ nothing_behind f [] (suc k) le = refl
 nothing_behind f (x ∷ xs) zero le = absurd (omega arith)
 nothing_behind f (x ∷ xs) (suc k) le = nothing_behind f xs k (omega arith)
 
-pub at_node : (m : Voyage) (bound n n' : ℕ) (w : Walk) (all : List (Entry Row)) (first : Option BoundNo) → n' ≡ n → ((qs : List (Pending Row)) × IsAt m w qs × (first ≡ tree_fault (whole m) bound n qs all))
-    → (qs : List (Pending Row)) × IsAt m w qs × (first ≡ tree_fault (whole m) bound n' qs all)
-at_node m bound n n' w all first e h = subst (λ (k : ℕ). (qs : List (Pending Row)) × IsAt m w qs × (first ≡ tree_fault (whole m) bound k qs all)) (sym e) h
+module _ (m : Voyage) (low high : ℕ) (first : ℕ → Option BoundNo) where
+  -- These records are still to be read. At each bound up to the best the first fault is the first of theirs, and at each above it there was one.
+  abbrev pub Reaches : ℕ → ℕ → Walk → List (Entry Row) → Type 0
+  Reaches best node w es = (qs : List (Pending Row)) × IsAt m w qs × Narrows low high best (λ bound. first bound ≡ tree_fault (whole m) bound node qs es) (λ bound. first bound ≢ None)
 
-module _ (m : Voyage) (bound node : ℕ) where
-  pub tree_more : (w v : Walk) (e : Entry Row) (es all : List (Entry Row)) (first : Option BoundNo) → all ≡ e ∷ es → ((qs : List (Pending Row)) × IsAt m w qs × (first ≡ tree_fault (whole m) bound node qs all))
-      → ((qs : List (Pending Row)) → IsAt m w qs → Takes m bound node qs e (Ok tt) v) → (qs : List (Pending Row)) × IsAt m v qs × (first ≡ tree_fault (whole m) bound (node + 1) qs es)
-  tree_more w v e es all first is h takes = let t = takes h.0 h.1 in (t.0, t.1, h.2 ∙ ap (λ (xs : List (Entry Row)). tree_fault (whole m) bound node h.0 xs) is ∙ t.2 es)
-
-  pub tree_fails : (w v : Walk) (e : Entry Row) (es all : List (Entry Row)) (first : Option BoundNo) (f : BoundNo) → all ≡ e ∷ es → ((qs : List (Pending Row)) × IsAt m w qs × (first ≡ tree_fault (whole m) bound node qs all))
-      → ((qs : List (Pending Row)) → IsAt m w qs → Takes m bound node qs e (Err f) v) → f ≢ NoMemory → first ≡ Some f
-  tree_fails w v e es all first f is h takes other = h.2 ∙ ap (λ (xs : List (Entry Row)). tree_fault (whole m) bound node h.0 xs) is ∙ takes h.0 h.1 other es
-
-  pub tree_ends : (w : Walk) (all : List (Entry Row)) (first : Option BoundNo) → all ≡ [] → ((qs : List (Pending Row)) × IsAt m w qs × (first ≡ tree_fault (whole m) bound node qs all)) → w.done ≡ false → first ≡ Some TreeEnds
-  tree_ends w all first is h going = h.2 ∙ ap (λ (xs : List (Entry Row)). tree_fault (whole m) bound node h.0 xs) is ∙ by h.0 h.1
+  pub tree_more : (best best' node : ℕ) (w v : Walk) (e : Entry Row) (es all : List (Entry Row)) → all ≡ e ∷ es → Reaches best node w all
+      → ((qs : List (Pending Row)) → IsAt m w qs → Takes m (record { low = low; high = best }) node qs e (Ok best') v) → Reaches best' (node + 1) v es
+  tree_more best best' node w v e es all is h takes = (
+    t.0,
+    t.1,
+    record {
+      from = t.2.from;
+      to = omega (arith, less, h.2.to);
+      passes = λ bound le. so_far bound (omega (arith, less)) ∙ t.2.passes bound le es;
+      fails = λ bound lt le none. elim (up_to bound best) [ inl here ↦ t.2.fails bound lt here es (sym (so_far bound here) ∙ none) | inr above ↦ h.2.fails bound above le none ];
+    },
+  )
     where
-      by : (qs : List (Pending Row)) → IsAt m w qs → tree_fault (whole m) bound node qs [] ≡ Some TreeEnds
+      t : (rest : List (Pending Row)) × IsAt m v rest × Narrows low best best' (λ bound. (es : List (Entry Row)) → tree_fault (whole m) bound node h.0 (e ∷ es) ≡ tree_fault (whole m) bound (node + 1) rest es) (λ bound. (es : List (Entry Row)) → tree_fault (whole m) bound node h.0 (e ∷ es) ≢ None)
+      t = takes h.0 h.1
+
+      less : best' ≤ best
+      less = t.2.to
+
+      so_far : (bound : ℕ) → bound ≤ best → first bound ≡ tree_fault (whole m) bound node h.0 (e ∷ es)
+      so_far bound le = h.2.passes bound le ∙ ap (λ (xs : List (Entry Row)). tree_fault (whole m) bound node h.0 xs) is
+
+  pub tree_fails : (best node : ℕ) (w v : Walk) (e : Entry Row) (es all : List (Entry Row)) (f : BoundNo) → all ≡ e ∷ es → Reaches best node w all
+      → ((qs : List (Pending Row)) → IsAt m w qs → Takes m (record { low = low; high = best }) node qs e (Err f) v) → f ≢ NoMemory → first low ≡ Some f
+  tree_fails best node w v e es all f is h takes other = h.2.passes low h.2.from ∙ ap (λ (xs : List (Entry Row)). tree_fault (whole m) low node h.0 xs) is ∙ takes h.0 h.1 other es
+
+  pub tree_ends : (best node : ℕ) (w : Walk) (all : List (Entry Row)) → all ≡ [] → Reaches best node w all → w.done ≡ false → first low ≡ Some TreeEnds
+  tree_ends best node w all is h going = h.2.passes low h.2.from ∙ ap (λ (xs : List (Entry Row)). tree_fault (whole m) low node h.0 xs) is ∙ by h.0 h.1
+    where
+      by : (qs : List (Pending Row)) → IsAt m w qs → tree_fault (whole m) low node qs [] ≡ Some TreeEnds
       by [] h = absurd (no_two w.done h going)
       by (q ∷ qs) h = refl
 
-  pub tree_done : (w : Walk) (all : List (Entry Row)) (first : Option BoundNo) → all ≡ [] → ((qs : List (Pending Row)) × IsAt m w qs × (first ≡ tree_fault (whole m) bound node qs all)) → w.done ≡ true → first ≡ None
-  tree_done w all first is h done = h.2 ∙ ap (λ (xs : List (Entry Row)). tree_fault (whole m) bound node h.0 xs) is ∙ by h.0 h.1
+  pub tree_done : (best node : ℕ) (w : Walk) (all : List (Entry Row)) → all ≡ [] → Reaches best node w all → w.done ≡ true → Narrows low high best (λ bound. first bound ≡ None) (λ bound. first bound ≢ None)
+  tree_done best node w all is h done = record {
+    from = h.2.from;
+    to = h.2.to;
+    passes = λ bound le. h.2.passes bound le ∙ ap (λ (xs : List (Entry Row)). tree_fault (whole m) bound node h.0 xs) is ∙ by bound h.0 h.1;
+    fails = h.2.fails;
+  }
     where
-      by : (qs : List (Pending Row)) → IsAt m w qs → tree_fault (whole m) bound node qs [] ≡ None
-      by [] h = refl
-      by (q ∷ qs) h = absurd (no_two w.done done h.in_hand)
+      by : (bound : ℕ) (qs : List (Pending Row)) → IsAt m w qs → tree_fault (whole m) bound node qs [] ≡ None
+      by bound [] h = refl
+      by bound (q ∷ qs) h = absurd (no_two w.done done h.in_hand)
+
+-- the walk begins at the root, with all records ahead
+pub begins : (m : Voyage) (low high : ℕ) (records : List Record) (w : Walk) → low ≤ high → IsAt m w (root (whole m) ∷ []) → Reaches m low high (first_fault m records) high 1 w (map (entry_of m) records)
+begins m low high records w order at = (root (whole m) ∷ [], at, record { from = order; to = omega arith; passes = λ bound le. refl; fails = λ bound lt le. absurd (omega arith) })
+
+-- all records are read
+pub ends : (m : Voyage) (records : List Record) (k : ℕ) → length records ≤ k → map (entry_of m) (drop k records) ≡ []
+ends m records k le = nothing_behind (entry_of m) records k le

@@ -1,51 +1,17 @@
--- A certificate's records as a proof tree over the rows and the numbered variables of a voyage's program.
-use Rattle.std.specs.Prelude.{◌≡◌, ℕ, Bool, false, ◌==◌, ◌&&◌, List, [], ◌∷◌, map, ℤ, nat_eq}
-use Rattle.std.specs.List.{position_or_len}
-use Rattle.std.specs.Cmp.Lexicographic.{pointwise}
-use Rattle.zero_one_rows.specs.declared.program.Var.{Var}
-use Rattle.zero_one_rows.specs.declared.program.Row.{Row}
-use Rattle.zero_one_rows.specs.declared.program.Row.TheVariants.{Flow, Start, Cell, Support, Twenty, Block, Hatch, Weight, Apart, Cross}
-use Rattle.zero_one_rows.specs.declared.program.Raise.{Raise}
-use Rattle.zero_one_rows.specs.Variables.{Voyage, variables}
-use Rattle.certificate.specs.declared.tree.End.{End}
-use Rattle.certificate.specs.declared.tree.End.TheVariants.{Leaf, Left, Branch}
-use Rattle.certificate.specs.declared.tree.Record.{Record}
+-- A certificate's records as a proof tree over the rows of a voyage's program.
+use Rattle.std.specs.Prelude.{ℕ, ◌≤◌, List, map}
+use Rattle.zero_one_rows.specs.Variables.{Voyage}
 use Rattle.zero_one_rows.specs.Rows.{whole}
+use Rattle.certificate.specs.declared.tree.Record.{Record}
+use Rattle.certificate.specs.Entries.{same_row, entry_of}
 use Rattle.proof_trees.specs.Trees as trees
 
--- of one family, with the same numbers
-abbrev pub same_row : Row → Row → Bool
-same_row (Flow q i g) (Flow q' i' g') = (q == q') && ((i == i') && (g == g'))
-same_row (Start q p) (Start q' p') = (q == q') && (p == p')
-same_row (Cell i h) (Cell i' h') = (i == i') && (h == h')
-same_row (Support i h) (Support i' h') = (i == i') && (h == h')
-same_row (Twenty i h) (Twenty i' h') = (i == i') && (h == h')
-same_row (Block j h) (Block j' h') = (j == j') && (h == h')
-same_row (Hatch w j h d) (Hatch w' j' h' d') = (w == w') && ((j == j') && ((h == h') && (d == d')))
-same_row (Weight i k) (Weight i' k') = (i == i') && (k == k')
-same_row (Apart i e p q) (Apart i' e' p' q') = (i == i') && ((e == e') && ((p == p') && (q == q')))
-same_row (Cross l p c) (Cross l' p' c') = (l == l') && ((p == p') && pointwise nat_eq c c')
-same_row r s = false
+-- the records are a tree that proves the bound over the program's rows
+abbrev pub ProvesBound : Voyage → List Record → ℕ → Type 0
+ProvesBound m records bound = trees.Proves same_row (whole m) (map (entry_of m) records) bound
 
-abbrev pub same_var : Var → Var → Bool
-same_var x y = (x.put == y.put) && ((x.kind == y.kind) && ((x.lifted == y.lifted) && (x.place == y.place)))
-
-abbrev pub raise_of : Raise → Row × ℤ
-raise_of r = (r.row, r.amount)
-
-module _ (m : Voyage) where
-  -- the number of a variable; for a variable that the program hasn't, the number of all variables
-  abbrev pub number_of : Var → ℕ
-  number_of x = position_or_len (same_var x) (variables m)
-
-  abbrev pub end_of : End → trees.End
-  end_of Leaf = trees.Leaf
-  end_of Left = trees.Left
-  end_of (Branch x) = trees.Branch (number_of x)
-
-  abbrev pub entry_of : Record → trees.Entry Row
-  entry_of r = record { from_zero = r.from_zero; steps = r.steps; raises = map raise_of r.raises; end = end_of r.end }
-
-  -- the records are a tree that proves the bound over the program's rows
-  abbrev pub ProvesBound : List Record → ℕ → Type 0
-  ProvesBound records bound = trees.Proves same_row (whole m) (map entry_of records) bound
+-- the greatest number up to `most` that the records prove
+pub record IsBestBound (m : Voyage) (records : List Record) (most best : ℕ) : Type 0 where
+  pub proves : ProvesBound m records best
+  pub low : best ≤ most
+  pub greatest : (bound : ℕ) → bound ≤ most → ProvesBound m records bound → bound ≤ best

@@ -11,7 +11,7 @@ use Rattle.proof_trees.specs.Multipliers.{Multipliers, worth, raised}
 use Rattle.proof_trees.specs.Trees.{End, Leaf, Left, Branch, Entry, Pending, begun, root}
 use Rattle.certificate.specs.declared.refusals.BoundNo.{BoundNo}
 use Rattle.certificate.specs.declared.refusals.BoundNo.TheVariants.{Multiplier, StepRow, BranchFixed, LeafShort, TreeEnds, TreeTooLong}
-use Rattle.bound_checker.specs.Entries.{same_row, entry_of}
+use Rattle.certificate.specs.Entries.{same_row, entry_of}
 
 -- the least dual value that closes at the bound
 abbrev pub needed : ℕ → ℤ

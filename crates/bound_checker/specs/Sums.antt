@@ -5,7 +5,7 @@ use Rattle.zero_one_rows.specs.Variables.{Voyage, variables}
 use Rattle.zero_one_rows.specs.Rows.{whole}
 use Rattle.proof_trees.specs.Multipliers.{Multipliers, amount_of, weighed, weighed_rhs}
 use Rattle.bound_checker.specs.declared.sums.Sums.{Sums}
-use Rattle.bound_checker.specs.Entries.{same_row}
+use Rattle.certificate.specs.Entries.{same_row}
 
 -- a multiplier's range
 abbrev pub in_range : ℤ → Option ℕ

@@ -1,5 +1,5 @@
 -- Where the checker stands in a tree. No public clause cites this module.
-use Rattle.std.specs.Prelude.{◌≡◌, ◌≢◌, ℕ, ◌+◌, ◌<◌, true, false, All, List, [], ◌∷◌, length, reverse, Option, Some, None, Result, Ok, Err, ◌⊎◌}
+use Rattle.std.specs.Prelude.{◌≡◌, ◌≢◌, ℕ, ◌+◌, ◌<◌, ◌≤◌, true, false, All, List, [], ◌∷◌, length, reverse, Option, Some, None, Result, Ok, Err, ◌⊎◌}
 use Rattle.zero_one_rows.specs.declared.program.Row.{Row}
 use Rattle.zero_one_rows.specs.Variables.{Voyage, variables}
 use Rattle.zero_one_rows.specs.Rows.{whole}
@@ -8,6 +8,7 @@ use Rattle.proof_trees.specs.Multipliers.{Multipliers}
 use Rattle.proof_trees.specs.Trees.{End, Entry, Pending, begun}
 use Rattle.certificate.specs.declared.refusals.BoundNo.{BoundNo}
 use Rattle.certificate.specs.declared.refusals.BoundNo.TheVariants.{NoMemory}
+use Rattle.bound_checker.specs.declared.walk.Bounds.{Bounds}
 use Rattle.bound_checker.specs.declared.walk.Walk.{Walk}
 use Rattle.bound_checker.specs.Faults.{step_fault, raised_rows, end_fault, tree_fault}
 use Rattle.bound_checker.specs.Sums.{Carries}
@@ -43,13 +44,24 @@ module _ (m : Voyage) (node : ℕ) where
   Opens q qs e (Err f) w = f ≢ NoMemory → (step_fault (whole m) node e.steps ≡ Some f)
       ⊎ ((step_fault (whole m) node e.steps ≡ None) × (raised_rows (whole m) node (Ok (begun e.from_zero q.multipliers)) e.raises ≡ Err f))
 
-module _ (m : Voyage) (bound node : ℕ) where
+-- of the bounds up to `high`, those up to `best` pass and the others don't; `low` passes
+pub record Narrows (low high best : ℕ) (Passes Fails : ℕ → Type 0) : Type 0 where
+  pub from : low ≤ best
+  pub to : best ≤ high
+  pub passes : (bound : ℕ) → bound ≤ best → Passes bound
+  pub fails : (bound : ℕ) → best < bound → bound ≤ high → Fails bound
+
+module _ (m : Voyage) (bounds : Bounds) (node : ℕ) where
   -- a record's end is taken, or has a fault
-  abbrev pub Closes : Pending Row → List (Pending Row) → End → Result (Unit {0}) BoundNo → Walk → Type 0
-  Closes q qs end (Ok u) w = (rest : List (Pending Row)) × IsAt m w rest × ((R : List (Pending Row) → Option BoundNo) → end_fault (whole m) bound R node qs q.box (Ok q.multipliers) end ≡ R rest)
-  Closes q qs end (Err f) w = f ≢ NoMemory → (R : List (Pending Row) → Option BoundNo) → end_fault (whole m) bound R node qs q.box (Ok q.multipliers) end ≡ Some f
+  abbrev pub Closes : Pending Row → List (Pending Row) → End → Result ℕ BoundNo → Walk → Type 0
+  Closes q qs end (Ok best) w = (rest : List (Pending Row)) × IsAt m w rest × Narrows bounds.low bounds.high best
+      (λ bound. (R : List (Pending Row) → Option BoundNo) → end_fault (whole m) bound R node qs q.box (Ok q.multipliers) end ≡ R rest)
+      (λ bound. (R : List (Pending Row) → Option BoundNo) → end_fault (whole m) bound R node qs q.box (Ok q.multipliers) end ≢ None)
+  Closes q qs end (Err f) w = f ≢ NoMemory → (R : List (Pending Row) → Option BoundNo) → end_fault (whole m) bounds.low R node qs q.box (Ok q.multipliers) end ≡ Some f
 
   -- a record is taken, or has a fault
-  abbrev pub Takes : List (Pending Row) → Entry Row → Result (Unit {0}) BoundNo → Walk → Type 0
-  Takes qs e (Ok u) w = (rest : List (Pending Row)) × IsAt m w rest × ((es : List (Entry Row)) → tree_fault (whole m) bound node qs (e ∷ es) ≡ tree_fault (whole m) bound (node + 1) rest es)
-  Takes qs e (Err f) w = f ≢ NoMemory → (es : List (Entry Row)) → tree_fault (whole m) bound node qs (e ∷ es) ≡ Some f
+  abbrev pub Takes : List (Pending Row) → Entry Row → Result ℕ BoundNo → Walk → Type 0
+  Takes qs e (Ok best) w = (rest : List (Pending Row)) × IsAt m w rest × Narrows bounds.low bounds.high best
+      (λ bound. (es : List (Entry Row)) → tree_fault (whole m) bound node qs (e ∷ es) ≡ tree_fault (whole m) bound (node + 1) rest es)
+      (λ bound. (es : List (Entry Row)) → tree_fault (whole m) bound node qs (e ∷ es) ≢ None)
+  Takes qs e (Err f) w = f ≢ NoMemory → (es : List (Entry Row)) → tree_fault (whole m) bounds.low node qs (e ∷ es) ≡ Some f

@@ -1,7 +1,7 @@
 //! The multipliers of rows.
 ghost use Rattle.std.specs.Prelude.{◌≡◌, ℕ, cond, OnOk, IfOk, IfNone, IfSome, [], ◌∷◌};
 ghost use Rattle.proof_trees.specs.Multipliers.{amount_of};
-ghost use Rattle.bound_checker.specs.Entries.{same_row};
+ghost use Rattle.certificate.specs.Entries.{same_row};
 
 use std::alloc::Global;
 use std::collections::BTreeMap;

@@ -10,5 +10,5 @@ mod sums;
 mod walk;
 
 pub use certificate::BoundNo;
-pub use check::check_bound;
-pub use laws::proved_or_fault;
+pub use check::{best_bound, check_bound};
+pub use laws::{proved_or_fault, records_are_few};

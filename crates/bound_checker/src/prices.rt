@@ -5,7 +5,7 @@ ghost use Rattle.proof_trees.specs.Trees.{begun};
 ghost use Rattle.zero_one_rows.specs.declared.program.Row.{Row as Rows};
 ghost use Rattle.zero_one_rows.specs.Rows.{whole};
 ghost use Rattle.bound_checker.specs.declared.prices.Change.{Change as Changes};
-ghost use Rattle.bound_checker.specs.Entries.{raise_of, same_row};
+ghost use Rattle.certificate.specs.Entries.{raise_of, same_row};
 ghost use Rattle.bound_checker.specs.Faults.{raised_row, raised_rows};
 ghost use Rattle.bound_checker.specs.Sums.{AreSmall, Carries, CarriesSome};
 ghost use Rattle.bound_checker.specs.Waits.{IsSound, Before};

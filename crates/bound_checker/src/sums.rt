@@ -7,7 +7,7 @@ ghost use Rattle.proof_trees.specs.Multipliers.{Multipliers, least, worth, with_
 ghost use Rattle.zero_one_rows.specs.Variables.{variables};
 ghost use Rattle.zero_one_rows.specs.declared.program.Row.{Row as Rows};
 ghost use Rattle.zero_one_rows.specs.Rows.{whole};
-ghost use Rattle.bound_checker.specs.Entries.{same_row};
+ghost use Rattle.certificate.specs.Entries.{same_row};
 ghost use Rattle.bound_checker.specs.Sums.{in_range, weight_at, IsSmall, Carries, CarriesSome, HasRoom};
 
 use crate::amounts::Amounts;

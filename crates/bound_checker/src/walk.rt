@@ -1,5 +1,5 @@
 //! A tree in preorder, walked with one box and one set of multipliers.
-ghost use Rattle.std.specs.Prelude.{◌≡◌, ◌≢◌, ℕ, true, false, List, [], ◌∷◌, ◌++◌, length, slice_get, OnOk, IfOk, MatchResult, None, Some};
+ghost use Rattle.std.specs.Prelude.{◌≡◌, ◌≢◌, ℕ, ◌≤◌, ◌≤ℤ◌, true, false, List, [], ◌∷◌, ◌++◌, length, slice_get, OnOk, IfOk, MatchResult, None, Some};
 ghost use Rattle.proof_trees.specs.Boxes.{fixed};
 ghost use Rattle.proof_trees.specs.Multipliers.{Multipliers};
 ghost use Rattle.proof_trees.specs.Trees.{Pending, root};
@@ -7,10 +7,10 @@ ghost use Rattle.proof_trees.specs.Trees.{Leaf as Leaves, Branch as Branches};
 ghost use Rattle.zero_one_rows.specs.declared.program.Row.{Row as Rows};
 ghost use Rattle.zero_one_rows.specs.Variables.{variables};
 ghost use Rattle.zero_one_rows.specs.Rows.{whole};
-ghost use Rattle.bound_checker.specs.Entries.{entry_of, end_of, number_of};
+ghost use Rattle.certificate.specs.Entries.{entry_of, end_of, number_of};
 ghost use Rattle.bound_checker.specs.Faults.{needed, short_fault};
 ghost use Rattle.bound_checker.specs.Sums.{Carries, CarriesSome};
-ghost use Rattle.bound_checker.specs.Walks.{Stands, StandsSome, IsAt, IsSomewhere, Opens, Closes, Takes};
+ghost use Rattle.bound_checker.specs.Walks.{Stands, StandsSome, IsAt, IsSomewhere, Narrows, Opens, Closes, Takes};
 
 use crate::prices::Prices;
 use crate::steps::tighten_all;
@@ -42,6 +42,16 @@ pub struct Walk {
     pub done: bool,
 }
 
+/// The bounds in question.
+#[derive(Clone, Copy)]
+pub struct Bounds {
+    /// The bound that is to be proved.
+    pub low: u64,
+
+    /// The greatest bound that no box refutes so far.
+    pub high: u64,
+}
+
 // The least dual value that closes at a bound.
 fn needed_value(bound: u64) -> i128
     ensures { result ≡ needed bound }
@@ -49,15 +59,35 @@ fn needed_value(bound: u64) -> i128
     16 * (bound as i128 - 1) + 1
 }
 
-// Whether a box closes at the bound.
-fn closes(model: &Model, b: &Box01, sums: &Sums, bound: u64, node: u32) -> Result<(), BoundNo>
+// The greatest bound up to `most` at which a dual value closes.
+fn closing_bound(value: i128, most: u64) -> u64
+    requires { needed 0 ≤ℤ value }
+    ensures low { result ≤ most }
+    ensures closes { needed result ≤ℤ value }
+    ensures greatest { (bound : ℕ) → bound ≤ most → needed bound ≤ℤ value → bound ≤ result }
+{
+    if value >= needed_value(most) {
+        return most;
+    }
+    ((value + 15) as u128 / 16) as u64
+}
+
+// The greatest bound up to the high one at which a box closes, where it closes at the low one.
+fn close_box(
+    model: &Model,
+    b: &Box01,
+    sums: &Sums,
+    bounds: Bounds,
+    node: u32,
+) -> Result<u64, BoundNo>
     requires carries { CarriesSome model.now sums.now }
     requires whole { length b.now ≡ length (variables model.now) }
+    requires order { bounds.low ≤ bounds.high }
     ensures { (ms : Multipliers Rows) → Carries model.now ms sums.now
-        → MatchResult result (λ _. short_fault (whole model.now) bound node b.now ms ≡ None) (λ fault. short_fault (whole model.now) bound node b.now ms ≡ Some fault) }
+        → MatchResult result (λ best. Narrows bounds.low bounds.high best (λ bound. short_fault (whole model.now) bound node b.now ms ≡ None) (λ bound. short_fault (whole model.now) bound node b.now ms ≢ None)) (λ fault. short_fault (whole model.now) bounds.low node b.now ms ≡ Some fault) }
 {
     let value = sums.value(model, b);
-    let needed = needed_value(bound);
+    let needed = needed_value(bounds.low);
     if value < needed {
         return Err(BoundNo::LeafShort {
             node,
@@ -65,7 +95,7 @@ fn closes(model: &Model, b: &Box01, sums: &Sums, bound: u64, node: u32) -> Resul
             needed,
         });
     }
-    Ok(())
+    Ok(closing_bound(value, bounds.high))
 }
 
 impl Walk {
@@ -99,13 +129,20 @@ impl Walk {
     }
 
     // The box in hand closes.
-    fn close(&mut self, alloc: Global, model: &Model, bound: u64, node: u32) -> Result<(), BoundNo>
+    fn close(
+        &mut self,
+        alloc: Global,
+        model: &Model,
+        bounds: Bounds,
+        node: u32,
+    ) -> Result<u64, BoundNo>
         requires stands { StandsSome model.now self.old }
-        ensures { (q : Pending Rows) (qs : List (Pending Rows)) → Stands model.now self.old q qs → Closes model.now bound node q qs Leaves result self.new }
+        requires order { bounds.low ≤ bounds.high }
+        ensures { (q : Pending Rows) (qs : List (Pending Rows)) → Stands model.now self.old q qs → Closes model.now bounds node q qs Leaves result self.new }
     {
-        closes(model, &self.b, &self.prices.sums, bound, node)?;
+        let best = close_box(model, &self.b, &self.prices.sums, bounds, node)?;
         self.leave(alloc, model)?;
-        Ok(())
+        Ok(best)
     }
 
     // The half of value 1 comes into hand, and the other waits.
@@ -128,9 +165,16 @@ impl Walk {
     }
 
     // A variable divides the box in hand: the half of value 1 comes first, and the other waits.
-    fn branch(&mut self, model: &Model, var: &Var, bound: u64, node: u32) -> Result<(), BoundNo>
+    fn branch(
+        &mut self,
+        model: &Model,
+        var: &Var,
+        bounds: Bounds,
+        node: u32,
+    ) -> Result<u64, BoundNo>
         requires stands { StandsSome model.now self.old }
-        ensures { (q : Pending Rows) (qs : List (Pending Rows)) → Stands model.now self.old q qs → Closes model.now bound node q qs (Branches (number_of model.now var.now)) result self.new }
+        requires order { bounds.low ≤ bounds.high }
+        ensures { (q : Pending Rows) (qs : List (Pending Rows)) → Stands model.now self.old q qs → Closes model.now bounds node q qs (Branches (number_of model.now var.now)) result self.new }
     {
         let Some(x) = model.number(var) else {
             return Err(BoundNo::BranchFixed { node });
@@ -139,7 +183,7 @@ impl Walk {
             return Err(BoundNo::BranchFixed { node });
         }
         self.divide(x)?;
-        Ok(())
+        Ok(bounds.high)
     }
 
     // A record's end.
@@ -148,15 +192,16 @@ impl Walk {
         alloc: Global,
         model: &Model,
         end: &End,
-        bound: u64,
+        bounds: Bounds,
         node: u32,
-    ) -> Result<(), BoundNo>
+    ) -> Result<u64, BoundNo>
         requires stands { StandsSome model.now self.old }
-        ensures { (q : Pending Rows) (qs : List (Pending Rows)) → Stands model.now self.old q qs → Closes model.now bound node q qs (end_of model.now end.now) result self.new }
+        requires order { bounds.low ≤ bounds.high }
+        ensures { (q : Pending Rows) (qs : List (Pending Rows)) → Stands model.now self.old q qs → Closes model.now bounds node q qs (end_of (number_of model.now) end.now) result self.new }
     {
         match end {
-            End::Leaf | End::Left => self.close(alloc, model, bound, node),
-            End::Branch(var) => self.branch(model, var, bound, node),
+            End::Leaf | End::Left => self.close(alloc, model, bounds, node),
+            End::Branch(var) => self.branch(model, var, bounds, node),
         }
     }
 
@@ -182,22 +227,23 @@ impl Walk {
         self.prices.take(alloc, model, entry.from_zero, entry.raises.as_slice(), node)
     }
 
-    /// One record.
+    /// One record: the greatest bound up to the high one that it doesn't refute.
     pub fn take(
         &mut self,
         alloc: Global,
         model: &Model,
         entry: &Record,
-        bound: u64,
+        bounds: Bounds,
         node: u32,
-    ) -> Result<(), BoundNo>
+    ) -> Result<u64, BoundNo>
         requires at { IsSomewhere model.now self.old }
-        ensures { (qs : List (Pending Rows)) → IsAt model.now self.old qs → Takes model.now bound node qs (entry_of model.now entry.now) result self.new }
+        requires order { bounds.low ≤ bounds.high }
+        ensures { (qs : List (Pending Rows)) → IsAt model.now self.old qs → Takes model.now bounds node qs (entry_of model.now entry.now) result self.new }
     {
         if self.done {
             return Err(BoundNo::TreeTooLong);
         }
         self.open(alloc, model, entry, node)?;
-        self.end(alloc, model, &entry.end, bound, node)
+        self.end(alloc, model, &entry.end, bounds, node)
     }
 }

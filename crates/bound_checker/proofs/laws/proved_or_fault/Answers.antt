@@ -1,7 +1,7 @@
 use Rattle.std.proofs.Common.{map, [], ◌∷◌}
 use Rattle.zero_one_rows.specs.Rows.{whole}
 use Rattle.proof_trees.specs.Trees.{root}
-use Rattle.bound_checker.specs.Entries.{entry_of}
+use Rattle.certificate.specs.Entries.{entry_of}
 use Rattle.bound_checker.proofs.FirstFault.{faultless, no_fault}
 use Rattle.bound_checker.proofs.laws.proved_or_fault.Goals as goal
 

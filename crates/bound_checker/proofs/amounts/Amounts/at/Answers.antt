@@ -2,7 +2,7 @@ use Rattle.std.proofs.Common.{rules, ◌≡◌, ◌∙◌, ap, ℕ, Option, List
 use Rattle.std.specs.Prelude.{unwrap_or}
 use Rattle.zero_one_rows.specs.declared.program.Row.{Row}
 use Rattle.proof_trees.specs.Multipliers.{amount_of}
-use Rattle.bound_checker.specs.Entries.{same_row}
+use Rattle.certificate.specs.Entries.{same_row}
 use Rattle.bound_checker.proofs.Look.{amount_looked_up}
 use Rattle.bound_checker.proofs.amounts.Amounts.at.Goals as goal
 

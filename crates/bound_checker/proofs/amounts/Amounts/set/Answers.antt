@@ -1,7 +1,7 @@
 use Rattle.std.proofs.Common.{rules, ◌≡◌, ◌∙◌, ap, cond, ℕ, List}
 use Rattle.zero_one_rows.specs.declared.program.Row.{Row}
 use Rattle.proof_trees.specs.Multipliers.{amount_of}
-use Rattle.bound_checker.specs.Entries.{same_row}
+use Rattle.certificate.specs.Entries.{same_row}
 use Rattle.bound_checker.proofs.Look.{amount_put}
 use Rattle.bound_checker.proofs.amounts.Amounts.set.Goals as goal
 

@@ -2,7 +2,7 @@ use Rattle.std.proofs.Common.{rules, arith, ◌≡◌, ◌≤◌, ◌^◌, ◌�
 use Rattle.program_rows.specs.Counted.{all_rows}
 use Rattle.proof_trees.specs.Multipliers.{with_amount}
 use Rattle.bound_checker.specs.declared.prices.Change.{Change}
-use Rattle.bound_checker.specs.Entries.{same_row}
+use Rattle.certificate.specs.Entries.{same_row}
 use Rattle.bound_checker.proofs.Room.{has_room}
 use Rattle.bound_checker.proofs.Waiting.{moves_one, moves_more}
 use Rattle.bound_checker.proofs.prices.Prices.change.Goals as goal

@@ -5,7 +5,7 @@ use Rattle.program_rows.specs.Counted.{all_rows}
 use Rattle.proof_trees.specs.Multipliers.{with_amount}
 use Rattle.bound_checker.specs.declared.sums.Sums.{Sums}
 use Rattle.bound_checker.specs.declared.prices.Change.{Change}
-use Rattle.bound_checker.specs.Entries.{same_row}
+use Rattle.certificate.specs.Entries.{same_row}
 use Rattle.bound_checker.proofs.Raising.{out_low, out_named, out_room, out_none, out_some}
 use Rattle.bound_checker.proofs.Waiting.{moves_one, moves_more}
 use Rattle.bound_checker.proofs.prices.Prices.clear_one.Goals as goal

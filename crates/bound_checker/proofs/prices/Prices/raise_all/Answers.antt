@@ -5,7 +5,7 @@ use Rattle.zero_one_rows.specs.declared.program.Raise.{Raise}
 use Rattle.zero_one_rows.specs.Rows.{whole}
 use Rattle.proof_trees.specs.Multipliers.{Multipliers}
 use Rattle.certificate.specs.declared.refusals.BoundNo.{BoundNo}
-use Rattle.bound_checker.specs.Entries.{raise_of}
+use Rattle.certificate.specs.Entries.{raise_of}
 use Rattle.bound_checker.specs.Faults.{raised_rows}
 use Rattle.bound_checker.specs.Prices.{Holds, Ends, Held}
 use Rattle.bound_checker.proofs.Waiting.{moves_none}

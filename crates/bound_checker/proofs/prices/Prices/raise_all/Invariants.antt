@@ -3,7 +3,7 @@ use Rattle.zero_one_rows.specs.declared.program.Row.{Row}
 use Rattle.zero_one_rows.specs.Rows.{whole}
 use Rattle.proof_trees.specs.Multipliers.{Multipliers}
 use Rattle.bound_checker.specs.declared.prices.Change.{Change}
-use Rattle.bound_checker.specs.Entries.{raise_of}
+use Rattle.certificate.specs.Entries.{raise_of}
 use Rattle.bound_checker.specs.Faults.{raised_rows}
 use Rattle.bound_checker.specs.Prices.{Holds, Held}
 use Rattle.bound_checker.proofs.prices.Prices.raise_all.Given as goal

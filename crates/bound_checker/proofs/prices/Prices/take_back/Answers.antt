@@ -1,7 +1,7 @@
 use Rattle.std.proofs.Common.{rules, arith, ◌≡◌, ◌≤◌, ◌+◌, ◌∙◌, ap, List, [], ◌∷◌, ◌++◌, length, length-append}
 use Rattle.proof_trees.specs.Multipliers.{with_amount}
 use Rattle.bound_checker.specs.declared.prices.Change.{Change}
-use Rattle.bound_checker.specs.Entries.{same_row}
+use Rattle.certificate.specs.Entries.{same_row}
 use Rattle.bound_checker.proofs.Raising.{carries_alike}
 use Rattle.bound_checker.proofs.Back.{before_less, before_end, changes_less, changes_end, others_sound}
 use Rattle.bound_checker.proofs.prices.Prices.take_back.Goals as goal

@@ -3,7 +3,7 @@ use Rattle.std.proofs.lemmas.Int.{to_z-of_z}
 use Rattle.zero_one_rows.specs.declared.program.Row.{Row}
 use Rattle.program_rows.specs.Counted.{all_rows}
 use Rattle.proof_trees.specs.Multipliers.{amount_of}
-use Rattle.bound_checker.specs.Entries.{same_row}
+use Rattle.certificate.specs.Entries.{same_row}
 use Rattle.bound_checker.proofs.Room.{has_room}
 use Rattle.bound_checker.proofs.Raising.{carries_more}
 use Rattle.bound_checker.proofs.sums.Sums.give.Goals as goal

@@ -4,7 +4,7 @@ use Rattle.zero_one_rows.specs.declared.program.Raise.{Raise}
 use Rattle.zero_one_rows.specs.Rows.{whole}
 use Rattle.proof_trees.specs.Boxes.{tightened}
 use Rattle.proof_trees.specs.Trees.{begun}
-use Rattle.bound_checker.specs.Entries.{raise_of, entry_of}
+use Rattle.certificate.specs.Entries.{raise_of, entry_of}
 use Rattle.bound_checker.specs.Faults.{step_fault, raised_rows}
 use Rattle.bound_checker.specs.Prices.{Holds, Ends}
 use Rattle.bound_checker.proofs.Waiting.{moves_none}
