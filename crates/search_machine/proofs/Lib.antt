@@ -20,3 +20,6 @@ pub mod OneVerdict
 pub mod Foundation
 pub mod Samples
 pub mod NodesTold
+pub mod Along
+pub mod Searching
+pub mod Counting

@@ -31,12 +31,12 @@ module _ {A B : Type 0} (f : A → B) where
   in_map a (x ∷ xs) (inl is) = inl (ap f is)
   in_map a (x ∷ xs) (inr h) = inr (in_map a xs h)
 
-  every_map : (P : B → Type 0) (xs : List A) → Every (λ a. P (f a)) xs → Every P (map f xs)
+  pub every_map : (P : B → Type 0) (xs : List A) → Every (λ a. P (f a)) xs → Every P (map f xs)
   every_map P [] h = tt
   every_map P (x ∷ xs) h = (h.0, every_map P xs h.1)
 
 -- each element that is in the list has the property
-every_by : {A : Type 0} (P : A → Type 0) (xs : List A) → ((a : A) → In a xs → P a) → Every P xs
+pub every_by : {A : Type 0} (P : A → Type 0) (xs : List A) → ((a : A) → In a xs → P a) → Every P xs
 every_by P [] h = tt
 every_by P (x ∷ xs) h = (h x (inl refl), every_by P xs (λ a i. h a (inr i)))
 

@@ -3,5 +3,7 @@ pub mod Journals
 pub mod Machine
 pub mod Replays
 pub mod Outcomes
+pub mod Along
+pub mod Searching
 pub mod Refusals
 pub mod Samples

@@ -1,11 +1,13 @@
 //! Laws of the search machine, of journals and of their replay.
-ghost use Rattle.std.specs.Prelude.{◌≡◌, ℕ, ◌<◌, ◌≤◌, ◌⊎◌, Bool, List, [], length, map};
+ghost use Rattle.std.specs.Prelude.{◌≡◌, ℕ, ◌<◌, ◌≤◌, ◌⊎◌, Bool, true, false, cond, List, [], ◌∷◌, ◌++◌, length, map};
 ghost use Rattle.proof_trees.specs.Program.{Program};
-ghost use Rattle.proof_trees.specs.Trees.{Entry, Pending, Proves};
+ghost use Rattle.proof_trees.specs.Trees.{Leaf, Entry, Pending, Proves};
 ghost use Rattle.search_machine.specs.Bags.{weigh, Every};
-ghost use Rattle.search_machine.specs.Journals.{Path, Placed, all_nodes, Whole, Tree, preorder, located, trail, Gathers, Settled, Anything, Allowed, EachAllowed};
-ghost use Rattle.search_machine.specs.Machine.{Node, Handled, at_its_path, State, Event, begin, BaseSolves, NoneNegative, Accepts, Runs, ObeysRule};
+ghost use Rattle.search_machine.specs.Journals.{Path, Placed, branches, is_left, box_after, all_nodes, Whole, Tree, preorder, located, trail, Gathers, Settled, Anything, Allowed, EachAllowed};
+ghost use Rattle.search_machine.specs.Machine.{Node, Handled, handled, root_node, half_node, begins, price, is_full, at_its_path, State, Event, begin, BaseSolves, NoneNegative, Accepts, Runs, ObeysRule};
 ghost use Rattle.search_machine.specs.Outcomes.{path_of, WholeNodes, nodes_of, Tells, EachHandled, HoldsNothing, Traces, Searched, Founded};
+ghost use Rattle.search_machine.specs.Searching.{Searching};
+ghost use Rattle.search_machine.specs.Along.{HoldsAlong, IsOfNode};
 ghost use Rattle.search_machine.specs.Refusals.{Refuses};
 ghost use Rattle.search_machine.specs.declared.refused.Refused.{Refused};
 ghost use Rattle.search_machine.specs.Replays.{IsOffer, Replays};
@@ -43,12 +45,14 @@ pub fn events_leave_a_tree<R>()
     ensures lesser { (same : R → R → Bool) (p : Program R) (less bound : ℕ) → less ≤ bound → (q : Pending R) (e : Entry R) → Allowed same p Anything bound q e → Allowed same p Anything less q e }
 {}
 
-/// Whole journals are one tree, with each record at its path; and what is proved of each record proves the tree, or settles it where nodes were left.
+/// Whole journals are one tree, with each record at its path, of which as many aren't left open as there are entries; and what is proved of each record proves the tree, or settles it where nodes were left.
 pub fn journals_are_a_tree<R>()
     ensures tree { (entries : List (Placed R)) (left : List Path) → Whole entries left → (t : Tree R) × Gathers (all_nodes entries left) t }
     ensures one { (nodes : List (Placed R)) (t s : Tree R) → Gathers nodes t → Gathers nodes s → t ≡ s }
     ensures records { (entries : List (Placed R)) (left : List Path) (t : Tree R) → Gathers (all_nodes entries left) t
         → (h : Placed R → ℕ) → weigh h (located t) ≡ weigh h (all_nodes entries left) }
+    ensures handled { (entries : List (Placed R)) (left : List Path) (t : Tree R) → Whole entries left → Gathers (all_nodes entries left) t
+        → weigh (λ e. cond (is_left e.end) 0 1) (preorder t) ≡ length entries }
     ensures settled { (same : R → R → Bool) (p : Program R) (bound : ℕ) (entries : List (Placed R)) (left : List Path) (t : Tree R)
         → Gathers (all_nodes entries left) t → EachAllowed same p bound (all_nodes entries left) entries → Settled same p (preorder t) bound }
     ensures proved { (same : R → R → Bool) (p : Program R) (bound : ℕ) (entries : List (Placed R)) (t : Tree R)
@@ -64,6 +68,14 @@ pub fn handed_nodes_are_whole<R>()
         → Every (λ e. e.node.trail ≡ trail (nodes_of entries left) e.node.path) entries × Every (λ n. n.trail ≡ trail (nodes_of entries left) n.path) left }
     ensures allowed { (same : R → R → Bool) → Tells same → (p : Program R) (bound : ℕ) (entries : List (Handled R)) (left : List (Node R))
         → WholeNodes entries left → EachHandled same p bound entries → EachAllowed same p bound (nodes_of entries left) (map at_its_path entries) }
+{}
+
+/// Each record of the gathered tree is that of a handled node, or the empty one of a node that was left, and begins with what its node begins with.
+///
+/// So what holds of each handled record at its node, and of the empty record, holds of each record along the tree.
+pub fn records_are_of_nodes<R>()
+    ensures { (same : R → R → Bool) → Tells same → (p : Program R) (entries : List (Handled R)) (left : List (Node R)) (t : Tree R)
+        → WholeNodes entries left → Gathers (nodes_of entries left) t → HoldsAlong same p (IsOfNode same p entries left) (preorder t) }
 {}
 
 /// Whole journals are the outcome of a replay, if the tree is settled at a value that is the start or the price of a full leaf, the records are within the budget, and fill it where a node was left.
@@ -82,4 +94,23 @@ pub fn journals_replay<R>()
 pub fn searched_is_founded<R>()
     ensures { (same : R → R → Bool) (p : Program R) (base : List R) → BaseSolves p base → NoneNegative p → Tells same
         → (entries : List (Handled R)) (left : List (Node R)) (start budget best : ℕ) → Searched same p base entries left start budget best → Founded same p base entries left start budget best }
+{}
+
+/// A search by one worker goes on as each node that waits is taken and ended: by a leaf, by a full leaf that is cheaper than the best, or by a branch whose halves then wait.
+///
+/// At the end, what waits was left.
+pub fn searching_goes_on<R>()
+    ensures begins { (same : R → R → Bool) (p : Program R) (base : List R) (start : ℕ) → Searching same p base [] (root_node ∷ []) start start }
+    ensures closes { (same : R → R → Bool) (p : Program R) (base : List R) (entries : List (Handled R)) (waiting : List (Node R)) (n : Node R) (e : Entry R) (start best value : ℕ)
+        → Searching same p base entries (waiting ++ n ∷ []) start best → best ≤ value → Allowed same p Anything value (begins same p n) e → e.end ≡ Leaf
+        → Searching same p base (entries ++ handled n e ∷ []) waiting start best }
+    ensures offers { (same : R → R → Bool) (p : Program R) (base : List R) (entries : List (Handled R)) (waiting : List (Node R)) (n : Node R) (e : Entry R) (start best cost : ℕ)
+        → Searching same p base entries (waiting ++ n ∷ []) start best → cost ≤ best → Allowed same p Anything cost (begins same p n) e → e.end ≡ Leaf
+        → is_full p base (box_after same p (begins same p n) e) ≡ true → price p (box_after same p (begins same p n) e) ≡ cost
+        → Searching same p base (entries ++ handled n e ∷ []) waiting start cost }
+    ensures divides { (same : R → R → Bool) (p : Program R) (base : List R) (entries : List (Handled R)) (waiting : List (Node R)) (n : Node R) (e : Entry R) (start best value : ℕ)
+        → Searching same p base entries (waiting ++ n ∷ []) start best → best ≤ value → Allowed same p Anything value (begins same p n) e → branches e.end ≡ true
+        → Searching same p base (entries ++ handled n e ∷ []) (waiting ++ half_node n e false ∷ half_node n e true ∷ []) start best }
+    ensures ends { (same : R → R → Bool) (p : Program R) (base : List R) (entries : List (Handled R)) (waiting : List (Node R)) (start budget best : ℕ)
+        → Searching same p base entries waiting start best → length entries ≤ budget → (0 < length waiting → length entries ≡ budget) → Searched same p base entries waiting start budget best }
 {}

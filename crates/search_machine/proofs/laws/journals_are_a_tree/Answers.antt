@@ -1,4 +1,5 @@
 use Rattle.search_machine.proofs.OneTree.{whole_gathers, located_as, one_tree}
+use Rattle.search_machine.proofs.Counting.{handled_count}
 use Rattle.search_machine.proofs.Settling.{journals_settle, journals_prove}
 use Rattle.search_machine.proofs.laws.journals_are_a_tree.Goals as goal
 
@@ -16,3 +17,6 @@ returns-clause-proved g c = λ same p bound entries t whole gathers each. journa
 
 pub returns-clause-one : goal.returns-clause-one
 returns-clause-one g c = λ nodes t s first second. one_tree nodes t s first second
+
+pub returns-clause-handled : goal.returns-clause-handled
+returns-clause-handled g c = λ entries left t whole gathers. handled_count entries left t whole gathers
