@@ -1,0 +1,197 @@
+//! Which containers are lifted at a call.
+
+use crate::chance::Chance;
+use stow_data::{Lengths, NoMemory};
+use voyage_yard::{Column, Facts, Pile, StackFacts, TIERS, Yard, bit_of};
+
+/// The lifts of a call.
+#[derive(Clone, Copy)]
+pub struct Lifting {
+    pub call: u32,
+    /// How many times in 65,536 a container on top is lifted though it needn't be.
+    pub dig: u32,
+}
+
+/// Whether what stands in a half-cell must be lifted at the call.
+fn must_leave(yard: &Yard, stack: u32, aft: bool, tier: u32, call: u32) -> bool {
+    match yard.stay(stack, aft, tier) {
+        None => true,
+        Some(stay) => stay.due <= call,
+    }
+}
+
+/// Whether what stands in a half-cell may be lifted at the call.
+fn may_leave(yard: &Yard, stack: u32, aft: bool, tier: u32, call: u32) -> bool {
+    match yard.stay(stack, aft, tier) {
+        None => false,
+        Some(stay) => stay.ends & bit_of(call) != 0,
+    }
+}
+
+/// How many tiers of a column stay: those below the first container that must be lifted at the call.
+fn staying(yard: &Yard, stack: u32, aft: bool, column: Column, call: u32) -> u32 {
+    if column.least > call {
+        return column.height;
+    }
+    for tier in 0..column.height {
+        if must_leave(yard, stack, aft, tier, call) {
+            return tier;
+        }
+    }
+    column.height
+}
+
+/// How many tiers stay after containers on top are lifted by chance, where they may be lifted.
+fn dug(
+    yard: &Yard,
+    chance: &mut Chance,
+    stack: u32,
+    aft: bool,
+    height: u32,
+    lifting: Lifting,
+) -> u32 {
+    let mut kept = height;
+    for _ in 0..TIERS {
+        let Some(top) = kept.checked_sub(1) else {
+            return kept;
+        };
+        if !may_leave(yard, stack, aft, top, lifting.call) || !chance.comes_true(lifting.dig) {
+            return kept;
+        }
+        kept = top;
+    }
+    kept
+}
+
+/// How many tiers of a column stay.
+fn kept(
+    yard: &Yard,
+    chance: &mut Chance,
+    stack: u32,
+    aft: bool,
+    column: Column,
+    lifting: Lifting,
+) -> u32 {
+    let height = staying(yard, stack, aft, column, lifting.call);
+    if lifting.dig == 0 {
+        return height;
+    }
+    dug(yard, chance, stack, aft, height, lifting)
+}
+
+/// How many tiers of both columns stay: a 40-foot container leaves both, with all above it.
+fn kept_heights(
+    yard: &Yard,
+    chance: &mut Chance,
+    facts: &StackFacts,
+    stack: u32,
+    pile: &Pile,
+    lifting: Lifting,
+) -> (u32, u32) {
+    let fore = kept(yard, chance, stack, false, pile.fore, lifting);
+    if facts.lengths == Lengths::Forty {
+        return (fore, fore);
+    }
+    let aft = kept(yard, chance, stack, true, pile.aft, lifting);
+    (
+        fore.min(aft.max(pile.fore.short)),
+        aft.min(fore.max(pile.aft.short)),
+    )
+}
+
+/// Lifts the tops of a column until so many tiers are left. False where the box forbids it.
+fn lower(
+    yard: &mut Yard,
+    facts: &Facts,
+    stack: u32,
+    aft: bool,
+    to: u32,
+    call: u32,
+) -> Result<bool, NoMemory> {
+    for _ in 0..TIERS {
+        let height = yard.height(stack, aft);
+        if height <= to {
+            return Ok(true);
+        }
+        if !yard.lift(facts, stack, aft, call)? {
+            return Ok(false);
+        }
+    }
+    Ok(true)
+}
+
+/// Lifts what leaves a stack; all of it where the cover under it is opened. False where the box forbids a lift.
+fn lift_from(
+    yard: &mut Yard,
+    facts: &Facts,
+    chance: &mut Chance,
+    stack: u32,
+    lifting: Lifting,
+) -> Result<bool, NoMemory> {
+    let Some(stack_facts) = facts.stacks.get(stack as usize) else {
+        return Ok(false);
+    };
+    let Some(pile) = yard.piles.get(stack as usize).copied() else {
+        return Ok(false);
+    };
+    let (fore, aft) = if yard.is_opened(stack_facts.under) {
+        (0, 0)
+    } else {
+        kept_heights(yard, chance, stack_facts, stack, &pile, lifting)
+    };
+    if fore == pile.fore.height && aft == pile.aft.height {
+        return Ok(true);
+    }
+    yard.open_over(stack_facts.over);
+    Ok(
+        lower(yard, facts, stack, false, fore, lifting.call)?
+            && lower(yard, facts, stack, true, aft, lifting.call)?,
+    )
+}
+
+/// Lifts what leaves the stacks that stand on covers, or those that don't. False where the box forbids a lift.
+fn lift_all_from(
+    yard: &mut Yard,
+    facts: &Facts,
+    chance: &mut Chance,
+    is_on_cover: bool,
+    lifting: Lifting,
+) -> Result<bool, NoMemory> {
+    let mut number: u32 = 0;
+    for stack in facts.stacks.iter() {
+        if stack.under.is_some() == is_on_cover
+            && !lift_from(yard, facts, chance, number, lifting)?
+        {
+            return Ok(false);
+        }
+        number = number.wrapping_add(1);
+    }
+    Ok(true)
+}
+
+/// Notes at the hatch covers what stays on and under them.
+fn survey(yard: &mut Yard, facts: &Facts) {
+    for (number, stack) in facts.stacks.iter().enumerate() {
+        if let Some(pile) = yard.piles.get(number).copied() {
+            yard.survey_stack(stack, &pile);
+        }
+    }
+}
+
+/// Lifts what leaves its place at a call: the containers that must be lifted, those above them, all on a cover under which
+/// something is lifted, and some on top by chance. False where the box forbids a lift.
+pub fn lift_all(
+    yard: &mut Yard,
+    facts: &Facts,
+    chance: &mut Chance,
+    lifting: Lifting,
+) -> Result<bool, NoMemory> {
+    yard.clear_hatches();
+    if !lift_all_from(yard, facts, chance, false, lifting)?
+        || !lift_all_from(yard, facts, chance, true, lifting)?
+    {
+        return Ok(false);
+    }
+    survey(yard, facts);
+    Ok(true)
+}

@@ -1,0 +1,278 @@
+//! Where a container goes: the open place with the least score.
+
+use crate::chance::Chance;
+use crate::guide::Guide;
+use stow_data::{Length, Span};
+use voyage_yard::{Classed, Facts, Hatch, Leave, Spot, StackFacts, Stay, Yard, bit_of};
+
+/// One in the fixed point of scores.
+pub const ONE: i64 = 256;
+
+/// What a run likes, in the fixed point of scores where nothing else is said.
+#[derive(Clone, Copy)]
+pub struct Taste {
+    /// How many times in 65,536 a container on top is lifted though it needn't be.
+    pub dig: u32,
+    /// For each call by which what is below leaves later than the container.
+    pub gap: i64,
+    /// For each tier.
+    pub tier: i64,
+    /// For the first place used on a cover that has empty cells under it.
+    pub first_on_cover: i64,
+    /// The most by chance.
+    pub noise: u32,
+}
+
+/// A container that is to be put somewhere at a call.
+#[derive(Clone, Copy)]
+pub struct Wish {
+    pub kind: u32,
+    pub call: u32,
+    pub dest: u32,
+    pub long: Length,
+    pub fit: u32,
+    pub kg: u32,
+    pub class: u32,
+    /// The number of its lot's first stay.
+    pub stays: u32,
+    /// Whether the stay is asked for.
+    pub is_pledged: bool,
+    /// The calls at which it may end, as bits.
+    pub ends: u32,
+}
+
+/// A place that is open for a container.
+#[derive(Clone, Copy)]
+pub struct Offer {
+    pub score: i64,
+    pub spot: Spot,
+    pub stay: Stay,
+}
+
+impl Wish {
+    /// A container of this kind, at this call.
+    pub fn of(facts: &Facts, kind: u32, call: u32) -> Option<Wish> {
+        let lot = facts.lot(call, kind)?;
+        let facts = facts.kinds.get(kind as usize)?;
+        Some(Wish {
+            kind,
+            call,
+            dest: facts.dest,
+            long: facts.long,
+            fit: facts.fit(),
+            kg: facts.kg,
+            class: facts.class,
+            stays: lot.stays,
+            is_pledged: false,
+            ends: u32::MAX,
+        })
+    }
+}
+
+/// Whether two places of a stack have a column in common.
+fn shares_column(a: Span, b: Span) -> bool {
+    a == b || a == Span::Both || b == Span::Both
+}
+
+/// Whether a container at a place stands near another one, as a separation of this level understands it.
+fn is_near(level: u32, bay: u32, spot: Spot, other: &Classed) -> bool {
+    let is_same_stack = other.spot.stack == spot.stack;
+    match level {
+        1 => {
+            let tiers = other.spot.tier.abs_diff(spot.tier);
+            is_same_stack && (tiers == 0 || tiers == 1 && shares_column(other.spot.span, spot.span))
+        }
+        2 => is_same_stack,
+        3 => other.bay == bay,
+        _ => false,
+    }
+}
+
+/// Whether a separation keeps a class from a place, as things stand.
+fn is_kept_away(yard: &Yard, facts: &Facts, class: u32, bay: u32, spot: Spot) -> bool {
+    if class == 0 {
+        return false;
+    }
+    for other in yard.classed.iter() {
+        if is_near(facts.level(class, other.class), bay, spot, other) {
+            return true;
+        }
+    }
+    false
+}
+
+/// What a place costs by what stands below it and under its cover: `least` is the least due there.
+fn score_of(wish: &Wish, taste: &Taste, due: u32, least: u32, is_clean: bool) -> i64 {
+    if is_clean {
+        let gap = i64::from(least).wrapping_sub(i64::from(wish.dest));
+        taste.gap.wrapping_mul(gap)
+    } else {
+        let stays = i64::from(due.min(least)).wrapping_sub(i64::from(wish.call));
+        ONE.wrapping_mul(100_i64.wrapping_sub(stays))
+    }
+}
+
+/// What a place costs by the hatch covers over and under it.
+fn score_of_hatches(over: Option<&Hatch>, under: Option<&Hatch>, taste: &Taste, due: u32) -> i64 {
+    let buried = match over {
+        Some(hatch) if hatch.latest > due => ONE.wrapping_mul(100),
+        _ => 0,
+    };
+    match under {
+        Some(hatch) if hatch.laden == 0 && hatch.room > 0 => {
+            taste.first_on_cover.wrapping_add(buried)
+        }
+        _ => buried,
+    }
+}
+
+/// The least due below a place and under its cover.
+fn least_under(yard: &Yard, spot: Spot, under: Option<&Hatch>) -> u32 {
+    let least = match yard.piles.get(spot.stack as usize) {
+        None => yard.later,
+        Some(pile) => Yard::least_below(pile, spot.span),
+    };
+    match under {
+        None => least,
+        Some(hatch) => least.min(hatch.least),
+    }
+}
+
+/// What is asked again and again as a container is put.
+#[derive(Clone, Copy)]
+pub struct Scene<'a> {
+    pub yard: &'a Yard,
+    pub facts: &'a Facts,
+    pub leave: &'a Leave,
+    pub guide: &'a Guide,
+    pub taste: &'a Taste,
+}
+
+impl<'a> Scene<'a> {
+    /// The hatch cover of a number.
+    fn hatch(&self, cover: Option<u32>) -> Option<&'a Hatch> {
+        self.yard.hatches.get(cover? as usize)
+    }
+
+    /// Where a container would stand in a stack, if it fits there and the stack bears it.
+    fn spot(&self, wish: &Wish, stack: u32, span: Span) -> Option<Spot> {
+        let facts = self.facts.stacks.get(stack as usize)?;
+        let pile = self.yard.piles.get(stack as usize)?;
+        let tier = Yard::open_tier(pile, span)?;
+        if tier >= facts.tiers || pile.kg.wrapping_add(wish.kg) > facts.limit_kg {
+            return None;
+        }
+        match self.hatch(facts.over) {
+            Some(hatch) if hatch.is_closed => None,
+            _ => Some(Spot { stack, tier, span }),
+        }
+    }
+
+    /// The calls at which a stay at a place may end, as bits: those that the box allows, up to the next stay that is asked
+    /// for there. None where another stay is asked for that begins at this call.
+    fn ends(&self, wish: &Wish, place: u32, rank: u32) -> Option<u32> {
+        let asked = self.leave.pledged(place) | self.guide.pledged(place);
+        if (asked & bit_of(wish.call) != 0) != wish.is_pledged {
+            return None;
+        }
+        let ends = wish.ends & self.leave.ends(wish.stays.wrapping_add(rank));
+        let past = asked.wrapping_shr(wish.call) / 2;
+        if past == 0 {
+            return Some(ends);
+        }
+        let next = wish
+            .call
+            .wrapping_add(past.trailing_zeros())
+            .wrapping_add(2);
+        Some(ends & bit_of(next).wrapping_sub(1))
+    }
+
+    /// The stay at a place, where one is allowed.
+    fn stay(&self, wish: &Wish, place: u32) -> Option<Stay> {
+        let rank = self.facts.rank(wish.fit, place)?;
+        if rank == u32::MAX {
+            return None;
+        }
+        let ends = self.ends(wish, place, rank)?;
+        if ends == 0 || ends.wrapping_shr(wish.call) / 2 == 0 {
+            return None;
+        }
+        Some(Stay {
+            kind: wish.kind,
+            put: wish.call,
+            rank,
+            ends,
+            due: ends.ilog2(),
+            least: 0,
+            doomed: false,
+        })
+    }
+
+    /// What a stack offers to a container.
+    pub fn offer(&self, wish: &Wish, stack: u32, span: Span) -> Option<Offer> {
+        let facts: &StackFacts = self.facts.stacks.get(stack as usize)?;
+        let spot = self.spot(wish, stack, span)?;
+        let place = facts.place(spot.tier, span)?;
+        let mut stay = self.stay(wish, place)?;
+        let under = self.hatch(facts.under);
+        let least = least_under(self.yard, spot, under);
+        if least < stay.due && stay.ends & bit_of(least) == 0 {
+            return None;
+        }
+        if is_kept_away(self.yard, self.facts, wish.class, facts.bay, spot) {
+            return None;
+        }
+        stay.doomed = least < wish.dest || stay.due < wish.dest;
+        let own = score_of(wish, self.taste, stay.due, least, !stay.doomed);
+        let hatches = score_of_hatches(self.hatch(facts.over), under, self.taste, stay.due);
+        let tiers = self.taste.tier.wrapping_mul(i64::from(spot.tier));
+        Some(Offer {
+            score: own.wrapping_add(hatches).wrapping_add(tiers),
+            spot,
+            stay,
+        })
+    }
+
+    /// The better one of an offer and what a stack offers, with noise.
+    fn better(
+        &self,
+        best: Option<Offer>,
+        wish: &Wish,
+        stack: u32,
+        span: Span,
+        chance: &mut Chance,
+    ) -> Option<Offer> {
+        let Some(mut offer) = self.offer(wish, stack, span) else {
+            return best;
+        };
+        offer.score = offer.score.wrapping_add(noise(chance, self.taste.noise));
+        match best {
+            Some(best) if best.score <= offer.score => Some(best),
+            _ => Some(offer),
+        }
+    }
+
+    /// The offer with the least score, if any.
+    pub fn best(&self, wish: &Wish, chance: &mut Chance) -> Option<Offer> {
+        let mut best = None;
+        let mut stack: u32 = 0;
+        for _ in self.facts.stacks.iter() {
+            best = match wish.long {
+                Length::Forty => self.better(best, wish, stack, Span::Both, chance),
+                Length::Twenty => {
+                    let fore = self.better(best, wish, stack, Span::Fore, chance);
+                    self.better(fore, wish, stack, Span::Aft, chance)
+                }
+            };
+            stack = stack.wrapping_add(1);
+        }
+        best
+    }
+}
+
+/// A number by chance below `most`, which is below 65,536: the square of a uniform one, so mostly small.
+fn noise(chance: &mut Chance, most: u32) -> i64 {
+    let drawn = chance.draw() / 65_536;
+    let square = drawn.wrapping_mul(drawn) / 65_536;
+    i64::from(square.wrapping_mul(most) / 65_536)
+}

@@ -1,0 +1,214 @@
+//! The planner of one worker.
+ghost use Rattle.std.specs.Prelude.{◌≡◌, ◌<◌, All, IfOk, IfSome, IsSome, None, Some, length, slice_get};
+ghost use Rattle.zero_one_rows.specs.Variables.{variables};
+
+use crate::sailing::Sailor;
+use std::alloc::Global;
+use std::mem;
+use stow_data::{Cargo, NoMemory, Ship, VarNo};
+use voyage_yard::{Planned, gather_facts};
+use zero_one_model::{Box01, Model};
+
+/// What is asked of a planner at a node.
+#[derive(Clone, Copy, Debug)]
+pub struct Wanted {
+    /// Only voyages that rehandle less often than this are taken.
+    pub cut: u64,
+    /// A voyage that rehandles at most so often is good enough: none is looked for behind it.
+    pub enough: u64,
+    /// How many voyages are tried.
+    pub runs: u32,
+}
+
+/// Plans voyages by chance, again and again: its work space is kept from node to node.
+#[derive(Drop)]
+pub struct Planner {
+    sailor: Sailor,
+    /// The variables of the stays of the cheapest voyage that was found, and how often it rehandles.
+    stays: Vec<Planned>,
+    cost: u64,
+}
+
+/// How early a stay comes as a branch: by put, tier, the latest lifting and place.
+type Rank = (u32, u32, u32, u32);
+
+/// Fixes a variable at a value where it is free.
+fn fix_free(b: &mut Box01, x: VarNo, value: bool)
+    requires inside { x < length b.old }
+    ensures same_length { length b.new ≡ length b.old }
+{
+    if b.at(x).is_none() {
+        b.fix(x, value);
+    }
+}
+
+/// Fixes the free variables at 0.
+fn fix_rest(model: &Model, b: &mut Box01)
+    requires whole { length b.old ≡ length (variables model.now) }
+    ensures whole { length b.new ≡ length (variables model.now) }
+{
+    for x in 0..model.vars() {
+        fix_free(b, VarNo(x), false);
+    }
+}
+
+impl Planner {
+    /// A planner for the voyages of this ship and cargo, whose program is `model`.
+    pub fn new(
+        alloc: Global,
+        ship: &Ship,
+        cargo: &Cargo,
+        model: &Model,
+    ) -> Result<Planner, NoMemory> {
+        let facts = gather_facts(alloc, ship, cargo, model)?;
+        Ok(Planner {
+            sailor: Sailor::new(alloc, facts, 1)?,
+            stays: Vec::new(alloc),
+            cost: u64::MAX,
+        })
+    }
+
+    /// How often the cheapest voyage of the last box rehandles; None where none was found.
+    pub fn cost(&self) -> Option<u64> {
+        if self.stays.is_empty() {
+            None
+        } else {
+            Some(self.cost)
+        }
+    }
+
+    /// How many of the cheapest voyage's stays the box asks for; None where it forbids one.
+    fn asked(&self, model: &Model, b: &Box01) -> Option<u32>
+        requires whole { length b.now ≡ length (variables model.now) }
+    {
+        let mut count: u32 = 0;
+        for stay in self.stays.iter() {
+            if stay.x.0 >= model.vars() {
+                return None;
+            }
+            match b.at(stay.x) {
+                Some(false) => return None,
+                Some(true) => count = count.wrapping_add(1),
+                None => {}
+            }
+        }
+        Some(count)
+    }
+
+    /// Forgets the cheapest voyage, unless it is below the cut, and the box allows it and asks for no stay beside it.
+    fn forget(&mut self, model: &Model, b: &Box01, cut: u64)
+        requires whole { length b.now ≡ length (variables model.now) }
+    {
+        let asked = self.asked(model, b);
+        let is_fresh = asked == Some(self.sailor.leave.ones());
+        if self.stays.is_empty() || self.cost >= cut || !is_fresh {
+            self.stays.clear();
+            self.cost = cut;
+        }
+    }
+
+    /// Sails one more voyage, and keeps it where it is cheaper, or as cheap as the one that is kept.
+    fn try_once(&mut self) -> Result<(), NoMemory> {
+        let limit = if self.stays.is_empty() {
+            self.cost
+        } else {
+            self.cost.saturating_add(1)
+        };
+        if self.sailor.sail(limit, self.stays.as_slice())? {
+            self.cost = self.sailor.yard.cost;
+            mem::swap(&mut self.stays, &mut self.sailor.yard.stays);
+        }
+        Ok(())
+    }
+
+    /// Looks for a voyage.
+    fn look(&mut self, wanted: Wanted) -> Result<(), NoMemory> {
+        for _ in 0..wanted.runs {
+            if self.cost <= wanted.enough {
+                return Ok(());
+            }
+            self.try_once()?;
+        }
+        Ok(())
+    }
+
+    /// The earlier one of two branches.
+    fn earlier(
+        &self,
+        model: &Model,
+        b: &Box01,
+        best: Option<(Rank, VarNo)>,
+        stay: &Planned,
+    ) -> Option<(Rank, VarNo)>
+        requires whole { length b.now ≡ length (variables model.now) }
+        requires best { IfSome best (λ c. slice_get b.now c.1 ≡ Some None) }
+        ensures free { IfSome result (λ c. slice_get b.now c.1 ≡ Some None) }
+    {
+        if stay.x.0 >= model.vars() || b.at(stay.x).is_some() {
+            return best;
+        }
+        let latest = u32::MAX - stay.lifted;
+        let rank = (stay.put, stay.spot.tier, latest, stay.place);
+        match best {
+            Some((least, _)) if least <= rank => best,
+            _ => Some((rank, stay.x)),
+        }
+    }
+
+    /// The first free stay of the cheapest voyage.
+    fn branch(&self, model: &Model, b: &Box01) -> Option<VarNo>
+        requires whole { length b.now ≡ length (variables model.now) }
+        ensures free { IfSome result (λ x. slice_get b.now x ≡ Some None) }
+    {
+        let mut best = None;
+        for stay in self.stays.iter() {
+            best = self.earlier(model, b, best, stay);
+        }
+        best.map(|found| found.1)
+    }
+
+    /// Fixes the stays of the cheapest voyage at 1.
+    fn fix_stays(&self, model: &Model, b: &mut Box01)
+        requires whole { length b.old ≡ length (variables model.now) }
+        ensures whole { length b.new ≡ length (variables model.now) }
+    {
+        for stay in self.stays.iter() {
+            if stay.x.0 < model.vars() {
+                fix_free(b, stay.x, true);
+            }
+        }
+    }
+
+    /// The cheapest voyage as a box: its stays at 1, all other variables at 0. None where none was found. It isn't said that
+    /// it breaks no row.
+    pub fn full_box(&self, alloc: Global, model: &Model) -> Result<Option<Box01>, NoMemory>
+        ensures whole { IfOk result (λ found. IfSome found (λ b. length b ≡ length (variables model.now))) }
+        ensures full { IfOk result (λ found. IfSome found (All IsSome)) }
+    {
+        if self.stays.is_empty() {
+            return Ok(None);
+        }
+        let mut b = Box01::free(alloc, model)?;
+        self.fix_stays(model, &mut b);
+        fix_rest(model, &mut b);
+        if b.is_full() { Ok(Some(b)) } else { Ok(None) }
+    }
+
+    /// A free variable of the box to divide by: the first free stay of the cheapest voyage that was found, by put, tier,
+    /// the latest lifting and place. None where no voyage below the cut was found.
+    pub fn choose(
+        &mut self,
+        model: &Model,
+        b: &Box01,
+        wanted: Wanted,
+    ) -> Result<Option<VarNo>, NoMemory>
+        requires whole { length b.now ≡ length (variables model.now) }
+        ensures free { IfOk result (λ chosen. IfSome chosen (λ x. slice_get b.now x ≡ Some None)) }
+        ensures inside { IfOk result (λ chosen. IfSome chosen (λ x. x < length (variables model.now))) }
+    {
+        self.sailor.leave.read(&self.sailor.facts, model, b)?;
+        self.forget(model, b, wanted.cut);
+        self.look(wanted)?;
+        Ok(self.branch(model, b))
+    }
+}

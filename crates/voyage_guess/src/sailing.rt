@@ -1,0 +1,322 @@
+//! One voyage by chance, from the arrival to the last call.
+
+use crate::chance::Chance;
+use crate::guide::Guide;
+use crate::lifting::{Lifting, lift_all};
+use crate::placing::{ONE, Offer, Scene, Taste, Wish};
+use std::alloc::Global;
+use stow_data::NoMemory;
+use voyage_yard::{Arrived, Facts, Leave, Planned, Spot, Stay, TIERS, Yard};
+
+/// What a run likes, by chance.
+fn draw_taste(chance: &mut Chance) -> Taste {
+    let dig = if chance.below(100) < 30 {
+        chance.below(19_660)
+    } else {
+        0
+    };
+    let tier = if chance.below(2) == 0 {
+        0
+    } else {
+        chance.from(-ONE, 512)
+    };
+    Taste {
+        dig,
+        gap: chance.from(-77, 512),
+        tier,
+        first_on_cover: 576,
+        noise: 768,
+    }
+}
+
+/// Draws the order in which kinds are put: the latest destination first, or a mixture of that and chance. Each entry has
+/// the kind's number in its lower half.
+fn draw_order(facts: &Facts, chance: &mut Chance, order: &mut Vec<u64>) {
+    let (weight, spread) = if chance.below(100) < 35 {
+        (chance.below(65_536), 4)
+    } else {
+        (65_536, 1)
+    };
+    let mut number: u64 = 0;
+    for (entry, kind) in order.iter_mut().zip(facts.kinds.iter()) {
+        let drawn = chance.below(65_536);
+        let key = weight
+            .wrapping_mul(32_u32.saturating_sub(kind.dest))
+            .wrapping_add(drawn.wrapping_mul(spread));
+        *entry = u64::from(key)
+            .wrapping_mul(4_294_967_296)
+            .wrapping_add(number);
+        number = number.wrapping_add(1);
+    }
+    order.sort_unstable();
+}
+
+/// Takes the containers from the quay for which these stays ask at a call. False where one isn't there.
+fn reserve_from(stays: &[Planned], yard: &mut Yard, call: u32) -> bool {
+    for pledge in stays {
+        if pledge.put == call && !yard.take(pledge.kind) {
+            return false;
+        }
+    }
+    true
+}
+
+/// Sails voyages by chance.
+#[derive(Drop)]
+pub struct Sailor {
+    pub facts: Facts,
+    pub leave: Leave,
+    guide: Guide,
+    pub yard: Yard,
+    chance: Chance,
+    taste: Taste,
+    order: Vec<u64>,
+}
+
+impl Sailor {
+    /// A sailor who knows these facts.
+    pub fn new(alloc: Global, facts: Facts, seed: u64) -> Result<Sailor, NoMemory> {
+        let leave = Leave::new(alloc, &facts)?;
+        let guide = Guide::new(alloc, &facts)?;
+        let yard = Yard::new(alloc, &facts)?;
+        let order = Vec::from_elem(alloc, 0, facts.kinds.len())?;
+        let mut chance = Chance::new(seed);
+        let taste = draw_taste(&mut chance);
+        Ok(Sailor {
+            facts,
+            leave,
+            guide,
+            yard,
+            chance,
+            taste,
+            order,
+        })
+    }
+
+    /// Puts a container that stands aboard as the ship comes in.
+    fn settle(&mut self, arrived: Arrived) -> Result<(), NoMemory> {
+        let Some(lot) = self.facts.lot(0, arrived.kind).copied() else {
+            return Ok(());
+        };
+        let Some(place) = self.facts.places.get(arrived.place as usize).copied() else {
+            return Ok(());
+        };
+        let ends = self.leave.ends(lot.stays.wrapping_add(arrived.rank));
+        let due = if ends == 0 { 0 } else { ends.ilog2() };
+        let spot = Spot {
+            stack: place.stack.0,
+            tier: place.tier,
+            span: place.span,
+        };
+        let stay = Stay {
+            kind: arrived.kind,
+            put: 0,
+            rank: arrived.rank,
+            ends,
+            due,
+            least: 0,
+            doomed: false,
+        };
+        self.yard.put(&self.facts, spot, stay)
+    }
+
+    /// Puts what stands aboard as the ship comes in.
+    fn come_in(&mut self) -> Result<(), NoMemory> {
+        self.yard.clear();
+        self.yard.clear_hatches();
+        for number in 0..self.facts.arrived.len() {
+            if let Some(arrived) = self.facts.arrived.get(number).copied() {
+                self.settle(arrived)?;
+            }
+        }
+        Ok(())
+    }
+
+    /// What loads at a call comes to the quay.
+    fn load(&mut self, call: u32) {
+        let mut kind: u32 = 0;
+        for _ in 0..self.facts.kinds.len() {
+            let count = self.facts.load(call, kind);
+            self.yard.load(kind, count);
+            kind = kind.wrapping_add(1);
+        }
+    }
+
+    /// Takes the containers from the quay for which a stay is asked for at this call. False where one isn't there.
+    fn reserve(&mut self, call: u32) -> bool {
+        reserve_from(self.leave.pledges(), &mut self.yard, call)
+            && reserve_from(self.guide.stays(), &mut self.yard, call)
+    }
+
+    /// Puts a container at the place that was offered.
+    fn accept(&mut self, offer: &Offer) -> Result<(), NoMemory> {
+        self.yard.waiting = self.yard.waiting.wrapping_sub(1);
+        self.yard.put(&self.facts, offer.spot, offer.stay)
+    }
+
+    /// What is asked as a container is put.
+    fn scene(&self) -> Scene<'_> {
+        Scene {
+            yard: &self.yard,
+            facts: &self.facts,
+            leave: &self.leave,
+            guide: &self.guide,
+            taste: &self.taste,
+        }
+    }
+
+    /// What the place offers at which a stay is asked for.
+    fn pledged_offer(&self, pledge: &Planned) -> Option<Offer> {
+        let mut wish = Wish::of(&self.facts, pledge.kind, pledge.put)?;
+        wish.is_pledged = true;
+        wish.ends = pledge.ends;
+        let offer = self
+            .scene()
+            .offer(&wish, pledge.spot.stack, pledge.spot.span)?;
+        if offer.spot.tier == pledge.spot.tier {
+            Some(offer)
+        } else {
+            None
+        }
+    }
+
+    /// Begins a stay that is asked for at a call, where it is open.
+    fn redeem_one(&mut self, pledge: Option<Planned>, call: u32) -> Result<(), NoMemory> {
+        let Some(pledge) = pledge else {
+            return Ok(());
+        };
+        if pledge.put != call {
+            return Ok(());
+        }
+        match self.pledged_offer(&pledge) {
+            None => Ok(()),
+            Some(offer) => self.accept(&offer),
+        }
+    }
+
+    /// Begins those stays that the box asks for at a call and that are open.
+    fn redeem_pledges(&mut self, call: u32) -> Result<(), NoMemory> {
+        for number in 0..self.leave.pledges().len() {
+            let pledge = self.leave.pledges().get(number).copied();
+            self.redeem_one(pledge, call)?;
+        }
+        Ok(())
+    }
+
+    /// Begins those stays that are taken over at a call and that are open.
+    fn redeem_guide(&mut self, call: u32) -> Result<(), NoMemory> {
+        for number in 0..self.guide.stays().len() {
+            let pledge = self.guide.stays().get(number).copied();
+            self.redeem_one(pledge, call)?;
+        }
+        Ok(())
+    }
+
+    /// Puts a container of a kind at the best place. False where none is open.
+    fn put_one(&mut self, wish: &Wish) -> Result<bool, NoMemory> {
+        let mut chance = self.chance;
+        let best = self.scene().best(wish, &mut chance);
+        self.chance = chance;
+        let Some(offer) = best else {
+            return Ok(false);
+        };
+        if self.yard.take(wish.kind) {
+            self.accept(&offer)?;
+        }
+        Ok(true)
+    }
+
+    /// Puts the containers of a kind that wait, as far as places are open.
+    fn put_kind(&mut self, kind: u32, call: u32) -> Result<(), NoMemory> {
+        let Some(wish) = Wish::of(&self.facts, kind, call) else {
+            return Ok(());
+        };
+        for _ in 0..self.yard.on_quay(kind) {
+            if !self.put_one(&wish)? {
+                return Ok(());
+            }
+        }
+        Ok(())
+    }
+
+    /// Puts the containers that wait, as far as places are open.
+    fn put_waiting(&mut self, call: u32) -> Result<(), NoMemory> {
+        for number in 0..self.order.len() {
+            let entry = self.order.get(number).copied().unwrap_or(0);
+            self.put_kind((entry % 4_294_967_296) as u32, call)?;
+        }
+        Ok(())
+    }
+
+    /// Puts all that waits. False where something finds no place.
+    fn put_all(&mut self, call: u32) -> Result<bool, NoMemory> {
+        if !self.reserve(call) {
+            return Ok(false);
+        }
+        for _ in 0..TIERS {
+            let before = self.yard.waiting;
+            self.redeem_pledges(call)?;
+            self.redeem_guide(call)?;
+            self.put_waiting(call)?;
+            if self.yard.waiting == 0 {
+                return Ok(true);
+            }
+            if self.yard.waiting == before {
+                return Ok(false);
+            }
+        }
+        Ok(false)
+    }
+
+    /// What happens at a call before the last. False where the run fails, or comes to so many rehandles.
+    fn visit(&mut self, call: u32, limit: u64) -> Result<bool, NoMemory> {
+        let lifting = Lifting {
+            call,
+            dig: self.taste.dig,
+        };
+        if !lift_all(&mut self.yard, &self.facts, &mut self.chance, lifting)? {
+            return Ok(false);
+        }
+        self.load(call);
+        Ok(
+            self.yard.cost.wrapping_add(self.yard.doomed) < limit
+                && self.put_all(call)?
+                && self.yard.cost.wrapping_add(self.yard.doomed) < limit,
+        )
+    }
+
+    /// All that is aboard leaves at the last call. False where the box forbids it.
+    fn arrive(&mut self) -> Result<bool, NoMemory> {
+        let lifting = Lifting {
+            call: self.facts.calls,
+            dig: 0,
+        };
+        lift_all(&mut self.yard, &self.facts, &mut self.chance, lifting)
+    }
+
+    /// Draws which stays of an earlier voyage the next run takes over.
+    fn follow(&mut self, stays: &[Planned]) -> Result<(), NoMemory> {
+        let is_guided = self.chance.below(100) < 60;
+        if stays.is_empty() || !is_guided {
+            self.guide.clear();
+            return Ok(());
+        }
+        self.guide
+            .draw(&self.facts, &mut self.chance, stays, self.leave.asked())
+    }
+
+    /// Sails a voyage that rehandles less often than `limit`. False where it fails. The variables of its stays and its cost
+    /// stand in the yard.
+    pub fn sail(&mut self, limit: u64, earlier: &[Planned]) -> Result<bool, NoMemory> {
+        self.follow(earlier)?;
+        self.taste = draw_taste(&mut self.chance);
+        draw_order(&self.facts, &mut self.chance, &mut self.order);
+        self.come_in()?;
+        for call in 1..self.facts.calls {
+            if !self.visit(call, limit)? {
+                return Ok(false);
+            }
+        }
+        Ok(self.arrive()? && self.yard.cost < limit)
+    }
+}

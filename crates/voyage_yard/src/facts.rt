@@ -1,0 +1,187 @@
+//! What of a voyage is the same in every run: stacks, kinds, and which variables belong together.
+
+use stow_data::{Length, Lengths, Place, Span};
+
+/// Tiers that a stack has at most.
+pub const TIERS: u32 = 40;
+
+/// A place by stack, tier and half-cells.
+#[derive(Clone, Copy)]
+pub struct Spot {
+    pub stack: u32,
+    pub tier: u32,
+    pub span: Span,
+}
+
+/// What is the same of a stack in every run.
+#[derive(Clone, Copy)]
+pub struct StackFacts {
+    pub bay: u32,
+    pub tiers: u32,
+    /// The greatest sum of rounded weights, in kilograms.
+    pub limit_kg: u32,
+    pub lengths: Lengths,
+    /// Its first place.
+    pub first_place: u32,
+    /// The hatch cover over it.
+    pub over: Option<u32>,
+    /// The hatch cover that it stands on.
+    pub under: Option<u32>,
+}
+
+impl StackFacts {
+    /// The place of a tier that takes these half-cells, where the stack offers it.
+    pub fn place(&self, tier: u32, span: Span) -> Option<u32> {
+        let (each_tier, before) = match (self.lengths, span) {
+            (Lengths::Forty, Span::Both) => (1, 0),
+            (Lengths::ForeOnly, Span::Fore) => (1, 0),
+            (Lengths::AftOnly, Span::Aft) => (1, 0),
+            (Lengths::Twenty, Span::Fore) => (2, 0),
+            (Lengths::Twenty, Span::Aft) => (2, 1),
+            (Lengths::Mixed, Span::Fore) => (3, 0),
+            (Lengths::Mixed, Span::Aft) => (3, 1),
+            (Lengths::Mixed, Span::Both) => (3, 2),
+            _ => return None,
+        };
+        let up = tier.wrapping_mul(each_tier).wrapping_add(before);
+        Some(self.first_place.wrapping_add(up))
+    }
+}
+
+/// What is the same of a kind of containers in every run.
+#[derive(Clone, Copy)]
+pub struct KindFacts {
+    pub dest: u32,
+    pub long: Length,
+    pub reefer: bool,
+    /// The rounded weight, in kilograms.
+    pub kg: u32,
+    /// The number of its class among the classes that separations name, from 1; 0 where none names it.
+    pub class: u32,
+}
+
+impl KindFacts {
+    /// Which places the kind fits: kinds with one number fit the same places.
+    pub fn fit(&self) -> u32 {
+        match (self.long, self.reefer) {
+            (Length::Twenty, false) => 0,
+            (Length::Twenty, true) => 1,
+            (Length::Forty, false) => 2,
+            (Length::Forty, true) => 3,
+        }
+    }
+}
+
+/// The variables of one kind that are put at one call: so many for each later call, each in the order of their places.
+#[derive(Clone, Copy)]
+pub struct Lot {
+    /// The first of the variables.
+    pub first: u32,
+    /// How many places there are.
+    pub width: u32,
+    /// The number of the first place's stays, among those of all lots.
+    pub stays: u32,
+}
+
+/// The lot of a kind without variables.
+pub const NO_LOT: Lot = Lot {
+    first: u32::MAX,
+    width: 0,
+    stays: u32::MAX,
+};
+
+/// Which stays a variable belongs to, and the call at which it is lifted, as a bit.
+#[derive(Clone, Copy)]
+pub struct Mark {
+    pub stays: u32,
+    pub lifted: u32,
+}
+
+/// A container that stands aboard as the ship comes in.
+#[derive(Clone, Copy)]
+pub struct Arrived {
+    pub kind: u32,
+    pub place: u32,
+    /// Its place's number in the lot.
+    pub rank: u32,
+}
+
+/// What is the same in every run.
+#[derive(Drop)]
+pub struct Facts {
+    /// The last call.
+    pub calls: u32,
+    pub stacks: Vec<StackFacts>,
+    /// The number of hatch covers.
+    pub covers: u32,
+    pub places: Vec<Place>,
+    pub kinds: Vec<KindFacts>,
+    /// For each call and kind how many containers load.
+    pub loads: Vec<u32>,
+    /// For each call and kind its lot.
+    pub lots: Vec<Lot>,
+    /// For each fit and place its number among the places of a lot.
+    pub ranks: Vec<u32>,
+    /// For each variable what it belongs to.
+    pub marks: Vec<Mark>,
+    /// How many places all lots have.
+    pub stays: u32,
+    pub arrived: Vec<Arrived>,
+    /// For two classes the level of their separation, or 0.
+    pub levels: Vec<u32>,
+    /// The number of classes that separations name.
+    pub classes: u32,
+}
+
+/// An index into a table of rows of this width.
+pub fn index_of(row: u32, width: usize, column: u32) -> usize {
+    (row as usize)
+        .wrapping_mul(width)
+        .wrapping_add(column as usize)
+}
+
+impl Facts {
+    /// The lot of a kind at a call.
+    pub fn lot(&self, put: u32, kind: u32) -> Option<&Lot> {
+        self.lots.get(index_of(put, self.kinds.len(), kind))
+    }
+
+    /// The number of a place among those of a lot.
+    pub fn rank(&self, fit: u32, place: u32) -> Option<u32> {
+        self.ranks
+            .get(index_of(fit, self.places.len(), place))
+            .copied()
+    }
+
+    /// Which places a kind fits.
+    pub fn fit(&self, kind: u32) -> u32 {
+        match self.kinds.get(kind as usize) {
+            None => 0,
+            Some(kind) => kind.fit(),
+        }
+    }
+
+    /// How many containers of a kind load at a call.
+    pub fn load(&self, call: u32, kind: u32) -> u32 {
+        let index = index_of(call, self.kinds.len(), kind);
+        self.loads.get(index).copied().unwrap_or(0)
+    }
+
+    /// The place of a stack, tier and half-cells.
+    pub fn place_of(&self, spot: Spot) -> Option<u32> {
+        self.stacks
+            .get(spot.stack as usize)?
+            .place(spot.tier, spot.span)
+    }
+
+    /// The level at which two classes are kept apart, or 0.
+    pub fn level(&self, a: u32, b: u32) -> u32 {
+        let width = (self.classes as usize).wrapping_add(1);
+        self.levels.get(index_of(a, width, b)).copied().unwrap_or(0)
+    }
+}
+
+/// A call, as a bit of a set of calls.
+pub fn bit_of(call: u32) -> u32 {
+    1_u32.wrapping_shl(call)
+}
