@@ -1,0 +1,13 @@
+pub mod Folds
+pub mod Values
+pub mod Numbered
+pub mod Halves
+pub mod Prices
+pub mod Changes
+pub mod Trails
+pub mod Ends
+pub mod Stacks
+pub mod Standing
+pub mod Sameness
+pub mod Walks
+pub mod Pricing

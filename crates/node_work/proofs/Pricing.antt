@@ -1,0 +1,53 @@
+-- The multipliers along a trail.
+use Rattle.std.proofs.Common.{◌≡◌, List, [], ◌∷◌, length, Option, Some, None, refl, sym, subst, ◌∙◌, ap}
+use Rattle.std.proofs.lemmas.List.{length-replicate}
+use Rattle.zero_one_rows.specs.declared.program.Row.{Row}
+use Rattle.zero_one_rows.specs.Variables.{Voyage, variables}
+use Rattle.zero_one_rows.specs.Rows.{whole}
+use Rattle.proof_trees.specs.Multipliers.{Multipliers}
+use Rattle.proof_trees.specs.Boxes.{Box}
+use Rattle.proof_trees.specs.Trees.{Pending, root}
+use Rattle.certificate.specs.declared.tree.Record.{Record}
+use Rattle.certificate.specs.declared.journals.Node.{Node}
+use Rattle.certificate.specs.Entries.{same_row, entry_of}
+use Rattle.search_machine.specs.Journals.{Path, child, after, known}
+use Rattle.search_machine.specs.Machine.{IsTrail}
+use Rattle.dual_bound.specs.Raising.{AreMultipliers}
+use Rattle.node_work.specs.Starts.{IsSound, InRange, prices_along}
+use Rattle.node_work.specs.Work.{IsNode, begins_at}
+use Rattle.node_work.proofs.Trails.{pending, entries, child_sound}
+
+module _ (m : Voyage) where
+  pub in_range : (q : Pending Row) (path : Path) (rs : List Record) → IsTrail same_row (whole m) q path (entries m rs) → InRange q.multipliers rs
+  in_range q [] [] h = tt
+  in_range q [] (r ∷ rs) h = absurd h
+  in_range q (y ∷ path) [] h = absurd h
+  in_range q (y ∷ path) (r ∷ rs) h =
+      let rest : InRange (known (Some h.0.1.0)) rs = subst (λ (o : Option (Multipliers Row)). InRange (known o) rs) h.0.1.1 (in_range (child same_row (whole m) q (entry_of m r) y) path rs h.2) in
+      (h.0.1.0, h.0.1.1, rest)
+
+  pub priced_is : (q : Pending Row) (path : Path) (rs : List Record) → IsTrail same_row (whole m) q path (entries m rs) → (after same_row (whole m) q path (entries m rs)).multipliers ≡ prices_along q.multipliers rs
+  priced_is q [] [] h = refl
+  priced_is q [] (r ∷ rs) h = absurd h
+  priced_is q (y ∷ path) [] h = absurd h
+  priced_is q (y ∷ path) (r ∷ rs) h = priced_is (child same_row (whole m) q (entry_of m r) y) path rs h.2
+
+  pub sound_along : (q : Pending Row) (path : Path) (rs : List Record) → IsSound m q → IsTrail same_row (whole m) q path (entries m rs) → IsSound m (after same_row (whole m) q path (entries m rs))
+  sound_along q [] [] s h = s
+  sound_along q [] (r ∷ rs) s h = absurd h
+  sound_along q (y ∷ path) [] s h = absurd h
+  sound_along q (y ∷ path) (r ∷ rs) s h = sound_along (child same_row (whole m) q (entry_of m r) y) path rs (child_sound m q (entry_of m r) y s h.0) h.2
+
+pub root_sound : (m : Voyage) → IsSound m (root (whole m))
+root_sound m = record { vars = length-replicate (length (variables m)) None; prices = tt }
+
+-- the box and the multipliers of a node are those with which it begins
+pub begun_is : (m : Voyage) (n : Node) (b : Box) (ms : Multipliers Row) (path : Path) (trail : List Record) → IsNode m n → path ≡ n.path → trail ≡ n.trail
+    → b ≡ (after same_row (whole m) (root (whole m)) path (entries m trail)).box → ms ≡ prices_along [] trail → pending b ms ≡ begins_at m n
+begun_is m n b ms path trail h same_path same_trail box prices =
+    ap (λ (d : Box). pending d ms) (box ∙ ap (λ (ps : Path). (after same_row (whole m) (root (whole m)) ps (entries m trail)).box) same_path ∙ ap (λ (rs : List Record). (after same_row (whole m) (root (whole m)) n.path (entries m rs)).box) same_trail)
+    ∙ ap (λ (us : Multipliers Row). pending (begins_at m n).box us) (prices ∙ ap (prices_along []) same_trail ∙ sym (priced_is m (root (whole m)) n.path n.trail h))
+
+pub begun_prices : (m : Voyage) (n : Node) (ms : Multipliers Row) (trail : List Record) → IsNode m n → trail ≡ n.trail → ms ≡ prices_along [] trail → AreMultipliers m ms
+begun_prices m n ms trail h same prices =
+    subst (AreMultipliers m) (sym (prices ∙ ap (prices_along []) same ∙ sym (priced_is m (root (whole m)) n.path n.trail h))) (sound_along m (root (whole m)) n.path n.trail (root_sound m) h).prices

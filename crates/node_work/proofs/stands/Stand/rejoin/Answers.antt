@@ -1,0 +1,23 @@
+use Rattle.std.proofs.Common.{◌≡◌, ℕ, ◌+◌, ◌-◌, ◌<◌, ◌≤◌, List, false, take, get_or, length, refl, sym, ◌∙◌, ap, arith}
+use Rattle.std.proofs.lemmas.Result.{on_ok_weaker}
+use Rattle.node_work.specs.declared.stands.Frame.{Frame}
+use Rattle.node_work.proofs.Folds.{default_any}
+use Rattle.node_work.proofs.Standing.{stand_first}
+use Rattle.node_work.proofs.Walks.{turned_values}
+use Rattle.node_work.proofs.stands.Stand.rejoin.Goals as goal
+
+pub turn-requires-clause-stand : goal.turn-requires-clause-stand
+turn-requires-clause-stand c = stand_first c.args.model.now c.args.self.now _ c.args.depth c.requires.stand refl refl c.truncate.ensures.items
+
+pub returns-clause-values : goal.returns-clause-values
+returns-clause-values c = on_ok_weaker c.turn.result (λ t.
+    let k : ℕ = c.args.depth - 1 in
+    let one : c.args.depth ≡ k + 1 = omega (arith, c.if-depth-eq0.false) in
+    let frames : List Frame = c.args.self.now.frames.items in
+    let few : c.args.depth ≤ length frames = c.requires.frames in
+    let short : c.args.depth ≤ length c.args.path.now = c.requires.branches in
+    let lt : k < length frames = omega arith in
+    let lt' : k < length c.args.path.now = omega arith in
+    let is : take (k + 1) frames ≡ _ = ap (λ (n : ℕ). take n frames) (sym one) ∙ sym c.truncate.ensures.items ∙ t.2 in
+    turned_values frames t.0 c.turn.new.self.frames.items t.1 c.args.path.now k (get_or c.args.path.now k false) is t.3 lt (c.requires.values k one) lt' (default_any c.args.path.now k false (get_or c.args.path.now k false) lt')
+    ∙ ap (λ (n : ℕ). take n c.args.path.now) (sym one)) c.turn.ensures.frames

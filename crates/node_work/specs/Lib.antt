@@ -1,0 +1,4 @@
+pub mod Desks
+pub mod Stands
+pub mod Starts
+pub mod Work

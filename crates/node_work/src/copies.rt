@@ -1,0 +1,121 @@
+//! Copies of records, and whether two are the same.
+ghost use Rattle.std.specs.Prelude.{◌≡◌, IfOk, true};
+
+use certificate::Record;
+use std::alloc::Global;
+use stow_data::NoMemory;
+use zero_one_rows::{Raise, RaiseList, Row, RowList};
+
+// A copy of rows.
+fn copy_rows(alloc: Global, rows: &[Row]) -> Result<RowList, NoMemory>
+    ensures { IfOk result (λ copy. copy ≡ rows.now) }
+{
+    let mut copy = RowList::new(alloc);
+    for row in rows {
+        copy.push(copy_row(row)?)?;
+    }
+    Ok(copy)
+}
+
+// A copy of a row.
+fn copy_row(row: &Row) -> Result<Row, NoMemory>
+    ensures { IfOk result (λ copy. copy ≡ row.now) }
+{
+    Ok(row.clone()?)
+}
+
+// A copy of a raise.
+fn copy_raise(raise: &Raise) -> Result<Raise, NoMemory>
+    ensures { IfOk result (λ copy. copy ≡ raise.now) }
+{
+    Ok(Raise {
+        row: copy_row(&raise.row)?,
+        amount: raise.amount,
+    })
+}
+
+// A copy of raises.
+fn copy_raises(alloc: Global, raises: &[Raise]) -> Result<RaiseList, NoMemory>
+    ensures { IfOk result (λ copy. copy ≡ raises.now) }
+{
+    let mut copy = RaiseList::new(alloc);
+    for raise in raises {
+        copy.push(copy_raise(raise)?)?;
+    }
+    Ok(copy)
+}
+
+/// A copy of a record.
+pub fn copy_record(alloc: Global, entry: &Record) -> Result<Record, NoMemory>
+    ensures { IfOk result (λ copy. copy ≡ entry.now) }
+{
+    Ok(Record {
+        from_zero: entry.from_zero,
+        steps: copy_rows(alloc, entry.steps.as_slice())?,
+        raises: copy_raises(alloc, entry.raises.as_slice())?,
+        end: entry.end,
+    })
+}
+
+// Whether two rows are the same.
+fn same_row(a: &Row, b: &Row) -> bool
+    ensures { result ≡ true → a.now ≡ b.now }
+{
+    a == b
+}
+
+// Whether two raises are the same.
+fn same_raise(a: &Raise, b: &Raise) -> bool
+    ensures { result ≡ true → a.now ≡ b.now }
+{
+    if a.amount != b.amount {
+        return false;
+    }
+    same_row(&a.row, &b.row)
+}
+
+// Whether two lists of rows are the same.
+fn same_rows(a: &[Row], b: &[Row]) -> bool
+    ensures { result ≡ true → a.now ≡ b.now }
+{
+    if a.len() != b.len() {
+        return false;
+    }
+    for (index, row) in a.iter().enumerate() {
+        if !same_row(row, &b[index]) {
+            return false;
+        }
+    }
+    true
+}
+
+// Whether two lists of raises are the same.
+fn same_raises(a: &[Raise], b: &[Raise]) -> bool
+    ensures { result ≡ true → a.now ≡ b.now }
+{
+    if a.len() != b.len() {
+        return false;
+    }
+    for (index, raise) in a.iter().enumerate() {
+        if !same_raise(raise, &b[index]) {
+            return false;
+        }
+    }
+    true
+}
+
+/// Whether two records are the same.
+pub fn same_record(a: &Record, b: &Record) -> bool
+    ensures { result ≡ true → a.now ≡ b.now }
+{
+    if a.from_zero != b.from_zero {
+        return false;
+    }
+    if a.end != b.end {
+        return false;
+    }
+    if !same_rows(a.steps.as_slice(), b.steps.as_slice()) {
+        return false;
+    }
+    same_raises(a.raises.as_slice(), b.raises.as_slice())
+}

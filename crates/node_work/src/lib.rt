@@ -1,0 +1,15 @@
+//! One node of the search: its box tightened, its multipliers raised, and then closed, divided, or a solution.
+#![tactic(auto)]
+
+mod choosing;
+mod copies;
+mod desk;
+mod ending;
+mod stands;
+mod start;
+mod worked;
+mod working;
+
+pub use desk::Desk;
+pub use worked::Worked;
+pub use working::work;

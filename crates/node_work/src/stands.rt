@@ -1,0 +1,282 @@
+//! A box that is kept from node to node, with the records on the way to the last node.
+ghost use Rattle.std.specs.Prelude.{◌≡◌, ℕ, ◌+◌, ◌<◌, ◌≤◌, true, All, IfOk, OnOk, List, [], ◌∷◌, ◌++◌, Some, None, map, take, length, slice_get, slice_set};
+ghost use Rattle.proof_trees.specs.Boxes.{free_box, tightened};
+ghost use Rattle.proof_trees.specs.Trees.{root};
+ghost use Rattle.zero_one_rows.specs.Variables.{variables};
+ghost use Rattle.zero_one_rows.specs.Rows.{whole};
+ghost use Rattle.certificate.specs.Entries.{same_row, entry_of, end_of, number_of};
+ghost use Rattle.search_machine.specs.Journals.{divided, after};
+ghost use Rattle.search_machine.specs.Machine.{Divides, IsTrail};
+ghost use Rattle.partial_plan.specs.Fixing.{Fixes, released};
+ghost use Rattle.stow_data.specs.Shipment.{IsCargo};
+ghost use Rattle.dual_bound.specs.Raising.{AreMultipliers};
+ghost use Rattle.node_work.specs.Work.{most_rehandles, Works};
+ghost use Rattle.node_work.specs.declared.stands.Frame.{Frame as Frames};
+ghost use Rattle.node_work.specs.Stands.{entry_in, value_in, box_along, IsStand};
+
+use crate::copies::{copy_record, same_record};
+use crate::ending::end_box;
+use crate::worked::Worked;
+use certificate::{End, Record};
+use dual_bound::Multipliers;
+use partial_plan::{UndoList, tighten_by, undo};
+use std::alloc::Global;
+use stow_data::{NoMemory, VarNo};
+use zero_one_model::{Box01, Model};
+use zero_one_rows::Row;
+
+/// A record on the way to a node, the value of the branch that was taken from it, and how many variables were fixed after its steps.
+#[derive(Drop)]
+pub struct Frame {
+    pub entry: Record,
+    pub value: bool,
+    pub mark: usize,
+}
+
+/// The box of a node or what was fixed beyond it, the variables that were fixed in order, and the records on the way.
+#[derive(Drop)]
+pub struct Stand {
+    pub b: Box01,
+    pub undo: UndoList,
+    pub frames: Vec<Frame>,
+}
+
+/// How many of the first frames are of the node's first records: their records are the same, and the values too, but for the last.
+fn in_common(frames: &[Frame], path: &[bool], trail: &[Record]) -> usize
+    requires { length trail.now ≡ length path.now }
+    ensures frames { result ≤ length frames.now }
+    ensures records { result ≤ length trail.now }
+    ensures entries { map entry_in (take result frames.now) ≡ take result trail.now }
+    ensures values { (k : ℕ) → result ≡ k + 1 → map value_in (take k frames.now) ≡ take k path.now }
+{
+    for (depth, frame) in frames.iter().enumerate() {
+        if depth >= trail.len() {
+            return depth;
+        }
+        if !same_record(&frame.entry, &trail[depth]) {
+            return depth;
+        }
+        if frame.value != path[depth] {
+            return depth + 1;
+        }
+    }
+    frames.len()
+}
+
+// Fixes a free variable, and notes it.
+fn fix_noted(b: &mut Box01, undo: &mut UndoList, x: VarNo, value: bool) -> Result<(), NoMemory>
+    requires { slice_get b.old x ≡ Some None }
+    ensures fixed { OnOk result (b.new ≡ slice_set b.old x (Some value)) }
+    ensures noted { (xs : List ℕ) × (undo.new ≡ undo.old ++ xs) × Fixes b.old b.new xs }
+{
+    undo.push(x)?;
+    b.fix(x, value);
+    Ok(())
+}
+
+// Goes from a divided box to one of its halves.
+fn halve_noted(
+    model: &Model,
+    b: &mut Box01,
+    undo: &mut UndoList,
+    end: &End,
+    value: bool,
+) -> Result<(), NoMemory>
+    requires whole { length b.old ≡ length (variables model.now) }
+    requires divides { Divides (whole model.now) b.old (end_of (number_of model.now) end.now) }
+    ensures half { OnOk result (b.new ≡ divided b.old (end_of (number_of model.now) end.now) value) }
+    ensures noted { (xs : List ℕ) × (undo.new ≡ undo.old ++ xs) × Fixes b.old b.new xs }
+{
+    match end {
+        End::Branch(var) => match model.number(var) {
+            Some(x) => fix_noted(b, undo, x, value),
+            None => unreachable!(),
+        },
+        End::Leaf | End::Left => unreachable!(),
+    }
+}
+
+// Tightens a box by rows, in order, and notes what was fixed.
+fn tighten_noted(
+    alloc: Global,
+    model: &Model,
+    b: &mut Box01,
+    undo: &mut UndoList,
+    steps: &[Row],
+) -> Result<(), NoMemory>
+    requires whole { length b.old ≡ length (variables model.now) }
+    requires rows { All (λ r. (whole model.now).has r ≡ true) steps.now }
+    ensures tight { OnOk result (b.new ≡ tightened (whole model.now) b.old steps.now) }
+    ensures noted { (xs : List ℕ) × (undo.new ≡ undo.old ++ xs) × Fixes b.old b.new xs }
+{
+    for row in steps {
+        tighten_by(alloc, model, b, undo, row)?;
+    }
+    Ok(())
+}
+
+impl Stand {
+    /// At the root: all variables are free.
+    pub fn root(alloc: Global, model: &Model) -> Result<Stand, NoMemory>
+        ensures { IfOk result (IsStand model.now) }
+    {
+        Ok(Stand {
+            b: Box01::free(alloc, model)?,
+            undo: UndoList::new(alloc),
+            frames: Vec::new(alloc),
+        })
+    }
+
+    // Frees what was fixed past a place of the list.
+    fn back_to(&mut self, model: &Model, to: usize)
+        requires stand { IsStand model.now self.old }
+        requires to { to ≤ length self.old.undo }
+        requires low { All (λ f. f.mark ≤ to) self.old.frames.items }
+        ensures stand { IsStand model.now self.new }
+        ensures freed { self.new.b ≡ released self.old.b self.old.undo to }
+        ensures kept { self.new.undo ≡ take to self.old.undo }
+        ensures frames { self.new.frames ≡ self.old.frames }
+    {
+        undo(&mut self.b, &mut self.undo, to);
+    }
+
+    // Goes to the half with this value of the deepest record.
+    fn turn(&mut self, model: &Model, value: bool) -> Result<(), NoMemory>
+        requires stand { IsStand model.now self.old }
+        requires some { 0 < length self.old.frames.items }
+        ensures stand { IsStand model.now self.new }
+        ensures frames { OnOk result ((fs : List Frames) × (f : Frames) × (self.old.frames.items ≡ fs ++ f ∷ []) × (self.new.frames.items ≡ fs ++ record f { value = value } ∷ [])) }
+        ensures at_half { OnOk result (self.new.b ≡ box_along model.now (free_box (whole model.now)) self.new.frames.items) }
+    {
+        let Some(frame) = self.frames.pop() else {
+            unreachable!()
+        };
+        self.back_to(model, frame.mark);
+        halve_noted(model, &mut self.b, &mut self.undo, &frame.entry.end, value)?;
+        self.frames.push(Frame {
+            entry: frame.entry,
+            value,
+            mark: frame.mark,
+        })?;
+        Ok(())
+    }
+
+    // Goes on by a record to its half with this value.
+    fn redo(
+        &mut self,
+        alloc: Global,
+        model: &Model,
+        entry: &Record,
+        value: bool,
+    ) -> Result<(), NoMemory>
+        requires stand { IsStand model.now self.old }
+        requires at { self.old.b ≡ box_along model.now (free_box (whole model.now)) self.old.frames.items }
+        requires rows { All (λ r. (whole model.now).has r ≡ true) entry.now.steps }
+        requires divides { Divides (whole model.now) (tightened (whole model.now) self.old.b entry.now.steps) (end_of (number_of model.now) entry.now.end) }
+        ensures stand { IsStand model.now self.new }
+        ensures frames { OnOk result ((f : Frames) × (f.entry ≡ entry.now) × (f.value ≡ value) × (self.new.frames.items ≡ self.old.frames.items ++ f ∷ [])) }
+        ensures at_half { OnOk result (self.new.b ≡ box_along model.now (free_box (whole model.now)) self.new.frames.items) }
+    {
+        let entry = copy_record(alloc, entry)?;
+        tighten_noted(
+            alloc,
+            model,
+            &mut self.b,
+            &mut self.undo,
+            entry.steps.as_slice(),
+        )?;
+        let mark = self.undo.len();
+        halve_noted(model, &mut self.b, &mut self.undo, &entry.end, value)?;
+        self.frames.push(Frame { entry, value, mark })?;
+        Ok(())
+    }
+
+    // Keeps the first so many frames, and goes to the half with the path's value of the last of them.
+    fn rejoin(&mut self, model: &Model, depth: usize, path: &[bool]) -> Result<(), NoMemory>
+        requires stand { IsStand model.now self.old }
+        requires frames { depth ≤ length self.old.frames.items }
+        requires branches { depth ≤ length path.now }
+        requires values { (k : ℕ) → depth ≡ k + 1 → map value_in (take k self.old.frames.items) ≡ take k path.now }
+        ensures stand { IsStand model.now self.new }
+        ensures entries { OnOk result (map entry_in self.new.frames.items ≡ map entry_in (take depth self.old.frames.items)) }
+        ensures values { OnOk result (map value_in self.new.frames.items ≡ take depth path.now) }
+        ensures at_half { OnOk result (self.new.b ≡ box_along model.now (free_box (whole model.now)) self.new.frames.items) }
+    {
+        self.frames.truncate(depth);
+        if depth == 0 {
+            self.back_to(model, 0);
+            return Ok(());
+        }
+        self.turn(model, path[depth - 1])
+    }
+
+    // Goes on from so many records of a node to where it begins.
+    fn go_on(
+        &mut self,
+        alloc: Global,
+        model: &Model,
+        depth: usize,
+        path: &[bool],
+        trail: &[Record],
+    ) -> Result<(), NoMemory>
+        requires stand { IsStand model.now self.old }
+        requires trail { IsTrail same_row (whole model.now) (root (whole model.now)) path.now (map (entry_of model.now) trail.now) }
+        requires records { depth ≤ length trail.now }
+        requires entries { map entry_in self.old.frames.items ≡ take depth trail.now }
+        requires values { map value_in self.old.frames.items ≡ take depth path.now }
+        requires at_half { self.old.b ≡ box_along model.now (free_box (whole model.now)) self.old.frames.items }
+        ensures stand { IsStand model.now self.new }
+        ensures begins { OnOk result (self.new.b ≡ (after same_row (whole model.now) (root (whole model.now)) path.now (map (entry_of model.now) trail.now)).box) }
+    {
+        for k in depth..trail.len() {
+            self.redo(alloc, model, &trail[k], path[k])?;
+        }
+        Ok(())
+    }
+
+    /// Goes to where a node begins: back to the last record that it has in common with the last node, and on by the others.
+    pub fn walk_to(
+        &mut self,
+        alloc: Global,
+        model: &Model,
+        path: &[bool],
+        trail: &[Record],
+    ) -> Result<(), NoMemory>
+        requires stand { IsStand model.now self.old }
+        requires trail { IsTrail same_row (whole model.now) (root (whole model.now)) path.now (map (entry_of model.now) trail.now) }
+        ensures stand { IsStand model.now self.new }
+        ensures begins { OnOk result (self.new.b ≡ (after same_row (whole model.now) (root (whole model.now)) path.now (map (entry_of model.now) trail.now)).box) }
+    {
+        let depth = in_common(self.frames.as_slice(), path, trail);
+        self.rejoin(model, depth, path)?;
+        self.go_on(alloc, model, depth, path, trail)
+    }
+
+    /// Ends the node at which the box stands.
+    pub fn end(
+        &mut self,
+        alloc: Global,
+        model: &Model,
+        multipliers: &mut Multipliers,
+        most: u32,
+        cut: u64,
+    ) -> Result<Worked, NoMemory>
+        requires cargo { IsCargo model.now.cargo }
+        requires stand { IsStand model.now self.old }
+        requires prices { AreMultipliers model.now multipliers.old }
+        requires some { 1 ≤ most }
+        requires cut { cut ≤ most_rehandles model.now + 1 }
+        ensures stand { IsStand model.now self.new }
+        ensures worked { IfOk result (Works model.now (record { box = self.old.b; multipliers = multipliers.old }) most cut) }
+    {
+        end_box(
+            alloc,
+            model,
+            &mut self.b,
+            &mut self.undo,
+            multipliers,
+            most,
+            cut,
+        )
+    }
+}

@@ -1,0 +1,194 @@
+-- From the tree of a search to a certificate.
+use Rattle.std.proofs.Common.{◌≡◌, ◌≢◌, ℕ, suc, ◌+◌, ◌-◌, ◌<◌, ◌≤◌, Bool, true, false, List, [], ◌∷◌, length, map, Option, Some, None, refl, sym, ap, subst, ◌∙◌, arith, inl, inr}
+use Rattle.std.specs.Prelude.{◌⊎◌, ◌==◌, IfSome}
+use Rattle.std.proofs.lemmas.Bool.{eq-eqb, eqb-true, both_ways}
+use Rattle.std.proofs.lemmas.Bool.Decides.{nat_tests}
+use borrow.Author.Differences.{ints}
+use Rattle.stow_data.specs.Ship.{Ship}
+use Rattle.stow_data.specs.Shipment.{Cargo}
+use Rattle.stow_data.specs.Plans.{Plan}
+use Rattle.stowage_rules.specs.Departure.{AreDepartures, IsDeparture}
+use Rattle.stowage_rules.specs.declared.faults.RuleBroken.{RuleBroken}
+use Rattle.stowage_rules.specs.Faults.{MeetsRules}
+use Rattle.stowage_rules.proofs.InRank.{breaks}
+use Rattle.voyage_meaning.specs.declared.moves.Move.{Move}
+use Rattle.voyage_meaning.specs.Voyage.{IsVoyage, HasCount}
+use Rattle.plan_lifts.specs.Lifted as lifts
+use Rattle.greedy_loader.specs.Calls.{DepartFrom}
+use Rattle.zero_one_rows.specs.Variables.{Voyage}
+use Rattle.zero_one_rows.specs.Rows.{whole, CrossingRowsHold}
+use Rattle.proof_trees.specs.Boxes.{Box}
+use Rattle.proof_trees.proofs.Lesser.{proves_lesser}
+use Rattle.certificate.specs.declared.tree.Record.{Record}
+use Rattle.certificate.specs.Entries.{same_row, entry_of}
+use Rattle.bound_checker.specs.Entries.{ProvesBound, IsBestBound}
+use Rattle.model_bridge.specs.Sailed.{AreSailed}
+use Rattle.solution_meaning.specs.Laws.{IsProblem, IsCostBound, IsVoyageBound, HasNoVoyage, most_lifts}
+use Rattle.plan_search.specs.declared.loaded.Counted.{Counted}
+use Rattle.plan_search.specs.declared.run.Searched.{Searched}
+use Rattle.plan_search.specs.Loaded.{IsCountOf, ArePlans}
+use Rattle.plan_search.specs.Trees.{IsSettled}
+use Rattle.plan_search.specs.Certified.{OutcomeHolds, ceiling, CountsVoyage, HasPlans, Certifies}
+use Rattle.plan_search.specs.Found.{ArePlansOrNone, IsCounted, IsLoaded, IsBest, IsSearched, IsSailed, AreChosen, outcome_of, rehandles_of, head_of}
+use Rattle.plan_search.proofs.AtZero.{settled_lesser}
+use Rattle.plan_search.proofs.Few.{count_few}
+
+-- ## Legal departures
+
+-- legal departures are well-formed plans of what is aboard
+pub departures_formed : (ship : Ship) (cargo : Cargo) (call : ℕ) (plans : List Plan) → AreDepartures ship cargo call plans → lifts.ArePlans ship cargo call plans
+departures_formed ship cargo call [] h = tt
+departures_formed ship cargo call (plan ∷ plans) h = (h.0.stowed.well_formed, h.0.stowed.aboard, departures_formed ship cargo (suc call) plans h.1)
+
+meets_rules : (ship : Ship) (cargo : Cargo) (call : ℕ) (plan : Plan) → IsDeparture ship cargo call plan → MeetsRules ship cargo plan
+meets_rules ship cargo call plan h = record { supported = h.stowed.supported; twenty = h.stowed.twenty; plugged = h.stowed.plugged; within = h.within; separated = h.separated }
+
+-- none of them breaks a rule
+pub never_illegal : (ship : Ship) (cargo : Cargo) (call : ℕ) (plans : List Plan) (at : ℕ) (rule : RuleBroken) → AreDepartures ship cargo call plans → lifts.IsFirstIllegal ship cargo call plans at rule → ⊥
+never_illegal ship cargo call [] at rule h k = k
+never_illegal ship cargo call (plan ∷ plans) at rule h (inl k) = breaks ship cargo plan rule k.1.is_fault (meets_rules ship cargo call plan h.0)
+never_illegal ship cargo call (plan ∷ plans) at rule h (inr k) = never_illegal ship cargo (suc call) plans at rule h.1 k.1
+
+-- of the ship and the cargo of a voyage
+pub legal_at : (m : Voyage) (ship : Ship) (cargo : Cargo) (plans : List Plan) → m.ship ≡ ship → m.cargo ≡ cargo → ArePlans m plans → AreDepartures ship cargo 1 plans
+legal_at m ship cargo plans e f made = subst (λ (s : Ship). AreDepartures s cargo 1 plans) e (subst (λ (k : Cargo). AreDepartures m.ship k 1 plans) f made.legal)
+
+-- what the loader's rule finds, with its count
+pub loaded_some : (m : Voyage) (ship : Ship) (cargo : Cargo) (o : Option (List Plan)) (plans : List Plan) (count : ℕ) → m.ship ≡ ship → m.cargo ≡ cargo → IsProblem m → o ≡ Some plans
+    → DepartFrom ship cargo 1 cargo.arrival (length cargo.rotation - 1) o → IfSome o (AreDepartures ship cargo 1) → IfSome o (λ ps. length ps + 1 ≡ length cargo.rotation)
+    → HasCount m.ship m.cargo plans count → IsLoaded m (record { plans = Some plans; count = count })
+loaded_some m ship cargo o plans count e f rules is rule legal each counts =
+    let here : DepartFrom ship cargo 1 cargo.arrival (length cargo.rotation - 1) (Some plans) = subst (DepartFrom ship cargo 1 cargo.arrival (length cargo.rotation - 1)) is rule in
+    let from : AreDepartures ship cargo 1 plans = subst (λ (x : Option (List Plan)). IfSome x (AreDepartures ship cargo 1)) is legal in
+    let long : length plans + 1 ≡ length cargo.rotation = subst (λ (x : Option (List Plan)). IfSome x (λ ps. length ps + 1 ≡ length cargo.rotation)) is each in
+    let made : ArePlans m plans = record {
+      each_call = subst (λ (k : Cargo). length plans + 1 ≡ length k.rotation) (sym f) long;
+      legal = subst (λ (s : Ship). AreDepartures s m.cargo 1 plans) (sym e) (subst (λ (k : Cargo). AreDepartures ship k 1 plans) (sym f) from);
+    } in
+    let few = count_few m plans count rules made counts in
+    record {
+      loads = subst (λ (s : Ship). DepartFrom s m.cargo 1 m.cargo.arrival (length m.cargo.rotation - 1) (Some plans)) (sym e) (subst (λ (k : Cargo). DepartFrom ship k 1 k.arrival (length k.rotation - 1) (Some plans)) (sym f) here);
+      counted = record { plans = made; count = counts };
+      low = omega (arith, few);
+    }
+
+-- the departures of a legal voyage
+voyage_departs : (ship : Ship) (cargo : Cargo) (call : ℕ) (before : Plan) (moves : List (List Move)) (plans : List Plan) → IsVoyage ship cargo call before moves plans → AreDepartures ship cargo call plans
+voyage_departs ship cargo call before [] [] h = tt
+voyage_departs ship cargo call before [] (after ∷ plans) h = absurd h
+voyage_departs ship cargo call before (ms ∷ moves) [] h = absurd h
+voyage_departs ship cargo call before (ms ∷ moves) (after ∷ plans) h = (h.0.departure, voyage_departs ship cargo (suc call) after moves plans h.1)
+
+-- the plans of a full box are legal departures
+pub sailed_plans : (m : Voyage) (b : Box) (plans : List Plan) → AreSailed m b plans → ArePlans m plans
+sailed_plans m b plans s = record { each_call = s.legal.each_call; legal = voyage_departs m.ship m.cargo 1 m.cargo.arrival s.moves plans s.legal.voyage }
+
+some_not_none : {A : Type 0} (x : A) → Some x ≢ None
+some_not_none x e = cc
+
+pub sailed_counted : (m : Voyage) (b : Box) (plans : List Plan) (count : ℕ) → AreSailed m b plans → HasCount m.ship m.cargo plans count → IsSailed m b (record { plans = Some plans; count = count })
+sailed_counted m b plans count s counts = record {
+  planned = some_not_none plans;
+  counted = record { plans = sailed_plans m b plans s; count = counts };
+  cheap = let least = counts.least s.moves s.legal in let cheap = s.cheap in omega (arith, ints);
+}
+
+-- ## The certificate
+
+ceiling_is : (m : Voyage) (o : Option (List Plan)) (n : ℕ) → IsCountOf m o n → ceiling m (rehandles_of o n) ≡ n
+ceiling_is m None n h = sym h
+ceiling_is m (Some plans) n h = refl
+
+voyage_is : (m : Voyage) (o : Option (List Plan)) (n : ℕ) → IsCountOf m o n → IfSome (rehandles_of o n) (CountsVoyage m)
+voyage_is m None n h = tt
+voyage_is m (Some plans) n h = (plans, h)
+
+pub has_plans : (m : Voyage) (o : Option (List Plan)) (n : ℕ) → ArePlansOrNone m o → IsCountOf m o n → HasPlans m (rehandles_of o n) o
+has_plans m None n h k = tt
+has_plans m (Some plans) n h k = (h, k)
+
+-- the plans are no worse than the best, and the best no worse than the start
+chosen_low : (m : Voyage) (start best : ℕ) (first c : Counted) (o : Option Box) → first.count ≡ start → IsBest m start best o → AreChosen m first o c → c.count ≤ best
+chosen_low m start best first c None from b h = let same = ap (λ (x : Counted). x.count) h in omega (arith, same, from, b)
+chosen_low m start best first c (Some x) from b h = let cheap = h.cheap in let costs = b.0.costs in omega (arith, ints, cheap, costs)
+
+best_low : (m : Voyage) (start best : ℕ) (o : Option Box) → IsBest m start best o → best ≤ start
+best_low m start best None b = omega (arith, b)
+best_low m start best (Some x) b = omega (arith, b.1)
+
+chosen_counted : (m : Voyage) (first c : Counted) (o : Option Box) → IsCounted m first → AreChosen m first o c → IsCounted m c
+chosen_counted m first c None f h = subst (IsCounted m) (sym h) f
+chosen_counted m first c (Some x) f h = h.counted
+
+-- without plans the loader found none
+unplanned : (m : Voyage) (first c : Counted) (o : Option Box) → AreChosen m first o c → c.plans ≡ None → first.plans ≡ None
+unplanned m first c None h none = sym (ap (λ (x : Counted). x.plans) h) ∙ none
+unplanned m first c (Some x) h none = absurd (h.planned none)
+
+-- a tree that proves the best proves the plans' number
+reached : (m : Voyage) (tree : List Record) (best count bound : ℕ) → count ≤ best → ProvesBound m tree best → IsBestBound m tree count bound → bound ≡ count
+reached m tree best count bound le proves b =
+    let up = b.greatest count (omega arith) (proves_lesser same_row (whole m) best count le (map (entry_of m) tree) proves) in
+    let low = b.low in
+    omega (arith, up, low)
+
+spent : (m : Voyage) (tree : List Record) (nodes budget best count bound : ℕ) → count ≤ best → (nodes ≡ budget) ⊎ ProvesBound m tree best → IsBestBound m tree count bound → (bound == count) ≡ false → nodes ≡ budget
+spent m tree nodes budget best count bound le (inl e) b far = e
+spent m tree nodes budget best count bound le (inr proves) b far =
+    let same = reached m tree best count bound le proves b in
+    absurd (both_ways (bound == count) far (eq-eqb bound count same))
+
+below : (count bound : ℕ) → bound ≤ count → (bound == count) ≡ false → bound < count
+below count bound le far = grind (arith, nat_tests)
+
+module _ (m : Voyage) (rules : IsProblem m) (budget : ℕ) (first c : Counted) (s : Searched) (bound : ℕ)
+    (loaded : IsLoaded m first) (found : IsSearched m budget first.count s) (chosen : AreChosen m first s.full c)
+    (best : IsBestBound m s.tree c.count bound) (costs : CrossingRowsHold m → IsCostBound m bound)
+    (law : (CrossingRowsHold m → IsCostBound m bound) → IsVoyageBound m bound) (none : (CrossingRowsHold m → IsCostBound m (most_lifts m + 1)) → HasNoVoyage m) where
+  low : c.count ≤ s.best
+  low = chosen_low m first.count s.best first c s.full refl found.best chosen
+
+  counted : IsCounted m c
+  counted = chosen_counted m first c s.full loaded.counted chosen
+
+  top : ceiling m (rehandles_of c.plans c.count) ≡ c.count
+  top = ceiling_is m c.plans c.count counted.count
+
+  no_voyage : bound ≡ most_lifts m + 1 → HasNoVoyage m
+  no_voyage e = none (λ crossing. subst (IsCostBound m) e (costs crossing))
+
+  outcome_holds : (o : Option (List Plan)) (b : Bool) → c.plans ≡ o → (bound == c.count) ≡ b → IsCountOf m o c.count → OutcomeHolds m budget first.plans first.count (outcome_of o b) (rehandles_of o c.count) bound s.nodes
+  outcome_holds (Some plans) true is e count = eqb-true bound c.count e
+  outcome_holds (Some plans) false is e count = record {
+    spent = spent m s.tree s.nodes budget s.best c.count bound low found.ended best e;
+    above = below c.count bound best.low e;
+    no_worse = omega (arith, low, best_low m first.count s.best s.full found.best);
+  }
+  outcome_holds None true is e count = let reached : bound ≡ most_lifts m + 1 = eqb-true bound c.count e ∙ count in record { above_all = reached; none = no_voyage reached }
+  outcome_holds None false is e count = record {
+    spent = spent m s.tree s.nodes budget s.best c.count bound low found.ended best e;
+    unloaded = unplanned m first c s.full chosen is;
+    room = let lt = below c.count bound best.low e in omega (arith, lt, count);
+  }
+
+  pub certifies : Certifies m budget (head_of c bound s.nodes) s.tree
+  certifies = record {
+    loaded = first.plans;
+    loads = loaded.loads;
+    start = first.count;
+    starts = loaded.counted.count;
+    proves = best.proves;
+    low = subst (λ (n : ℕ). bound ≤ n) (sym top) best.low;
+    greatest = subst (λ (n : ℕ). (b : ℕ) → b ≤ n → ProvesBound m s.tree b → b ≤ bound) (sym top) best.greatest;
+    bounds = law costs;
+    nodes = found.nodes;
+    within = found.within;
+    lean = found.lean;
+    earnest = found.earnest;
+    settled = subst (λ (n : ℕ). IsSettled m s.tree n) (sym top) (settled_lesser same_row (whole m) s.best c.count low (map (entry_of m) s.tree) found.settled);
+    voyage = voyage_is m c.plans c.count counted.count;
+    outcome = outcome_holds c.plans (bound == c.count) refl refl counted.count;
+  }
+
+  pub planned : HasPlans m (rehandles_of c.plans c.count) c.plans
+  planned = has_plans m c.plans c.count counted.plans counted.count

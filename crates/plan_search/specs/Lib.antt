@@ -1,0 +1,4 @@
+pub mod Loaded
+pub mod Trees
+pub mod Certified
+pub mod Found

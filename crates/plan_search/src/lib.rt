@@ -1,0 +1,9 @@
+//! The plans of a voyage with few rehandles, and the certificate of a bound on the rehandles of every legal voyage.
+#![tactic(auto)]
+
+mod closing;
+mod loaded;
+mod planning;
+mod run;
+
+pub use planning::{Planned, plan_voyage};

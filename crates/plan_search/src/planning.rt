@@ -1,0 +1,54 @@
+//! Plans and their certificate.
+ghost use Rattle.std.specs.Prelude.{◌≡◌, ◌≤◌, IfOk};
+ghost use Rattle.solution_meaning.specs.Laws.{IsProblem};
+ghost use Rattle.plan_search.specs.Certified.{Certifies, HasPlans};
+
+use crate::closing::{bound_of, chosen_plans, head_of};
+use crate::loaded::loaded;
+use crate::run::search_tree;
+use certificate::{Head, Tree};
+use solution_meaning::bounds_are_of_voyages;
+use std::alloc::Global;
+use stow_data::{Cargo, NoMemory, PlanList, Ship};
+use stow_io::Gate;
+use zero_one_model::Model;
+
+/// A certificate, and the plans of calls 1 to N-1 where there are some.
+#[derive(Drop)]
+pub struct Planned {
+    pub head: Head,
+    pub tree: Tree,
+    pub plans: Option<PlanList>,
+}
+
+/// The best plans that are found of a voyage, with the certificate of a bound on the rehandles of every legal voyage.
+///
+/// The loader's plans come first. The search then looks for better ones, at most as many nodes as the budget says, and
+/// its tree proves the bound.
+pub fn plan_voyage<G: Gate>(
+    alloc: Global,
+    ship: &Ship,
+    cargo: &Cargo,
+    model: &Model,
+    budget: u64,
+    gate: &G,
+) -> Result<Planned, NoMemory>
+    requires ship { model.now.ship ≡ ship.now }
+    requires cargo { model.now.cargo ≡ cargo.now }
+    requires problem { IsProblem model.now }
+    requires nodes { 1 ≤ budget }
+    requires most_nodes { budget ≤ 100000 }
+    ensures certified { IfOk result (λ p. Certifies model.now budget p.head p.tree) }
+    ensures plans { IfOk result (λ p. HasPlans model.now p.head.rehandles p.plans) }
+{
+    let first = loaded(alloc, ship, cargo, model)?;
+    let found = search_tree(alloc, model, budget, first.count, gate)?;
+    let chosen = chosen_plans(alloc, ship, cargo, model, first, found.full)?;
+    let bound = bound_of(alloc, model, &found.tree, chosen.count)?;
+    bounds_are_of_voyages();
+    Ok(Planned {
+        head: head_of(&chosen, bound, found.nodes),
+        tree: found.tree,
+        plans: chosen.plans,
+    })
+}

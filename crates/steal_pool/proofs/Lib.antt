@@ -1,0 +1,5 @@
+mod Beside
+mod RowsAlike
+mod Steps
+mod Findings
+mod Replaying

@@ -1,0 +1,44 @@
+-- What meets the base rows meets every row, and no cost is negative.
+use Rattle.std.proofs.Common.{ℕ, zero, suc, ◌<◌, Bool, true, false, List, [], ◌∷◌, length, map, slice_index_or, pos, ◌≤ℤ◌, subst, arith}
+use Rattle.std.specs.Prelude.{Contains}
+use borrow.Author.Differences.{ints}
+use Rattle.zero_one_rows.specs.declared.program.Row.{Row}
+use Rattle.zero_one_rows.specs.Variables.{Voyage, var, is_rehandled}
+use Rattle.zero_one_rows.specs.Rows.{bit, whole, CrossingRowsHold}
+use Rattle.program_rows.specs.Counted.{base_rows}
+use Rattle.program_rows.specs.Ordered.{ListsBaseRows}
+use Rattle.proof_trees.specs.Program.{Meets}
+use Rattle.certificate.specs.Entries.{same_row, number_of}
+use Rattle.search_machine.specs.Bags.{Every}
+use Rattle.search_machine.specs.Journals.{Path, Placed}
+use Rattle.search_machine.specs.Machine.{at_its_path, BaseSolves, NoneNegative}
+use Rattle.search_machine.specs.Outcomes.{path_of}
+use Rattle.search_machine.specs.Replays.{Replays}
+use Rattle.node_ledger.specs.Gathered.{placed_entries}
+use Rattle.steal_pool.specs.declared.found.Found.{Found}
+use Rattle.steal_pool.specs.Found.{IsFound}
+
+every_at : {A : Type 0} (P : A → Type 0) (xs : List A) (k : ℕ) (d : A) → Every P xs → k < length xs → P (slice_index_or xs k d)
+every_at P [] k d h lt = absurd (omega arith)
+every_at P (x ∷ xs) zero d h lt = h.0
+every_at P (x ∷ xs) (suc k) d h lt = every_at P xs k d h.1 (omega arith)
+
+every_contains : {A : Type 0} (P : A → Type 0) (xs : List A) (a : A) → Every P xs → Contains xs a → P a
+every_contains P xs a h has = subst P has.2 (every_at P xs has.0 a h has.1)
+
+none_negative : (c : Bool) → pos 0 ≤ℤ bit c
+none_negative true = omega (arith, ints)
+none_negative false = omega (arith, ints)
+
+module _ (m : Voyage) where
+  pub no_cost_negative : NoneNegative (whole m)
+  no_cost_negative v lt = none_negative (is_rehandled m (var m v))
+
+  pub base_solves : CrossingRowsHold m → ListsBaseRows → BaseSolves (whole m) (base_rows m)
+  base_solves crossing lists x meets = crossing x (λ r has. every_contains (Meets (whole m) x) (base_rows m) r meets ((lists m r).1 has))
+
+  pub replays_there : (start budget : ℕ) (f : Found) (found : IsFound m start budget f) → Replays same_row (whole m) (base_rows m) (map at_its_path found.entries) (map path_of found.nodes) start budget f.best
+      → Replays same_row (whole m) (base_rows m) (placed_entries (number_of m) f.journals) f.left start budget f.best
+  replays_there start budget f found r =
+      subst (λ (left : List Path). Replays same_row (whole m) (base_rows m) (placed_entries (number_of m) f.journals) left start budget f.best) found.left
+      (subst (λ (es : List (Placed Row)). Replays same_row (whole m) (base_rows m) es (map path_of found.nodes) start budget f.best) found.journals r)
