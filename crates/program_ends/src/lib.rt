@@ -7,7 +7,7 @@ mod given;
 mod writing;
 
 pub use ending::{Ended, finish, say, say_name};
-pub use files::{FileList, NamedFile, Work};
+pub use files::{FileList, Finding, NamedFile, Work};
 pub use given::{NoWords, given_words};
 
 #[cfg(test)]

@@ -1,5 +1,5 @@
 //! Files and reports over folders and sinks in memory.
-use crate::{Ended, FileList, NamedFile, Work, finish, say_name};
+use crate::{Ended, FileList, Finding, NamedFile, Work, finish, say_name};
 use std::alloc::Global;
 use std::test::Fail;
 use stow_data::{Bytes, NoMemory, NumberList, Word};
@@ -25,6 +25,7 @@ fn work_of(alloc: Global) -> Result<Work, NoMemory> {
     Ok(Work {
         files,
         report: Bytes::of(alloc, b"done\n")?,
+        finding: Finding::Fine,
     })
 }
 

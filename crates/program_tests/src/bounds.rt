@@ -62,6 +62,9 @@ fn answer(
     bound: u64,
 ) -> Result<Result<(), BoundNo>, NoMemory> {
     let tree = tree(alloc, raises, End::Leaf)?;
+    if tree.len() > 1 {
+        return Err(NoMemory);
+    }
     match check_bound(alloc, model, &tree, bound) {
         Err(BoundNo::NoMemory) => Err(NoMemory),
         answer => Ok(answer),

@@ -4,3 +4,6 @@ pub mod Inputs
 pub mod Listings
 pub mod Verdicts
 pub mod Arrivals
+pub mod Reports
+pub mod Departures
+pub mod Numbers

@@ -6,7 +6,7 @@ ghost use Rattle.stow_view.specs.Work.{ports_of, file_of, files_of, line_of, rep
 use crate::naming::{base_of, page_name, picture_name};
 use crate::reading::{View, ViewList};
 use bay_views::{add_ports, index_page, picture};
-use program_ends::{FileList, NamedFile, Work};
+use program_ends::{FileList, Finding, NamedFile, Work};
 use std::alloc::Global;
 use stow_data::{Bytes, NameList, NoMemory, Word, WordList};
 
@@ -94,5 +94,9 @@ pub fn work_of(alloc: Global, views: &ViewList) -> Result<Work, NoMemory>
     let mut files = files_of(alloc, &ports, views.as_slice())?;
     add_page(alloc, &mut files, views.as_slice())?;
     let report = report_of(alloc, &files)?;
-    Ok(Work { files, report })
+    Ok(Work {
+        files,
+        report,
+        finding: Finding::Fine,
+    })
 }

@@ -9,3 +9,4 @@ mod CheckTaken
 mod ShowTaken
 mod MakeTaken
 mod Forms
+mod Ranges

@@ -1,5 +1,5 @@
 -- What the words of a command line order, by what `clap` reads in them.
-use Rattle.std.specs.Prelude.{◌≡◌, ◌≢◌, ℕ, ◌⊎◌, cond, List, [], ◌∷◌, Option, Some, None, codes, unwrap_or, Result, Ok, Err}
+use Rattle.std.specs.Prelude.{◌≡◌, ◌≢◌, ◌≤◌, ℕ, ◌⊎◌, cond, List, [], ◌∷◌, Option, Some, None, codes, unwrap_or, Result, Ok, Err}
 use Rattle.std.specs.Str.{bytes_eq}
 use Rattle.clap.specs.Words.{Text, Row, Kinds, first_of, subcommand_of, fault_of}
 use Rattle.stow_words.specs.declared.order.Order.{Order}
@@ -30,6 +30,13 @@ budget_in rows = number_or 1000 1 100000 (first_of (codes "budget") rows)
 
 abbrev pub number_at : List Row → Option ℕ
 number_at rows = number_in 0 2147483647 (positional (codes "number") rows)
+
+-- a plan's numbers are in their ranges
+abbrev pub IsInRange : Order → Type 0
+IsInRange (Plan profile bookings base arrival workers budget) = (1 ≤ workers) × (workers ≤ 16) × (1 ≤ budget) × (budget ≤ 100000)
+IsInRange (Check profile bookings base arrival) = Unit {0}
+IsInRange (Show file) = Unit {0}
+IsInRange (Make number base) = Unit {0}
 
 -- the order of a plan, where both numbers are in their ranges
 abbrev pub planned : Text → Text → Text → Option Text → Option ℕ → Option ℕ → Result Order WordsNo

@@ -3,7 +3,7 @@ ghost use Rattle.std.specs.Prelude.{◌≡◌, ◌≢◌, ◌⊎◌, Some, IfOk,
 ghost use Rattle.clap.specs.Words.{kind_of, found_of, rows_of, first_of};
 ghost use Rattle.stow_words.specs.Own.{own_order};
 ghost use Rattle.stow_words.specs.Plain.{IsPlainForm};
-ghost use Rattle.stow_words.specs.Orders.{Gives, positional, workers_in, budget_in, number_at, number_or, plan_order, check_order, show_order, make_order, order_of, ordered, AreFaulty};
+ghost use Rattle.stow_words.specs.Orders.{Gives, positional, workers_in, budget_in, number_at, number_or, plan_order, check_order, show_order, make_order, order_of, ordered, AreFaulty, IsInRange};
 
 use crate::commands::{Verb, stow_command, verb_of};
 use crate::numbers::read_number;
@@ -173,6 +173,7 @@ pub fn read_words(alloc: Global, words: &WordList) -> Result<Order, WordsNo>
     ensures not_taken { result ≡ Err WordsNo.NotTaken → AreFaulty words.now }
     ensures plain { IsPlainForm words.now → result ≢ Err WordsNo.NotTaken }
     ensures own { (form : IsPlainForm words.now) → Gives result (own_order words.now form) }
+    ensures ranges { IfOk result IsInRange }
 {
     parse_words(alloc, words)
 }
