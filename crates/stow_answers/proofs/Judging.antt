@@ -14,8 +14,8 @@ use Rattle.voyage_inputs.specs.Names.{Names}
 use Rattle.voyage_inputs.specs.Reading.{AreTaken, IsFound}
 use Rattle.voyage_inputs.specs.Named.{IsStop}
 use Rattle.stow_answers.specs.Voyages.{voyage_of}
-use Rattle.stow_answers.specs.Work.{cert_name}
-use Rattle.stow_answers.specs.Answers.{Judges, CheckOf, IsCertOf, IsCheckRead}
+use Rattle.stow_answers.specs.Checks.{IsWrittenRead}
+use Rattle.stow_answers.specs.Answers.{Judges, CheckOf, IsWrittenOf, IsCheckRead}
 
 pub taken : (names : Names) (files : Option Files) (found : Found) (v : BookedVoyage) → IsFound names files found → found ≡ Voyage v → AreTaken names files v
 taken names files found v h is = subst (IsFound names files) is h
@@ -28,22 +28,28 @@ check_judges (Ok a) names files files' v t same h =
     judges names files (CheckOf names.base files) a v t (subst (λ (fs : Option Files). CheckOf names.base fs v a) same h)
 check_judges (Err e) names files files' v t same h = tt
 
--- the certificate is read where the voyage is within the limits
-pub cert_read : (names : Names) (files : Option Files) (v : BookedVoyage) (name : List ℕ) → AreTaken names files v → IsWithin (voyage_of v) → name ≡ cert_name names.base → IsCertOf names files name
-cert_read names files v name t within is = record {
+-- within the limits the certificate and the departure files are read
+pub written_read : (names : Names) (files : Option Files) (v : BookedVoyage) (name : List ℕ) → AreTaken names files v → IsWithin (voyage_of v) → IsWrittenRead names.base files v name → IsWrittenOf names files name
+written_read names files v name t within is = record {
   voyage = v;
   inputs_are = t.inputs_are;
   within = within;
-  name_is = is;
+  is_read = is;
 }
 
-rose_before : (old mid new : ℕ) → old ≤ mid → Rose mid new → Rose old new
+pub rose_before : (old mid new : ℕ) → old ≤ mid → Rose mid new → Rose old new
 rose_before old mid new le rose = omega arith
 
--- a failed read of the certificate is one that a check makes
-pub check_stops : (r : Result Answer ReadStop) (names : Names) (files : Option Files) (v : BookedVoyage) (old mid new : ℕ) → AreTaken names files v → old ≤ mid
-    → IfErr r (IsStop (Rose mid new) (λ name. IsWithin (voyage_of v) × (name ≡ cert_name names.base))) → IfErr r (IsStop (Rose old new) (IsCheckRead names files))
-check_stops (Ok a) names files v old mid new t le h = tt
-check_stops (Err (Failed n)) names files v old mid new t le h = (rose_before old mid new le h.0, inr (cert_read names files v n.now t h.1.0 h.1.1))
-check_stops (Err (FailedOwn n)) names files v old mid new t le h = (rose_before old mid new le h.0, inr (cert_read names files v n t h.1.0 h.1.1))
-check_stops (Err NoMemory) names files v old mid new t le h = tt
+abbrev pub IsStopOf : List ℕ → Option Files → BookedVoyage → List ℕ → Type 0
+IsStopOf base files v name = IsWithin (voyage_of v) × IsWrittenRead base files v name
+
+stops : (r : Result Answer ReadStop) (names : Names) (files : Option Files) (v : BookedVoyage) (old mid new : ℕ) → AreTaken names files v → old ≤ mid → IfErr r (IsStop (Rose mid new) (IsStopOf names.base files v)) → IfErr r (IsStop (Rose old new) (IsCheckRead names files))
+stops (Ok a) names files v old mid new t le h = tt
+stops (Err (Failed n)) names files v old mid new t le h = (rose_before old mid new le h.0, inr (written_read names files v n.now t h.1.0 h.1.1))
+stops (Err (FailedOwn n)) names files v old mid new t le h = (rose_before old mid new le h.0, inr (written_read names files v n t h.1.0 h.1.1))
+stops (Err NoMemory) names files v old mid new t le h = tt
+
+-- a failed read of a written file is one that a check makes
+pub check_stops : (r : Result Answer ReadStop) (names : Names) (files files' : Option Files) (v : BookedVoyage) (old mid new : ℕ) → AreTaken names files v → files' ≡ files → old ≤ mid
+    → IfErr r (IsStop (Rose mid new) (IsStopOf names.base files' v)) → IfErr r (IsStop (Rose old new) (IsCheckRead names files))
+check_stops r names files files' v old mid new t same le h = stops r names files v old mid new t le (subst (λ (fs : Option Files). IfErr r (IsStop (Rose mid new) (IsStopOf names.base fs v))) same h)

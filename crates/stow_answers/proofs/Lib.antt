@@ -1,5 +1,7 @@
-pub mod Bounds
 pub mod Judging
 pub mod Messages
 pub mod Works
+pub mod WrittenFiles
+pub mod OneCheck
 pub mod OneAnswer
+pub mod Agreement

@@ -1,5 +1,5 @@
-pub mod Trees
 pub mod Work
 pub mod Voyages
+pub mod Checks
 pub mod Answers
 pub mod Law

@@ -1,25 +1,36 @@
 -- The files and the report of a voyage.
-use Rattle.std.specs.Prelude.{◌≡◌, ◌⊎◌, ◌<◌, ℕ, ◌+◌, ◌-◌, ◌/◌, ◌%◌, false, codes, List, [], ◌∷◌, ◌++◌, length, All, Option, Some, None}
+use Rattle.std.specs.Prelude.{◌≡◌, ◌<◌, ◌≤◌, ℕ, ◌+◌, ◌/◌, ◌%◌, ◌^◌, codes, List, [], ◌∷◌, ◌++◌, length, All, Option, Some, None}
 use Rattle.std.specs.Fmt.{decimal}
+use Rattle.stow_data.specs.declared.limits.Limit.TheVariants.{Certificate}
 use Rattle.stow_data.specs.Plans.{Plan}
 use Rattle.stowage_rules.specs.Plan.{IsWellFormed}
-use Rattle.voyage_meaning.specs.Voyage.{HasCount}
-use Rattle.greedy_loader.specs.Calls.{DepartFrom}
 use Rattle.arrival_plan.specs.Settled.{groups_of}
 use Rattle.plan_files.specs.DepartureFile.{groups, file_text}
-use Rattle.certificate.specs.declared.tree.End.TheVariants.{Leaf}
 use Rattle.certificate.specs.declared.tree.Head.{Head}
-use Rattle.certificate.specs.declared.tree.Outcome.TheVariants.{Optimal}
+use Rattle.certificate.specs.declared.tree.Outcome.{Outcome}
+use Rattle.certificate.specs.declared.tree.Outcome.TheVariants as outcome
 use Rattle.certificate.specs.declared.tree.Record.{Record}
 use Rattle.certificate.specs.Text.{cert_text}
+use Rattle.plan_search.specs.declared.planning.Planned.{Planned}
+use Rattle.program_ends.specs.declared.files.Finding.{Finding}
+use Rattle.program_ends.specs.declared.files.Finding.TheVariants as finding
 use Rattle.program_ends.specs.declared.files.NamedFile.{NamedFile}
-use Rattle.voyage_inputs.specs.declared.voyage.BookedVoyage.{BookedVoyage}
 use Rattle.program_ends.specs.declared.files.Work.{Work}
+use Rattle.stow_report.specs.Refusals.{refusal_text}
+use Rattle.stow_report.specs.Inputs.{limit_line}
+use Rattle.stow_report.specs.Reports.{report_text}
+use Rattle.voyage_inputs.specs.declared.answer.Answer.{Answer}
+use Rattle.voyage_inputs.specs.declared.answer.Answer.TheVariants as answer
+use Rattle.voyage_inputs.specs.declared.voyage.BookedVoyage.{BookedVoyage}
 
 -- plans that can be written: fewer than the calls, each well formed
 pub record ArePlans (v : BookedVoyage) (plans : List Plan) : Type 0 where
   pub departs : length plans < length v.cargo.rotation
   pub formed : All (IsWellFormed v.ship v.cargo) plans
+
+abbrev pub ArePlansOrNone : BookedVoyage → Option (List Plan) → Type 0
+ArePlansOrNone v None = Unit {0}
+ArePlansOrNone v (Some plans) = ArePlans v plans
 
 -- the call in two digits
 abbrev pub two_digits : ℕ → List ℕ
@@ -37,6 +48,11 @@ unfoldable pub files_of : List ℕ → BookedVoyage → ℕ → List Plan → Li
 files_of base v call [] = []
 files_of base v call (plan ∷ plans) = file_of base v call plan ∷ files_of base v (call + 1) plans
 
+-- the departure files from call 1 on, where there are plans
+abbrev pub departure_files : List ℕ → BookedVoyage → Option (List Plan) → List NamedFile
+departure_files base v None = []
+departure_files base v (Some plans) = files_of base v 1 plans
+
 abbrev pub cert_name : List ℕ → List ℕ
 cert_name base = base ++ codes ".cert"
 
@@ -44,43 +60,30 @@ cert_name base = base ++ codes ".cert"
 abbrev pub cert_file : List ℕ → Head → List Record → NamedFile
 cert_file base head tree = record { name = cert_name base; bytes = cert_text head tree }
 
--- a plan without rehandles, which needs no search
-abbrev pub head : Head
-head = record { outcome = Optimal; rehandles = Some 0; bound = 0; nodes = 1 }
+-- what a plan's outcome is for the status
+abbrev pub finding_of : Outcome → Finding
+finding_of outcome.Optimal = finding.Fine
+finding_of outcome.Gap = finding.Gap
+finding_of outcome.NoPlan = finding.NoPlan
+finding_of outcome.Undecided = finding.Undecided
 
--- one box, in which no variable is fixed and no row has a multiplier
-abbrev pub leaf : Record
-leaf = record { from_zero = false; steps = []; raises = []; end = Leaf }
+-- the departure files and the certificate, and the report
+abbrev pub work_of : List ℕ → BookedVoyage → Planned → Work
+work_of base v p = record { files = departure_files base v p.plans ++ cert_file base p.head p.tree ∷ []; report = report_text p.head; finding = finding_of p.head.outcome }
 
-abbrev pub report : List ℕ
-report = codes "outcome optimal\nrehandles 0\nbound 0\nnodes 1\n"
+-- the limit of a certificate's bytes
+abbrev pub IsShort : Head → List Record → Type 0
+IsShort head tree = length (cert_text head tree) ≤ 536870912
 
--- the departure files from call 1 on, and the certificate
-abbrev pub all_files : List ℕ → BookedVoyage → List Plan → List NamedFile
-all_files base v plans = files_of base v 1 plans ++ cert_file base head (leaf ∷ []) ∷ []
+-- the line says that the certificate's text is longer than its limit, and how long it is
+pub record IsOverlong (head : Head) (tree : List Record) (line : List ℕ) : Type 0 where
+  pub long : 536870912 < length (cert_text head tree)
+  pub line_is : line ≡ refusal_text (limit_line Certificate (length (cert_text head tree)))
 
-abbrev pub work_of_plans : List ℕ → BookedVoyage → List Plan → Work
-work_of_plans base v plans = record { files = all_files base v plans; report = report }
-
--- the departures of calls 1 to N-1 that the loader's rule makes of the arrival, or none
-abbrev pub AreLoaded : BookedVoyage → Option (List Plan) → Type 0
-AreLoaded v plans = DepartFrom v.ship v.cargo 1 v.cargo.arrival (length v.cargo.rotation - 1) plans
-
--- the loader's plans rehandle nothing, and the work is theirs
-pub record IsWorkFor (base : List ℕ) (v : BookedVoyage) (work : Work) : Type 0 where
-  pub plans : List Plan
-  pub loaded : AreLoaded v (Some plans)
-  pub count : HasCount v.ship v.cargo plans 0
-  pub work_is : work ≡ work_of_plans base v plans
-
--- the loader's plans rehandle something
-pub record Rehandles (v : BookedVoyage) : Type 0 where
-  pub plans : List Plan
-  pub loaded : AreLoaded v (Some plans)
-  pub rehandles : ℕ
-  pub count : HasCount v.ship v.cargo plans rehandles
-  pub some : 0 < rehandles
-
--- the loader's rule gives no plans, or plans that rehandle something
-abbrev pub NeedsSearch : BookedVoyage → Type 0
-NeedsSearch v = AreLoaded v None ⊎ Rehandles v
+-- the texts of a certificate and of its plans, or the line of the certificate's limit
+abbrev pub AreTextsOf : List ℕ → BookedVoyage → Planned → Answer → Type 0
+AreTextsOf base v p (answer.Work work) = IsShort p.head p.tree × (work ≡ work_of base v p)
+AreTextsOf base v p (answer.Large line) = IsOverlong p.head p.tree line
+AreTextsOf base v p (answer.No line) = ⊥
+AreTextsOf base v p (answer.Input line) = ⊥
+AreTextsOf base v p answer.Unbuilt = ⊥

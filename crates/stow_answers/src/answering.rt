@@ -1,6 +1,7 @@
 //! The answers to orders.
 ghost use Rattle.std.specs.Prelude.{◌≡◌, ◌≤◌, IfOk, IfErr};
 ghost use Rattle.stow_io.specs.Causes.{Rose};
+ghost use Rattle.stow_words.specs.Orders.{IsInRange};
 ghost use Rattle.stow_answers.specs.Answers.{IsAnswerTo, IsReadFor};
 ghost use Rattle.voyage_inputs.specs.Named.{names_of, IsStop, IsQuiet};
 ghost use Rattle.voyage_inputs.specs.Names.{names_from};
@@ -10,16 +11,18 @@ use crate::planning::plan;
 use crate::showing::show;
 use std::alloc::Global;
 use stow_data::Word;
-use stow_io::Folder;
+use stow_io::{Folder, Gate};
 use stow_words::Order;
 use voyage_inputs::{Answer, Inputs, ReadStop};
 
-/// What an order is answered. Nothing is written.
-pub fn answer_to<'a, F: Folder>(
+/// What an order is answered. Nothing is written. A search for plans comes to the gate before each of its nodes.
+pub fn answer_to<'a, F: Folder, G: Gate>(
     alloc: Global,
     order: &'a Order,
     folder: &mut F,
+    gate: &G,
 ) -> Result<Answer, ReadStop<'a>>
+    requires { IsInRange order.now }
     ensures stays { F.files folder.new ≡ F.files folder.old }
     ensures gives { IfOk result (IsAnswerTo order.now (F.files folder.old)) }
     ensures later { F.faults folder.old ≤ F.faults folder.new }
@@ -32,8 +35,12 @@ pub fn answer_to<'a, F: Folder>(
             bookings,
             name,
             arrival,
+            budget,
             ..
-        } => plan(alloc, inputs_from(profile, bookings, name, arrival), folder),
+        } => {
+            let inputs = inputs_from(profile, bookings, name, arrival);
+            plan(alloc, inputs, *budget, folder, gate)
+        }
         Order::Check {
             profile,
             bookings,

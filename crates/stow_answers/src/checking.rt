@@ -1,29 +1,27 @@
-//! `stow check`: the certificate of a bound.
-ghost use Rattle.std.specs.Prelude.{◌≡◌, ◌≤◌, ◌↔◌, IsTrue, ◌+◌, ◌^◌, ◌++◌, [], codes, length, IfOk, IfErr};
-ghost use Rattle.std.specs.Fmt.{decimal};
+//! `stow check`: the certificate and the departure files of a voyage.
+ghost use Rattle.std.specs.Prelude.{◌≡◌, ◌<◌, ◌≤◌, ◌^◌, IfOk, IfErr, length};
 ghost use Rattle.stow_io.specs.Causes.{Rose};
 ghost use Rattle.zero_one_model.specs.Building.{IsWithin};
 ghost use Rattle.solution_meaning.specs.Laws.{IsProblem};
-ghost use Rattle.stow_answers.specs.Answers.{Judges, CheckOf, ReadsCert, CertOf, IsCheckRead, TreeOf, bound_text};
+ghost use Rattle.stow_answers.specs.Answers.{Judges, CheckOf, IsCheckRead};
+ghost use Rattle.stow_answers.specs.Checks.{IsFileName, IsWrittenRead, ReadsCert, ReadsFiles, files_beside};
 ghost use Rattle.voyage_inputs.specs.Booked.{IsBooked};
-ghost use Rattle.stow_answers.specs.Voyages.{voyage_of};
 ghost use Rattle.voyage_inputs.specs.Named.{names_of, IsStop, IsQuiet};
-ghost use Rattle.stow_answers.specs.Work.{cert_name};
+ghost use Rattle.stow_answers.specs.Voyages.{voyage_of};
 
-use crate::refusing::{bound_text as refused_bound, cert_text, limit_text};
+use crate::departures::{read_departures, read_own};
+use crate::refusing::limit_text;
+use crate::verdict::{CertText, cert_text, judged};
 use crate::work::cert_name;
-use bound_checker::{BoundNo, check_bound};
-use certificate::{CertFault, Tree, read_cert};
-use itoa::Buffer;
-use program_ends::{FileList, Work};
-use solution_meaning::bounds_are_of_voyages;
+use bound_checker::records_are_few;
+use certificate::{Head, Tree};
 use std::alloc::Global;
-use stow_data::{Bytes, NoMemory};
-use stow_io::{Folder, FolderNo};
+use stow_data::NoMemory;
+use stow_io::Folder;
 use voyage_inputs::{Answer, BookedVoyage, Found, Inputs, ReadStop, read_inputs};
 use zero_one_model::{Model, ModelNo};
 
-/// What the certificate beside the departure files is answered.
+/// What the certificate and the departure files beside it are answered.
 pub fn check<'a, F: Folder>(
     alloc: Global,
     inputs: Inputs<'a>,
@@ -42,7 +40,7 @@ pub fn check<'a, F: Folder>(
     check_voyage(alloc, inputs.base, &voyage, folder)
 }
 
-/// What the certificate is answered for a voyage: the limits of the model come first.
+/// What a voyage is answered: the limits of the model come first.
 fn check_voyage<'a, F: Folder>(
     alloc: Global,
     base: &'a str,
@@ -54,10 +52,10 @@ fn check_voyage<'a, F: Folder>(
     ensures gives { IfOk result (CheckOf base.now (F.files folder.old) v.now) }
     ensures later { F.faults folder.old ≤ F.faults folder.new }
     ensures quiet { IsQuiet result (F.faults folder.old) (F.faults folder.new) }
-    ensures failed { IfErr result (IsStop (Rose (F.faults folder.old) (F.faults folder.new)) (λ name. IsWithin (voyage_of v.now) × (name ≡ cert_name base.now))) }
+    ensures failed { IfErr result (IsStop (Rose (F.faults folder.old) (F.faults folder.new)) (λ name. IsWithin (voyage_of v.now) × IsWrittenRead base.now (F.files folder.old) v.now name)) }
 {
     match Model::build(alloc, &v.ship, &v.cargo) {
-        Ok(model) => check_model(alloc, base, &model, folder),
+        Ok(model) => check_cert(alloc, base, v, &model, folder),
         Err(ModelNo::TooLarge { limit, value }) => match limit_text(alloc, limit, value) {
             Ok(line) => Ok(Answer::Large(line)),
             Err(NoMemory) => Err(ReadStop::NoMemory),
@@ -66,81 +64,68 @@ fn check_voyage<'a, F: Folder>(
     }
 }
 
-/// Reads the certificate, and answers it.
-fn check_model<'a, F: Folder>(
+/// Reads the certificate, and answers it and the departure files.
+fn check_cert<'a, F: Folder>(
     alloc: Global,
     base: &str,
+    v: &BookedVoyage,
     model: &Model,
     folder: &mut F,
 ) -> Result<Answer, ReadStop<'a>>
     requires problem { IsProblem model.now }
-    requires within { IsWithin model.now }
+    requires voyage { model.now ≡ voyage_of v.now }
     ensures stays { F.files folder.new ≡ F.files folder.old }
-    ensures gives { IfOk result (ReadsCert model.now base.now (F.files folder.old)) }
+    ensures gives { IfOk result (ReadsCert base.now (F.files folder.old) v.now) }
     ensures later { F.faults folder.old ≤ F.faults folder.new }
     ensures quiet { IsQuiet result (F.faults folder.old) (F.faults folder.new) }
-    ensures failed { IfErr result (IsStop (Rose (F.faults folder.old) (F.faults folder.new)) (λ name. IsWithin model.now × (name ≡ cert_name base.now))) }
+    ensures failed { IfErr result (IsStop (Rose (F.faults folder.old) (F.faults folder.new)) (IsWrittenRead base.now (F.files folder.old) v.now)) }
 {
     let Ok(name) = cert_name(alloc, base) else {
         return Err(ReadStop::NoMemory);
     };
-    match folder.read(name.as_str()) {
-        Ok(bytes) => match cert_answer(alloc, model, bytes.as_slice()) {
-            Ok(answer) => Ok(answer),
-            Err(NoMemory) => Err(ReadStop::NoMemory),
-        },
-        Err(FolderNo::Failed) => Err(ReadStop::FailedOwn(name)),
-        Err(FolderNo::NoMemory) => Err(ReadStop::NoMemory),
-    }
-}
-
-/// What the text of a certificate is answered.
-fn cert_answer(alloc: Global, model: &Model, bytes: &[u8]) -> Result<Answer, NoMemory>
-    requires problem { IsProblem model.now }
-    requires small { length bytes.now ≤ 2 ^ 29 }
-    ensures { IfOk result (CertOf model.now bytes.now) }
-{
-    match read_cert(alloc, bytes) {
-        Ok((head, tree)) => {
-            if !is_low(head.bound, model.limit()) {
-                return Ok(Answer::Unbuilt);
-            }
-            tree_answer(alloc, model, &tree, head.bound)
+    let bytes = read_own(folder, name)?;
+    records_are_few();
+    match cert_text(alloc, bytes.as_slice()) {
+        Ok(CertText::Certificate(head, tree)) => {
+            check_files(alloc, base, v, model, &head, &tree, folder)
         }
-        Err(CertFault::NoMemory) => Err(NoMemory),
-        Err(fault) => Ok(Answer::No(cert_text(alloc, fault)?)),
+        Ok(CertText::Refused(line)) => Ok(Answer::No(line)),
+        Err(NoMemory) => Err(ReadStop::NoMemory),
     }
 }
 
-/// Whether a bound is at most one above a number of rehandles.
-fn is_low(bound: u64, most: u64) -> bool
-    ensures { IsTrue result ↔ bound ≤ most + 1 }
+/// Reads the departure files that the certificate speaks of, and answers what it says of them and of the voyage.
+fn check_files<'a, F: Folder>(
+    alloc: Global,
+    base: &str,
+    v: &BookedVoyage,
+    model: &Model,
+    head: &Head,
+    tree: &Tree,
+    folder: &mut F,
+) -> Result<Answer, ReadStop<'a>>
+    requires problem { IsProblem model.now }
+    requires voyage { model.now ≡ voyage_of v.now }
+    requires few { length tree.now < 2 ^ 32 }
+    ensures stays { F.files folder.new ≡ F.files folder.old }
+    ensures gives { IfOk result (ReadsFiles base.now (F.files folder.old) v.now head.now tree.now) }
+    ensures later { F.faults folder.old ≤ F.faults folder.new }
+    ensures quiet { IsQuiet result (F.faults folder.old) (F.faults folder.new) }
+    ensures failed { IfErr result (IsStop (Rose (F.faults folder.old) (F.faults folder.new)) (IsFileName base.now (files_beside v.now head.now))) }
 {
-    bound == 0 || bound - 1 <= most
-}
-
-/// What a tree is answered that should prove the bound.
-fn tree_answer(alloc: Global, model: &Model, tree: &Tree, bound: u64) -> Result<Answer, NoMemory>
-    requires { IsProblem model.now }
-    ensures { IfOk result (TreeOf model.now tree.now bound) }
-{
-    bounds_are_of_voyages();
-    match check_bound(alloc, model, tree, bound) {
-        Ok(()) => Ok(Answer::Work(Work {
-            files: FileList::new(alloc),
-            report: confirmed(alloc, bound)?,
-        })),
-        Err(BoundNo::NoMemory) => Err(NoMemory),
-        Err(no) => Ok(Answer::No(refused_bound(alloc, no)?)),
+    let texts = read_departures(alloc, base, files_beside(v, head), folder)?;
+    match judged(alloc, v, model, head, tree, texts.as_slice()) {
+        Ok(answer) => Ok(answer),
+        Err(NoMemory) => Err(ReadStop::NoMemory),
     }
 }
 
-/// The line of a bound that is proved.
-fn confirmed(alloc: Global, bound: u64) -> Result<Bytes, NoMemory>
-    ensures { IfOk result (λ text. text ≡ bound_text bound) }
+/// How many departure files a certificate speaks of: one for each call but the last where it says a number of rehandles.
+fn files_beside(v: &BookedVoyage, head: &Head) -> u32
+    ensures { result ≡ files_beside v.now head.now }
 {
-    let mut text = Bytes::of(alloc, b"bound ")?;
-    text.extend(Buffer::new().format(bound).as_bytes())?;
-    text.push(b'\n')?;
-    Ok(text)
+    match head.rehandles {
+        Some(_) => v.cargo.calls() - 1,
+        None => 0,
+    }
 }

@@ -3,11 +3,13 @@
 
 mod answering;
 mod checking;
+mod departures;
 mod law;
 mod planning;
 mod refusing;
 mod showing;
+mod verdict;
 mod work;
 
 pub use answering::answer_to;
-pub use law::one_answer;
+pub use law::answers_agree;

@@ -1,28 +1,35 @@
 //! `stow plan`: the plans of a voyage, as departure files, and the certificate of their bound.
 ghost use Rattle.std.specs.Prelude.{◌≡◌, ◌≤◌, IfOk, IfErr};
 ghost use Rattle.stow_io.specs.Causes.{Rose};
-ghost use Rattle.stow_answers.specs.Answers.{Judges, PlanOf, WithinOr};
+ghost use Rattle.zero_one_model.specs.Building.{IsWithin};
+ghost use Rattle.stow_answers.specs.Answers.{Judges, PlanOf, PlanWithin};
 ghost use Rattle.voyage_inputs.specs.Booked.{IsBooked};
 ghost use Rattle.stow_answers.specs.Voyages.{voyage_of};
 ghost use Rattle.voyage_inputs.specs.Inputs.{IsReadBy};
 ghost use Rattle.voyage_inputs.specs.Named.{names_of, IsStop, IsQuiet};
 
 use crate::refusing::limit_text;
-use crate::work::work_of;
+use crate::work::texts_of;
+use plan_search::plan_voyage;
 use std::alloc::Global;
-use stow_data::{Bytes, NoMemory};
-use stow_io::Folder;
+use stow_data::NoMemory;
+use stow_io::{Folder, Gate};
 use voyage_inputs::{Answer, BookedVoyage, Found, Inputs, ReadStop, read_inputs};
 use zero_one_model::{Model, ModelNo};
 
-/// The plans of the voyage of the inputs, or why there are none.
-pub fn plan<'a, F: Folder>(
+/// The plans of the voyage of the inputs, found by a search of at most so many nodes, with their certificate; or why
+/// there are none.
+pub fn plan<'a, F: Folder, G: Gate>(
     alloc: Global,
     inputs: Inputs<'a>,
+    budget: u64,
     folder: &mut F,
+    gate: &G,
 ) -> Result<Answer, ReadStop<'a>>
+    requires nodes { 1 ≤ budget }
+    requires most_nodes { budget ≤ 100000 }
     ensures stays { F.files folder.new ≡ F.files folder.old }
-    ensures gives { IfOk result (Judges (names_of inputs.entry) (F.files folder.old) (PlanOf (names_of inputs.entry).base)) }
+    ensures gives { IfOk result (Judges (names_of inputs.entry) (F.files folder.old) (PlanOf budget (names_of inputs.entry).base)) }
     ensures later { F.faults folder.old ≤ F.faults folder.new }
     ensures quiet { IsQuiet result (F.faults folder.old) (F.faults folder.new) }
     ensures failed { IfErr result (IsStop (Rose (F.faults folder.old) (F.faults folder.new)) (IsReadBy (names_of inputs.entry) (F.files folder.old))) }
@@ -31,34 +38,49 @@ pub fn plan<'a, F: Folder>(
         Found::Voyage(voyage) => voyage,
         Found::Refused(answer) => return Ok(answer),
     };
-    match plan_of(alloc, inputs.base, &voyage) {
+    match plan_of(alloc, inputs.base, &voyage, budget, gate) {
         Ok(answer) => Ok(answer),
         Err(NoMemory) => Err(ReadStop::NoMemory),
     }
 }
 
-/// What a voyage is answered: the limits of the model come first, then the loader's rule.
-fn plan_of(alloc: Global, base: &str, voyage: &BookedVoyage) -> Result<Answer, NoMemory>
-    requires { IsBooked voyage.now }
-    ensures { IfOk result (PlanOf base.now voyage.now) }
+/// What a voyage is answered: the limits of the model come first, then the search.
+fn plan_of<G: Gate>(
+    alloc: Global,
+    base: &str,
+    v: &BookedVoyage,
+    budget: u64,
+    gate: &G,
+) -> Result<Answer, NoMemory>
+    requires booked { IsBooked v.now }
+    requires nodes { 1 ≤ budget }
+    requires most_nodes { budget ≤ 100000 }
+    ensures { IfOk result (PlanOf budget base.now v.now) }
 {
-    if let Some(line) = passed_limit(alloc, voyage)? {
-        return Ok(Answer::Large(line));
-    }
-    match work_of(alloc, base, voyage)? {
-        Some(work) => Ok(Answer::Work(work)),
-        None => Ok(Answer::Unbuilt),
+    match Model::build(alloc, &v.ship, &v.cargo) {
+        Ok(model) => plan_within(alloc, base, v, &model, budget, gate),
+        Err(ModelNo::TooLarge { limit, value }) => {
+            Ok(Answer::Large(limit_text(alloc, limit, value)?))
+        }
+        Err(ModelNo::NoMemory) => Err(NoMemory),
     }
 }
 
-/// The line of the limit that the voyage's model passes, none where it is within the limits.
-fn passed_limit(alloc: Global, v: &BookedVoyage) -> Result<Option<Bytes>, NoMemory>
-    requires { IsBooked v.now }
-    ensures { IfOk result (WithinOr (voyage_of v.now)) }
+/// What a voyage within the limits is answered.
+fn plan_within<G: Gate>(
+    alloc: Global,
+    base: &str,
+    v: &BookedVoyage,
+    model: &Model,
+    budget: u64,
+    gate: &G,
+) -> Result<Answer, NoMemory>
+    requires booked { IsBooked v.now }
+    requires model { model.now ≡ voyage_of v.now }
+    requires nodes { 1 ≤ budget }
+    requires most_nodes { budget ≤ 100000 }
+    ensures { IfOk result (PlanWithin budget base.now v.now) }
 {
-    match Model::build(alloc, &v.ship, &v.cargo) {
-        Ok(_) => Ok(None),
-        Err(ModelNo::TooLarge { limit, value }) => Ok(Some(limit_text(alloc, limit, value)?)),
-        Err(ModelNo::NoMemory) => Err(NoMemory),
-    }
+    let planned = plan_voyage(alloc, &v.ship, &v.cargo, model, budget, gate)?;
+    texts_of(alloc, base, v, &planned)
 }

@@ -2,14 +2,13 @@
 ghost use Rattle.std.specs.Prelude.{◌≡◌, IfOk};
 ghost use Rattle.stow_report.specs.Refusals.{refusal_text};
 ghost use Rattle.stow_report.specs.Inputs.{limit_line};
-ghost use Rattle.stow_report.specs.Verdicts.{cert_line, bound_line, file_line};
+ghost use Rattle.stow_report.specs.Verdicts.{cert_line, file_line};
 
 use baplie_read::BaplieFault;
-use bound_checker::BoundNo;
 use certificate::CertFault;
 use std::alloc::Global;
 use stow_data::{Bytes, Limit, NoMemory};
-use stow_report::{bound_line, cert_line, file_line, limit_line, refusal};
+use stow_report::{cert_line, file_line, limit_line, refusal};
 
 /// The text of a limit that is passed, and of the number that passes it.
 pub fn limit_text(alloc: Global, limit: Limit, value: u64) -> Result<Bytes, NoMemory>
@@ -23,13 +22,6 @@ pub fn cert_text(alloc: Global, fault: CertFault) -> Result<Bytes, NoMemory>
     ensures { IfOk result (λ text. text ≡ refusal_text (cert_line fault)) }
 {
     refusal(alloc, &cert_line(alloc, fault)?)
-}
-
-/// The text of what is wrong with a tree.
-pub fn bound_text(alloc: Global, no: BoundNo) -> Result<Bytes, NoMemory>
-    ensures { IfOk result (λ text. text ≡ refusal_text (bound_line no)) }
-{
-    refusal(alloc, &bound_line(alloc, no)?)
 }
 
 /// The text of a fault of a bay plan.

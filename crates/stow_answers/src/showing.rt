@@ -8,7 +8,7 @@ ghost use Rattle.voyage_inputs.specs.Named.{IsStop, IsQuiet};
 use crate::refusing::file_text;
 use baplie_model::Message;
 use baplie_read::{BaplieFault, read_baplie};
-use program_ends::{FileList, Work};
+use program_ends::{FileList, Finding, Work};
 use std::alloc::Global;
 use stow_data::NoMemory;
 use stow_io::Folder;
@@ -51,9 +51,11 @@ fn listing_of(alloc: Global, message: &Message) -> Result<Work, NoMemory>
     requires { AreListable message.now.groups }
     ensures files { IfOk result (λ work. work.files ≡ []) }
     ensures report { IfOk result (λ work. work.report ≡ listing_text message.now.groups) }
+    ensures finding { IfOk result (λ work. work.finding ≡ Finding.Fine) }
 {
     Ok(Work {
         files: FileList::new(alloc),
         report: listing(alloc, message.groups.as_slice())?,
+        finding: Finding::Fine,
     })
 }

@@ -1,26 +1,26 @@
 //! What is written and printed for a voyage.
-ghost use Rattle.std.specs.Prelude.{◌≡◌, ◌<◌, ◌≤◌, ◌+◌, ◌++◌, ◌∷◌, [], IfOk, IfSome, MatchOption, length, All};
+ghost use Rattle.std.specs.Prelude.{◌≡◌, ◌<◌, ◌++◌, ◌∷◌, [], IfOk, length};
 ghost use Rattle.stowage_rules.specs.Plan.{IsWellFormed};
 ghost use Rattle.arrival_plan.specs.Settled.{groups_of};
-ghost use Rattle.stowage_rules.specs.Departure.{AreDepartures, HasArrival};
-ghost use Rattle.voyage_meaning.specs.Voyage.{HasCount};
 ghost use Rattle.voyage_inputs.specs.Booked.{IsBooked};
-ghost use Rattle.stow_answers.specs.Voyages.{Sails};
-ghost use Rattle.stow_answers.specs.Work.{ArePlans, file_name, file_of, files_of, cert_name, cert_file, head, leaf, work_of_plans, IsWorkFor, NeedsSearch};
+ghost use Rattle.stow_answers.specs.Work.{ArePlans, ArePlansOrNone, file_name, file_of, files_of, departure_files, cert_name, cert_file, finding_of, work_of, AreTextsOf};
 
+use crate::refusing::limit_text;
 use baplie_model::CellGroup;
-use certificate::{End, Head, Outcome, Record, Tree, write_cert};
-use greedy_loader::load;
+use certificate::{Outcome, write_cert};
 use plan_files::departure_text;
-use plan_lifts::{LiftsFault, lifts};
-use program_ends::{FileList, NamedFile, Work};
+use plan_search::Planned;
+use program_ends::{FileList, Finding, NamedFile, Work};
 use std::alloc::Global;
-use stow_data::{Bytes, Cargo, NoMemory, Plan, PlanList, Ship, Word};
-use voyage_inputs::BookedVoyage;
-use zero_one_rows::{RaiseList, RowList};
+use stow_data::{Limit, NoMemory, Plan, PlanList, Word};
+use stow_report::report;
+use voyage_inputs::{Answer, BookedVoyage};
+
+/// The greatest number of bytes of a certificate.
+const MOST_BYTES: u64 = 536_870_912;
 
 /// The name of the departure file of a call, of which there are fewer than a hundred.
-fn file_name(alloc: Global, base: &str, call: u32) -> Result<Word, NoMemory>
+pub fn file_name(alloc: Global, base: &str, call: u32) -> Result<Word, NoMemory>
     ensures { IfOk result (λ name. name ≡ file_name base.now call) }
 {
     let tens = call / 10;
@@ -87,6 +87,23 @@ fn files_of(
     Ok(files)
 }
 
+/// The departure files of the plans, if there are some.
+fn departure_files(
+    alloc: Global,
+    base: &str,
+    v: &BookedVoyage,
+    plans: &Option<PlanList>,
+) -> Result<FileList, NoMemory>
+    requires booked { IsBooked v.now }
+    requires plans { ArePlansOrNone v.now plans.now }
+    ensures { IfOk result (λ files. files ≡ departure_files base.now v.now plans.now) }
+{
+    match plans {
+        Some(plans) => files_of(alloc, base, v, plans.as_slice()),
+        None => Ok(FileList::new(alloc)),
+    }
+}
+
 /// The name of the certificate.
 pub fn cert_name(alloc: Global, base: &str) -> Result<Word, NoMemory>
     ensures { IfOk result (λ name. name ≡ cert_name base.now) }
@@ -95,78 +112,66 @@ pub fn cert_name(alloc: Global, base: &str) -> Result<Word, NoMemory>
     Ok(Word::of(alloc, name.as_str())?)
 }
 
-/// The tree of one box, in which no variable is fixed and no row has a multiplier.
-fn leaf(alloc: Global) -> Result<Tree, NoMemory>
-    ensures { IfOk result (λ tree. tree ≡ leaf ∷ []) }
+/// The certificate, under its name.
+fn cert_file(alloc: Global, base: &str, planned: &Planned) -> Result<NamedFile, NoMemory>
+    ensures { IfOk result (λ file. file ≡ cert_file base.now planned.now.head planned.now.tree) }
 {
-    let mut tree = Tree::new(alloc);
-    tree.push(Record {
-        from_zero: false,
-        steps: RowList::new(alloc),
-        raises: RaiseList::new(alloc),
-        end: End::Leaf,
-    })?;
-    Ok(tree)
-}
-
-/// The certificate of a plan without rehandles, which needs no search.
-fn cert_file(alloc: Global, base: &str) -> Result<NamedFile, NoMemory>
-    ensures { IfOk result (λ file. file ≡ cert_file base.now head (leaf ∷ [])) }
-{
-    let head = Head {
-        outcome: Outcome::Optimal,
-        rehandles: Some(0),
-        bound: 0,
-        nodes: 1,
-    };
     Ok(NamedFile {
         name: cert_name(alloc, base)?,
-        bytes: write_cert(alloc, &head, &leaf(alloc)?)?,
+        bytes: write_cert(alloc, &planned.head, &planned.tree)?,
     })
 }
 
-/// The files and the report of plans.
-fn work_of_plans(
+/// What a plan's outcome is for the status.
+fn finding_of(outcome: Outcome) -> Finding
+    ensures { result ≡ finding_of outcome }
+{
+    match outcome {
+        Outcome::Optimal => Finding::Fine,
+        Outcome::Gap => Finding::Gap,
+        Outcome::NoPlan => Finding::NoPlan,
+        Outcome::Undecided => Finding::Undecided,
+    }
+}
+
+/// The departure files with the certificate behind them, and the report.
+fn work_of(
     alloc: Global,
     base: &str,
     v: &BookedVoyage,
-    plans: &[Plan],
+    planned: &Planned,
+    cert: NamedFile,
 ) -> Result<Work, NoMemory>
     requires booked { IsBooked v.now }
-    requires plans { ArePlans v.now plans.now }
-    ensures { IfOk result (λ work. work ≡ work_of_plans base.now v.now plans.now) }
+    requires plans { ArePlansOrNone v.now planned.now.plans }
+    requires cert { cert ≡ cert_file base.now planned.now.head planned.now.tree }
+    ensures { IfOk result (λ work. work ≡ work_of base.now v.now planned.now) }
 {
-    let mut files = files_of(alloc, base, v, plans)?;
-    files.push(cert_file(alloc, base)?)?;
-    let report = Bytes::of(alloc, b"outcome optimal\nrehandles 0\nbound 0\nnodes 1\n")?;
-    Ok(Work { files, report })
+    let mut files = departure_files(alloc, base, v, &planned.plans)?;
+    files.push(cert)?;
+    Ok(Work {
+        files,
+        report: report(alloc, &planned.head)?,
+        finding: finding_of(planned.head.outcome),
+    })
 }
 
-/// The rehandle count of legal departures.
-fn count_of(alloc: Global, ship: &Ship, cargo: &Cargo, plans: &PlanList) -> Result<u64, NoMemory>
-    requires arrival { HasArrival ship.now cargo.now }
-    requires each_call { length plans.now + 1 ≡ length cargo.now.rotation }
-    requires legal { AreDepartures ship.now cargo.now 1 plans.now }
-    ensures { IfOk result (λ count. HasCount ship.now cargo.now plans.now count) }
+/// The texts of a certificate and of its plans, or the line of the certificate's limit where its text is longer.
+pub fn texts_of(
+    alloc: Global,
+    base: &str,
+    v: &BookedVoyage,
+    planned: &Planned,
+) -> Result<Answer, NoMemory>
+    requires booked { IsBooked v.now }
+    requires plans { ArePlansOrNone v.now planned.now.plans }
+    ensures { IfOk result (AreTextsOf base.now v.now planned.now) }
 {
-    match lifts(alloc, ship, cargo, plans) {
-        Ok(lifted) => Ok(lifted.count),
-        Err(LiftsFault::NoMemory) => Err(NoMemory),
-        Err(LiftsFault::Illegal { .. }) => unreachable!(),
+    let cert = cert_file(alloc, base, planned)?;
+    let length = cert.bytes.len() as u64;
+    if length > MOST_BYTES {
+        let line = limit_text(alloc, Limit::Certificate, length)?;
+        return Ok(Answer::Large(line));
     }
-}
-
-/// The files and the report of the loader's plans, where they rehandle nothing.
-pub fn work_of(alloc: Global, base: &str, v: &BookedVoyage) -> Result<Option<Work>, NoMemory>
-    requires { IsBooked v.now }
-    ensures work { IfOk result (λ work. MatchOption work (NeedsSearch v.now) (IsWorkFor base.now v.now)) }
-    ensures sails { IfOk result (λ work. IfSome work (Sails base.now v.now)) }
-{
-    let Some(plans) = load(alloc, &v.ship, &v.cargo)? else {
-        return Ok(None);
-    };
-    if count_of(alloc, &v.ship, &v.cargo, &plans)? > 0 {
-        return Ok(None);
-    }
-    Ok(Some(work_of_plans(alloc, base, v, plans.as_slice())?))
+    Ok(Answer::Work(work_of(alloc, base, v, planned, cert)?))
 }

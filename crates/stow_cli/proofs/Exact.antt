@@ -1,35 +1,43 @@
--- A run ends as the one answer to its order says.
-use Rattle.std.proofs.Common.{◌≡◌, Option, Some, refl, ap, subst, inl, inr}
+-- A run ends as the answers to its order say.
+use Rattle.std.proofs.Common.{◌≡◌, Option, Some, refl, sym, ap, subst, ◌∙◌, inl, inr}
 use Rattle.std.specs.Prelude.{Result, Ok, Err}
 use Rattle.stow_io.specs.Files.{Files}
 use Rattle.program_ends.specs.Outside.{Outside, HasRisen}
 use Rattle.stow_words.specs.declared.order.Order.{Order}
 use Rattle.stow_words.specs.declared.order.WordsNo.{WordsNo}
+use Rattle.program_ends.specs.declared.files.Finding.{Finding}
+use Rattle.program_ends.specs.declared.files.Finding.TheVariants as finding
 use Rattle.voyage_inputs.specs.declared.answer.Answer.{Answer}
 use Rattle.voyage_inputs.specs.declared.answer.Answer.TheVariants as answer
 use Rattle.stow_answers.specs.Answers.{IsAnswerTo}
-use Rattle.stow_answers.proofs.OneAnswer.{one_answer}
+use Rattle.stow_answers.proofs.Agreement.{answers_agree}
 use Rattle.stow_cli.specs.declared.status.Status.{Status}
 use Rattle.stow_cli.specs.declared.status.Status.TheVariants as status
-use Rattle.stow_cli.specs.Ends.{Follows, Refuses, IsRun, IsExact, status_of}
+use Rattle.stow_cli.specs.Ends.{IsDone, Follows, Refuses, IsRun, IsExact, EndsAlike, found_status, status_of}
 
--- two answers to an order, over files that are told, give one status
-same_status : (order : Order) (all : Option Files) (files : Files) (a b : Answer) → all ≡ Some files → IsAnswerTo order all a → IsAnswerTo order all b → status_of a ≡ status_of b
-same_status order all files a b told h k =
-    ap status_of (one_answer order files a b (subst (λ (m : Option Files). IsAnswerTo order m a) told h) (subst (λ (m : Option Files). IsAnswerTo order m b) told k))
+-- an answer to the order, over files that are told, agrees with each other one
+alike : (order : Order) (all : Option Files) (files : Files) (a b : Answer) (s : Status) → all ≡ Some files → IsAnswerTo order all a → IsAnswerTo order all b → s ≡ status_of a → EndsAlike order s b
+alike order all files a b s told h k is = record {
+  answer = a;
+  status_is = is;
+  agrees = answers_agree order files a b (subst (λ (m : Option Files). IsAnswerTo order m a) told h) (subst (λ (m : Option Files). IsAnswerTo order m b) told k);
+}
+
+done_alike : (order : Order) (s : Status) (before now : Outside) (files : Files) (a : Answer) (d : IsDone order s before now) (f : Finding) → d.work.finding ≡ f → s ≡ found_status f → before.files ≡ Some files → IsAnswerTo order before.files a → EndsAlike order s a
+done_alike order s before now files a d f found is told h = alike order before.files files (answer.Work d.work) a s told d.answered h (is ∙ ap found_status (sym found))
 
 exact_order : (order : Order) (s : Status) (before now : Outside) → Follows order s before now → (s ≡ status.Fault → HasRisen before now) → IsExact (Ok order) s before now
-exact_order order status.Fine before now run fault files a told quiet h = inl (same_status order before.files files (answer.Work run.work) a told run.answered h)
-exact_order order status.No before now run fault files a told quiet h = inl (same_status order before.files files (answer.No run.line) a told run.answered h)
-exact_order order status.Input before now run fault files a told quiet h = inl (same_status order before.files files (answer.Input run.line) a told run.answered h)
-exact_order order status.Large before now run fault files a told quiet h = inl (same_status order before.files files (answer.Large run.line) a told run.answered h)
-exact_order order status.Unbuilt before now run fault files a told quiet h = inl (same_status order before.files files answer.Unbuilt a told run.0 h)
+exact_order order status.Fine before now run fault files a told quiet h = inl (done_alike order status.Fine before now files a run finding.Fine run.finished.0 refl told h)
+exact_order order status.Gap before now run fault files a told quiet h = inl (done_alike order status.Gap before now files a run finding.Gap run.finished.0 refl told h)
+exact_order order status.NoPlan before now run fault files a told quiet h = inl (done_alike order status.NoPlan before now files a run finding.NoPlan run.finished.0 refl told h)
+exact_order order status.Undecided before now run fault files a told quiet h = inl (done_alike order status.Undecided before now files a run finding.Undecided run.finished.0 refl told h)
+exact_order order status.No before now run fault files a told quiet h = inl (alike order before.files files (answer.No run.line) a status.No told run.answered h refl)
+exact_order order status.Input before now run fault files a told quiet h = inl (alike order before.files files (answer.Input run.line) a status.Input told run.answered h refl)
+exact_order order status.Large before now run fault files a told quiet h = inl (alike order before.files files (answer.Large run.line) a status.Large told run.answered h refl)
+exact_order order status.Unbuilt before now run fault files a told quiet h = inl (alike order before.files files answer.Unbuilt a status.Unbuilt told run.0 h refl)
 exact_order order status.Fault before now run fault files a told quiet h = absurd (quiet (fault refl))
 exact_order order status.Memory before now run fault files a told quiet h = inr refl
 exact_order order status.Words before now run fault files a told quiet h = absurd run
-exact_order order status.Gap before now run fault files a told quiet h = absurd run
-exact_order order status.NoPlan before now run fault files a told quiet h = absurd run
-exact_order order status.Undecided before now run fault files a told quiet h = absurd run
 
 exact_words : (why : WordsNo) (s : Status) (before now : Outside) → Refuses why s before now → IsExact (Err why) s before now
 exact_words why status.Words before now run = inl refl

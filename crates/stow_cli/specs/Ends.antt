@@ -4,6 +4,8 @@ use Rattle.stow_io.specs.Files.{Files, append, AppendsPart}
 use Rattle.program_ends.specs.Ends.{Prints, IsCut, fault_read, Finishes}
 use Rattle.program_ends.specs.Outside.{Outside, FolderRose, HasRisen}
 use Rattle.program_ends.specs.declared.ending.Ended.TheVariants as ended
+use Rattle.program_ends.specs.declared.files.Finding.{Finding}
+use Rattle.program_ends.specs.declared.files.Finding.TheVariants as finding
 use Rattle.program_ends.specs.declared.files.Work.{Work}
 use Rattle.stow_words.specs.declared.order.Order.{Order}
 use Rattle.stow_words.specs.declared.order.WordsNo.{WordsNo}
@@ -11,6 +13,7 @@ use Rattle.stow_words.specs.declared.order.WordsNo.TheVariants.{NotTaken, Worker
 use Rattle.voyage_inputs.specs.declared.answer.Answer.{Answer}
 use Rattle.voyage_inputs.specs.declared.answer.Answer.TheVariants as answer
 use Rattle.stow_answers.specs.Answers.{IsAnswerTo, IsReadFor}
+use Rattle.stow_answers.specs.Law.{Agree}
 use Rattle.stow_cli.specs.declared.status.Status.{Status}
 use Rattle.stow_cli.specs.declared.status.Status.TheVariants as status
 
@@ -20,9 +23,12 @@ SaysNo status.No line before now sink_rose = now ≡ append line before
 SaysNo status.Fault line before now sink_rose = sink_rose × AppendsPart line before now
 SaysNo _ _ _ _ _ = ⊥
 
--- the files and the report are finished, and the status says how that ended
+-- the files and the report are finished, and the status says what was found, or how that ended
 abbrev pub Completes : Work → Status → Outside → Outside → Type 0
-Completes work status.Fine before now = Finishes work ended.Done before now
+Completes work status.Fine before now = (work.finding ≡ finding.Fine) × Finishes work ended.Done before now
+Completes work status.Gap before now = (work.finding ≡ finding.Gap) × Finishes work ended.Done before now
+Completes work status.NoPlan before now = (work.finding ≡ finding.NoPlan) × Finishes work ended.Done before now
+Completes work status.Undecided before now = (work.finding ≡ finding.Undecided) × Finishes work ended.Done before now
 Completes work status.Fault before now = Finishes work ended.Fault before now
 Completes work status.Memory before now = Finishes work ended.Memory before now
 Completes _ _ _ _ = ⊥
@@ -55,6 +61,9 @@ OnlyPrints line before now = (now.files ≡ before.files) × Prints line before 
 -- how a run with this order may end: the status, and what is outside before it and after it
 abbrev pub Follows : Order → Status → Outside → Outside → Type 0
 Follows order status.Fine before now = IsDone order status.Fine before now
+Follows order status.Gap before now = IsDone order status.Gap before now
+Follows order status.NoPlan before now = IsDone order status.NoPlan before now
+Follows order status.Undecided before now = IsDone order status.Undecided before now
 Follows order status.No before now = IsLine order answer.No before now (λ line. now.text ≡ append line before.text)
 Follows order status.Input before now = IsLine order answer.Input before now (λ line. Prints line before now)
 Follows order status.Large before now = IsLine order answer.Large before now (λ line. Prints line before now)
@@ -89,14 +98,26 @@ IsRun (Err why) s before now = Refuses why s before now
 
 -- ## Exactly where
 
+abbrev pub found_status : Finding → Status
+found_status finding.Fine = status.Fine
+found_status finding.Gap = status.Gap
+found_status finding.NoPlan = status.NoPlan
+found_status finding.Undecided = status.Undecided
+
 abbrev pub status_of : Answer → Status
-status_of (answer.Work work) = status.Fine
+status_of (answer.Work work) = found_status work.finding
 status_of (answer.No line) = status.No
 status_of (answer.Input line) = status.Input
 status_of (answer.Large line) = status.Large
 status_of answer.Unbuilt = status.Unbuilt
 
--- Words that are refused end with the status of words. Where the folder tells its files and neither count rose, an order ends with the status of its one answer. Either may end with want of memory
+-- the status of an answer to the order that agrees with this one
+pub record EndsAlike (order : Order) (s : Status) (a : Answer) : Type 0 where
+  pub answer : Answer
+  pub status_is : s ≡ status_of answer
+  pub agrees : Agree order answer a
+
+-- Words that are refused end with the status of words. Where the folder tells its files and neither count rose, an order ends with the status of its one answer; the order of a plan with that of an answer to which a search can come, where the one given is such. Either may end with want of memory
 abbrev pub IsExact : Result Order WordsNo → Status → Outside → Outside → Type 0
 IsExact (Err why) s before now = (s ≡ status.Words) ⊎ (s ≡ status.Memory)
-IsExact (Ok order) s before now = (files : Files) (a : Answer) → before.files ≡ Some files → (HasRisen before now → ⊥) → IsAnswerTo order before.files a → (s ≡ status_of a) ⊎ (s ≡ status.Memory)
+IsExact (Ok order) s before now = (files : Files) (a : Answer) → before.files ≡ Some files → (HasRisen before now → ⊥) → IsAnswerTo order before.files a → EndsAlike order s a ⊎ (s ≡ status.Memory)

@@ -93,7 +93,7 @@ fn a_loaded_ship_is_planned<R: Abort>(rt: &R, alloc: Global) -> Result<(), NoMem
         CHECK_WORDS,
         &mut folder,
         Status::Fine,
-        b"bound 0\n",
+        b"check yes\nrehandles 0\nbound 0\n",
     )
 }
 

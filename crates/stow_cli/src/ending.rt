@@ -6,11 +6,11 @@ ghost use Rattle.program_ends.specs.Outside.{outside, HasRisen};
 ghost use Rattle.stow_cli.specs.Ends.{SaysNo, Completes, words_line, words_status};
 
 use crate::status::Status;
-use program_ends::{Ended, Work, finish, say};
+use program_ends::{Ended, Finding, Work, finish, say};
 use stow_io::{Folder, Sink};
 use stow_words::WordsNo;
 
-/// Writes all files, and then prints the report.
+/// Writes all files, and then prints the report. The status tells what was found.
 pub fn complete<F: Folder, K: Sink>(work: &Work, folder: &mut F, out: &mut K) -> Status
     ensures completes { Completes work.now result (outside F.Folder K.Sink folder.old out.old) (outside F.Folder K.Sink folder.new out.new) }
     ensures fault { result ≡ Status.Fault → HasRisen (outside F.Folder K.Sink folder.old out.old) (outside F.Folder K.Sink folder.new out.new) }
@@ -19,7 +19,12 @@ pub fn complete<F: Folder, K: Sink>(work: &Work, folder: &mut F, out: &mut K) ->
     ensures sink_later { K.faults out.old ≤ K.faults out.new }
 {
     match finish(work, folder, out) {
-        Ended::Done => Status::Fine,
+        Ended::Done => match work.finding {
+            Finding::Fine => Status::Fine,
+            Finding::Gap => Status::Gap,
+            Finding::NoPlan => Status::NoPlan,
+            Finding::Undecided => Status::Undecided,
+        },
         Ended::Fault => Status::Fault,
         Ended::Memory => Status::Memory,
     }

@@ -1,90 +1,11 @@
-//! Runs that look at files: certificates and bay plans.
+//! Runs that look at bay plans.
 use super::*;
-use crate::runs::{CHECK, SHOW, ends, folder_of, numbers_of};
+use crate::runs::{SHOW, ends, numbers_of};
 use std::alloc::Global;
 use std::process::Abort;
 use std::test::Fail;
 use stow_data::NoMemory;
 use stow_io::MemFolder;
-
-/// A stack of one tier, for which two containers are booked.
-const NARROW: &[u8] = b"name = \"V\"
-[[stack]]
-bay = 2
-row = 1
-tiers = [82]
-lengths = \"40\"
-limit_kg = 1000000
-";
-
-const TWO: &[u8] = b"vessel = \"V\"
-voyage = \"1\"
-date = \"2601010000\"
-rotation = [\"AAAAA\", \"BBBBB\"]
-container = [
-  { id = \"AAAU0000001\", from = 1, to = 2, type = \"42G1\", kg = 10000 },
-  { id = \"AAAU0000002\", from = 1, to = 2, type = \"42G1\", kg = 10000 },
-]
-";
-
-/// Certificates for the two containers, and what a check answers.
-const CHECKS: &[(&[u8], Status, &[u8])] = &[
-    (
-        b"stow-cert 1\noutcome no-plan\nrehandles none\nbound 3\nnodes 1\nn 0\nr 33 flow 0 1 0\nl\nend\n",
-        Status::Fine,
-        b"bound 3\n",
-    ),
-    (
-        b"stow-cert 1\noutcome no-plan\nrehandles none\nbound 3\nnodes 1\nn 0\nr 32 flow 0 1 0\nl\nend\n",
-        Status::No,
-        b"check no bound 4 1 32 33\n",
-    ),
-    (
-        b"stow-cert 1\noutcome no-plan\nrehandles none\nbound 3\nnodes 1\nn 0\nr -1 flow 0 1 0\nl\nend\n",
-        Status::No,
-        b"check no bound 1 1\n",
-    ),
-    (
-        b"stow-cert 1\noutcome no-plan\nrehandles none\nbound 3\nnodes 1\nn 0\nr 1 flow 0 1 7\nl\nend\n",
-        Status::No,
-        b"check no bound 2 1\n",
-    ),
-    (
-        b"stow-cert 1\noutcome no-plan\nrehandles none\nbound 4\nnodes 1\nn 0\nl\nend\n",
-        Status::Unbuilt,
-        b"unbuilt\n",
-    ),
-    (
-        b"stow-cert 1\noutcome no-plan\nrehandles none\nbound 3\nnodes 1\nn 0\no\nend\n",
-        Status::No,
-        b"check no bound 4 1 0 33\n",
-    ),
-    (
-        b"stow-cert 1\noutcome no-plan\nrehandles none\nbound 3\nnodes 1\nn 0\nr 1 weight 1 0\nl\nend\n",
-        Status::No,
-        b"check no bound 4 1 -1000000 33\n",
-    ),
-    (
-        b"stow-cert 1\noutcome no-plan\nrehandles none\nbound 3\nnodes 1\nn 0\nr 33 flow 0 1 0\nl\n",
-        Status::No,
-        b"check no cert 4\n",
-    ),
-    (
-        b"stow-cert 1\noutcome no-plan\nrehandles 3\n",
-        Status::No,
-        b"check no cert 2 3\n",
-    ),
-    (b"", Status::No, b"check no cert 1\n"),
-];
-
-fn certificates_are_checked<R: Abort>(rt: &R, alloc: Global) -> Result<(), NoMemory> {
-    for (text, status, printed) in CHECKS {
-        let mut folder = folder_of(alloc, NARROW, TWO, &[])?;
-        folder.lay("X.cert", *text)?;
-        ends(rt, alloc, CHECK, &mut folder, *status, *printed)?;
-    }
-    Ok(())
-}
 
 /// A bay plan whose lines end with CR LF.
 pub const BAY_PLAN: &[u8] = b"UNB+UNOA:2+LINE+SHIP+260131:0900+77'\r
@@ -196,7 +117,6 @@ fn other_texts_are_refused<R: Abort>(rt: &R, alloc: Global) -> Result<(), NoMemo
 
 #[test]
 fn files_are_looked_at(rt: HostRuntime) -> Result<(), Fail> {
-    certificates_are_checked(&rt, rt.alloc())?;
     bay_plans_are_shown(&rt, rt.alloc())?;
     other_texts_are_refused(&rt, rt.alloc())?;
     Ok(())

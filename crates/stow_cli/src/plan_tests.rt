@@ -117,7 +117,7 @@ fn a_failed_report_is_a_fault<R: Abort>(rt: &R, alloc: Global) -> Result<(), NoM
     let words = words_of(alloc, PLAN)?;
     let mut folder = folder_of(alloc, SHIP, CARGO, &[])?;
     let mut out = MemSink::new(alloc, 1000, numbers_of(alloc, &[1])?)?;
-    let status = run(alloc, &words, &mut folder, &mut out);
+    let status = run(alloc, &words, &mut folder, &mut out, &NoGate);
     assert_eq!(rt; status, Status::Fault);
     assert!(rt; out.text().is_empty());
     assert!(rt; holds(&folder, "X.cert", CERTIFICATE));

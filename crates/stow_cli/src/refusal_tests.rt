@@ -6,7 +6,7 @@ use std::alloc::Global;
 use std::process::Abort;
 use std::test::Fail;
 use stow_data::NoMemory;
-use stow_io::{MemFolder, MemSink};
+use stow_io::{MemFolder, MemSink, NoGate};
 
 /// Runs `plan`.
 fn plan_ends<R: Abort>(
@@ -21,60 +21,6 @@ fn plan_ends<R: Abort>(
     ends(rt, alloc, PLAN, &mut folder, status, printed)?;
     assert!(rt; folder.file("X-01.edi").is_none());
     assert!(rt; folder.file("X.cert").is_none());
-    Ok(())
-}
-
-/// One place, which has a reefer plug.
-const PLUGGED: &[u8] = b"name = \"V\"
-stack = [{ bay = 2, row = 1, tiers = [82], lengths = \"40\", limit_kg = 1000000, plugs = [82] }]
-";
-
-/// A stack of two tiers, whose limit is a kilogram below two containers of 10,000 kg.
-const LOW: &[u8] = b"name = \"V\"
-stack = [{ bay = 2, row = 1, tiers = [82, 84], lengths = \"40\", limit_kg = 19999 }]
-";
-
-/// A 40-foot place on a hatch cover, and a 20-foot pair under it.
-const COVERED: &[u8] = b"name = \"V\"
-stack = [
-  { bay = 2, row = 1, tiers = [82], lengths = \"40\", limit_kg = 1000000 },
-  { bay = 2, row = 1, tiers = [2], lengths = \"20\", limit_kg = 1000000 },
-]
-cover = [{ under = [[2, 1]], on = [[2, 1]] }]
-";
-
-/// A container of 20 foot, for a ship of 40-foot places.
-const TWENTY: &[u8] = b"vessel = \"V\"
-voyage = \"1\"
-date = \"2601010000\"
-rotation = [\"AAAAA\", \"BBBBB\"]
-container = [{ id = \"AAAU0000001\", from = 1, to = 2, type = \"22G1\", kg = 10000 }]
-";
-
-/// The second container stands on the first and leaves after it.
-const LATER_ON_EARLIER: &[u8] = b"vessel = \"V\"
-voyage = \"1\"
-date = \"2601010000\"
-rotation = [\"AAAAA\", \"BBBBB\", \"CCCCC\", \"DDDDD\"]
-container = [
-  { id = \"AAAU0000001\", from = 1, to = 3, type = \"42G1\", kg = 10000 },
-  { id = \"AAAU0000002\", from = 2, to = 4, type = \"42G1\", kg = 10000 },
-]
-";
-
-/// Profiles with no place for one of the two containers.
-const OTHER_PROFILES: &[&[u8]] = &[PLUGGED, LOW, COVERED];
-
-/// Bookings for which the loader's rule finds no plan, and some whose plan rehandles a container.
-const OTHER_BOOKINGS: &[&[u8]] = &[TWENTY, LATER_ON_EARLIER];
-
-fn voyages_that_need_a_search_are_unbuilt<R: Abort>(rt: &R, alloc: Global) -> Result<(), NoMemory> {
-    for profile in OTHER_PROFILES {
-        plan_ends(rt, alloc, *profile, CARGO, Status::Unbuilt, b"unbuilt\n")?;
-    }
-    for bookings in OTHER_BOOKINGS {
-        plan_ends(rt, alloc, SHIP, *bookings, Status::Unbuilt, b"unbuilt\n")?;
-    }
     Ok(())
 }
 
@@ -138,7 +84,7 @@ const BAD_BOOKINGS: &[(&[u8], &[u8])] = &[
 
 fn refused_bookings_are_told<R: Abort>(rt: &R, alloc: Global) -> Result<(), NoMemory> {
     for (bookings, printed) in BAD_BOOKINGS {
-        plan_ends(rt, alloc, PLUGGED, *bookings, Status::Input, *printed)?;
+        plan_ends(rt, alloc, SHIP, *bookings, Status::Input, *printed)?;
     }
     plan_ends(
         rt,
@@ -156,7 +102,7 @@ fn a_lost_line_leaves_the_status<R: Abort>(rt: &R, alloc: Global) -> Result<(), 
     let words = words_of(alloc, PLAN)?;
     let mut folder = folder_of(alloc, b"", b"", &[])?;
     let mut out = MemSink::new(alloc, 1000, numbers_of(alloc, &[1])?)?;
-    let status = run(alloc, &words, &mut folder, &mut out);
+    let status = run(alloc, &words, &mut folder, &mut out, &NoGate);
     assert_eq!(rt; status, Status::Input);
     assert!(rt; out.text().is_empty());
     Ok(())
@@ -195,7 +141,7 @@ fn a_lost_name_leaves_the_status<R: Abort>(rt: &R, alloc: Global) -> Result<(), 
     let words = words_of(alloc, PLAN)?;
     let mut folder = folder_of(alloc, SHIP, CARGO, &[1])?;
     let mut out = MemSink::new(alloc, 1000, numbers_of(alloc, &[2])?)?;
-    let status = run(alloc, &words, &mut folder, &mut out);
+    let status = run(alloc, &words, &mut folder, &mut out, &NoGate);
     assert_eq!(rt; status, Status::Fault);
     assert_eq!(rt; out.text().as_slice(), b"fault read ".as_slice());
     Ok(())
@@ -237,7 +183,6 @@ fn too_many_variables<R: Abort>(rt: &R, alloc: Global) -> Result<(), NoMemory> {
 
 #[test]
 fn nothing_is_written(rt: HostRuntime) -> Result<(), Fail> {
-    voyages_that_need_a_search_are_unbuilt(&rt, rt.alloc())?;
     refused_profiles_are_told(&rt, rt.alloc())?;
     refused_bookings_are_told(&rt, rt.alloc())?;
     a_lost_line_leaves_the_status(&rt, rt.alloc())?;

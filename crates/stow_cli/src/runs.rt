@@ -3,7 +3,7 @@ use super::*;
 use std::alloc::Global;
 use std::process::Abort;
 use stow_data::{NoMemory, NumberList, Word, WordList};
-use stow_io::{MemFolder, MemSink};
+use stow_io::{MemFolder, MemSink, NoGate};
 
 pub const PLAN: &[&str] = &["stow", "plan", "ship.toml", "cargo.toml", "X"];
 
@@ -86,7 +86,7 @@ pub fn ends<R: Abort>(
 ) -> Result<(), NoMemory> {
     let words = words_of(alloc, texts)?;
     let mut out = MemSink::new(alloc, 1000, NumberList::new(alloc))?;
-    let ended = run(alloc, &words, folder, &mut out);
+    let ended = run(alloc, &words, folder, &mut out, &NoGate);
     if ended == Status::Memory {
         return Err(NoMemory);
     }

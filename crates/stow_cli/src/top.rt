@@ -1,7 +1,7 @@
 //! The top call.
 ghost use Rattle.std.specs.Prelude.{◌≡◌, ◌⊎◌, ◌≤◌};
 ghost use Rattle.program_ends.specs.Outside.{outside, HasRisen};
-ghost use Rattle.stow_words.specs.Orders.{ordered};
+ghost use Rattle.stow_words.specs.Orders.{ordered, IsInRange};
 ghost use Rattle.stow_cli.specs.Ends.{Follows, IsRun, IsExact};
 ghost use Rattle.stow_cli.specs.Taken.{HasClapFault, OrdersOwn};
 
@@ -24,7 +24,7 @@ pub fn stow<R: Threads + Wait + Sync, F: Folder, K: Sink, G: Gate + Sync>(
     words: &WordList,
     folder: &mut F,
     out: &mut K,
-    _gate: &G,
+    gate: &G,
 ) -> Status
     ensures run { IsRun (ordered words.now) result (outside F.Folder K.Sink folder.old out.old) (outside F.Folder K.Sink folder.new out.new) }
     ensures exact { IsExact (ordered words.now) result (outside F.Folder K.Sink folder.old out.old) (outside F.Folder K.Sink folder.new out.new) }
@@ -35,16 +35,17 @@ pub fn stow<R: Threads + Wait + Sync, F: Folder, K: Sink, G: Gate + Sync>(
     ensures folder_later { F.faults folder.old ≤ F.faults folder.new }
     ensures sink_later { K.faults out.old ≤ K.faults out.new }
 {
-    run(alloc, words, folder, out)
+    run(alloc, words, folder, out, gate)
 }
 
 /// The same for all orders that wait for nobody, which are all so far: by its bounds this call can neither
-/// block nor run forever, so it returns.
-pub fn run<F: Folder, K: Sink>(
+/// block nor run forever, so it returns. A search for plans has one worker yet, whatever the words say.
+pub fn run<F: Folder, K: Sink, G: Gate>(
     alloc: Global,
     words: &WordList,
     folder: &mut F,
     out: &mut K,
+    gate: &G,
 ) -> Status
     ensures run { IsRun (ordered words.now) result (outside F.Folder K.Sink folder.old out.old) (outside F.Folder K.Sink folder.new out.new) }
     ensures exact { IsExact (ordered words.now) result (outside F.Folder K.Sink folder.old out.old) (outside F.Folder K.Sink folder.new out.new) }
@@ -55,11 +56,17 @@ pub fn run<F: Folder, K: Sink>(
     ensures folder_later { F.faults folder.old ≤ F.faults folder.new }
     ensures sink_later { K.faults out.old ≤ K.faults out.new }
 {
-    obey(alloc, words, folder, out)
+    obey(alloc, words, folder, out, gate)
 }
 
 /// Reads the words, and does what they order.
-fn obey<F: Folder, K: Sink>(alloc: Global, words: &WordList, folder: &mut F, out: &mut K) -> Status
+fn obey<F: Folder, K: Sink, G: Gate>(
+    alloc: Global,
+    words: &WordList,
+    folder: &mut F,
+    out: &mut K,
+    gate: &G,
+) -> Status
     ensures run { IsRun (ordered words.now) result (outside F.Folder K.Sink folder.old out.old) (outside F.Folder K.Sink folder.new out.new) }
     ensures not_taken { HasClapFault words.now result }
     ensures own { OrdersOwn words.now result }
@@ -69,20 +76,27 @@ fn obey<F: Folder, K: Sink>(alloc: Global, words: &WordList, folder: &mut F, out
     ensures sink_later { K.faults out.old ≤ K.faults out.new }
 {
     match read_words(alloc, words) {
-        Ok(order) => follow(alloc, &order, folder, out),
+        Ok(order) => follow(alloc, &order, folder, out, gate),
         Err(no) => refuse(no, out),
     }
 }
 
 /// Answers the order, writes its files and prints.
-fn follow<F: Folder, K: Sink>(alloc: Global, order: &Order, folder: &mut F, out: &mut K) -> Status
+fn follow<F: Folder, K: Sink, G: Gate>(
+    alloc: Global,
+    order: &Order,
+    folder: &mut F,
+    out: &mut K,
+    gate: &G,
+) -> Status
+    requires { IsInRange order.now }
     ensures follows { Follows order.now result (outside F.Folder K.Sink folder.old out.old) (outside F.Folder K.Sink folder.new out.new) }
     ensures fault { result ≡ Status.Fault → HasRisen (outside F.Folder K.Sink folder.old out.old) (outside F.Folder K.Sink folder.new out.new) }
     ensures quiet { (result ≡ Status.Fault → ⊥) → F.faults folder.new ≡ F.faults folder.old }
     ensures folder_later { F.faults folder.old ≤ F.faults folder.new }
     ensures sink_later { K.faults out.old ≤ K.faults out.new }
 {
-    match answer_to(alloc, order, folder) {
+    match answer_to(alloc, order, folder, gate) {
         Ok(Answer::Work(work)) => complete(&work, folder, out),
         Ok(Answer::No(line)) => say_no(out, line.as_slice()),
         Ok(Answer::Input(line)) => {

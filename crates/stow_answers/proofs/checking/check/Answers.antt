@@ -5,4 +5,4 @@ pub returns-clause-gives : goal.returns-clause-gives
 returns-clause-gives g c = check_judges c.check_voyage.result _ _ _ c.in-Voyage.voyage (taken _ _ _ c.in-Voyage.voyage c.in_ok-voyage.ensures.gives c.in-Voyage.is) c.read_inputs.ensures.stays c.check_voyage.ensures.gives
 
 pub returns-clause-failed : goal.returns-clause-failed
-returns-clause-failed g c = check_stops c.check_voyage.result _ _ c.in-Voyage.voyage _ _ _ (taken _ _ _ c.in-Voyage.voyage c.in_ok-voyage.ensures.gives c.in-Voyage.is) c.read_inputs.ensures.later c.check_voyage.ensures.failed
+returns-clause-failed g c = check_stops c.check_voyage.result _ _ _ c.in-Voyage.voyage _ _ _ (taken _ _ _ c.in-Voyage.voyage c.in_ok-voyage.ensures.gives c.in-Voyage.is) c.read_inputs.ensures.stays c.read_inputs.ensures.later c.check_voyage.ensures.failed
