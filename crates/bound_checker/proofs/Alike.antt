@@ -6,7 +6,7 @@ use Rattle.zero_one_rows.specs.declared.program.Row.{Row}
 use Rattle.zero_one_rows.specs.Variables.{Voyage}
 use Rattle.certificate.specs.Entries.{same_row}
 use Rattle.bound_checker.specs.Sums.{Lacks, AreSmall}
-use Rattle.bound_checker.proofs.RowsAlike.{same_equal, same_itself}
+use Rattle.certificate.proofs.RowsAlike.{same_equal, same_itself}
 use Rattle.bound_checker.proofs.Multiplied.{amount_with}
 use Rattle.bound_checker.proofs.Multiplied.{sum_times, dot_with, small_with}
 

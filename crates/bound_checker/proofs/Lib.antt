@@ -1,4 +1,3 @@
-pub mod RowsAlike
 pub mod RowsOrdered
 pub mod Look
 pub mod Adding

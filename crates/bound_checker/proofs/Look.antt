@@ -9,7 +9,7 @@ use Rattle.zero_one_rows.specs.declared.program.Row.{Row}
 use Rattle.zero_one_rows.specs.contracts.program.RowOrd.TheImpl as order
 use Rattle.proof_trees.specs.Multipliers.{amount_of}
 use Rattle.certificate.specs.Entries.{same_row}
-use Rattle.bound_checker.proofs.RowsAlike.{same_equal, same_itself, bits_equal}
+use Rattle.certificate.proofs.RowsAlike.{same_equal, same_itself, bits_equal}
 use Rattle.bound_checker.proofs.RowsOrdered.{order_same}
 
 pub same_turned : (r s : Row) → same_row r s ≡ same_row s r

@@ -10,7 +10,7 @@ use Rattle.zero_one_rows.specs.Variables.{Voyage}
 use Rattle.proof_trees.specs.Multipliers.{Multipliers, dot, amount_of, with_amount, changed_to}
 use Rattle.certificate.specs.Entries.{same_row}
 use Rattle.bound_checker.specs.Sums.{in_range, IsSmall, Lacks, AreSmall}
-use Rattle.bound_checker.proofs.RowsAlike.{same_equal, same_itself}
+use Rattle.certificate.proofs.RowsAlike.{same_equal, same_itself}
 use Rattle.bound_checker.proofs.Look.{same_turned}
 use Rattle.bound_checker.proofs.Sizes.{product_size}
 

@@ -16,7 +16,7 @@ use Rattle.certificate.specs.Entries.{same_row}
 use Rattle.bound_checker.specs.Faults.{raised_row}
 use Rattle.bound_checker.specs.Sums.{in_range, weight_at, IsSmall, AreSmall, Carries, HasRoom}
 use Rattle.bound_checker.specs.Prices.{Holds, Ends}
-use Rattle.bound_checker.proofs.RowsAlike.{same_equal}
+use Rattle.certificate.proofs.RowsAlike.{same_equal}
 use Rattle.bound_checker.proofs.Multiplied.{amount_with, dot_with, small_with, changed_is}
 use Rattle.bound_checker.proofs.Alike.{dot_alike}
 use Rattle.bound_checker.proofs.Room.{has_room}

@@ -8,7 +8,7 @@ use Rattle.program_rows.proofs.EveryRow.{row_listed}
 use Rattle.proof_trees.specs.Multipliers.{Multipliers}
 use Rattle.certificate.specs.Entries.{same_row}
 use Rattle.bound_checker.specs.Sums.{Lacks, AreSmall}
-use Rattle.bound_checker.proofs.RowsAlike.{same_itself}
+use Rattle.certificate.proofs.RowsAlike.{same_itself}
 
 -- ## Different rows of a list are no more than its rows
 

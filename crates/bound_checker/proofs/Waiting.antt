@@ -16,7 +16,7 @@ use Rattle.bound_checker.specs.declared.prices.Change.{Change}
 use Rattle.bound_checker.specs.declared.walk.Frame.{Frame}
 use Rattle.bound_checker.specs.Sums.{AreSmall}
 use Rattle.bound_checker.specs.Waits.{back_at, IsSound, Moves, Waits, AllWait}
-use Rattle.bound_checker.proofs.RowsAlike.{same_equal}
+use Rattle.certificate.proofs.RowsAlike.{same_equal}
 use Rattle.bound_checker.proofs.Multiplied.{amount_with}
 
 -- ## Changes

@@ -1,3 +1,5 @@
+pub mod RowsAlike
+pub mod RowsTold
 pub mod Texts
 pub mod Records
 pub mod Scanned

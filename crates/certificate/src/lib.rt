@@ -1,6 +1,7 @@
 //! Certificates of a bound: a proof tree with its head, and their text.
 #![tactic(auto)]
 
+mod copies;
 mod faults;
 mod journals;
 mod laws;

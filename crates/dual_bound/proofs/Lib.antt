@@ -1,5 +1,3 @@
-pub mod RowsAlike
-pub mod RowsTold
 pub mod Summing
 pub mod Multiplied
 pub mod RowsListed

@@ -16,8 +16,8 @@ use Rattle.dual_bound.specs.declared.multipliers.AddNo.{AddNo}
 use Rattle.dual_bound.specs.declared.multipliers.AddNo.TheVariants.{NoMemory}
 use Rattle.dual_bound.specs.Adding.{in_range, Adds}
 use Rattle.dual_bound.specs.Costs.{IsSmall, AreSmall}
-use Rattle.dual_bound.proofs.RowsAlike.{same_equal}
-use Rattle.dual_bound.proofs.RowsTold.{same_turned}
+use Rattle.certificate.proofs.RowsAlike.{same_equal}
+use Rattle.certificate.proofs.RowsTold.{same_turned}
 use Rattle.dual_bound.proofs.Summing.{product_size, abs_sum, sum_times, all_taken}
 
 pub dot_with : (ms : Multipliers Row) (r : Row) (n : ℕ) (z : ℤ) (f : Row → ℤ) → pos (amount_of same_row ms r) +ℤ z ≡ pos n → dot (with_amount same_row ms r n) f ≡ dot ms f +ℤ z *ℤ f r

@@ -7,7 +7,7 @@ use Rattle.zero_one_rows.specs.Rows.{whole}
 use Rattle.proof_trees.specs.Multipliers.{Multipliers, amount_of, with_amount, changed_to, raised, raised_all}
 use Rattle.certificate.specs.Entries.{same_row}
 use Rattle.dual_bound.specs.Raising.{Lacks, AreMultipliers}
-use Rattle.dual_bound.proofs.RowsTold.{same_turned}
+use Rattle.certificate.proofs.RowsTold.{same_turned}
 
 lacks_with : (ms : Multipliers Row) (r q : Row) (n : ℕ) → same_row r q ≡ false → Lacks ms q → Lacks (with_amount same_row ms r n) q
 lacks_with [] r q n e h = (e, tt)

@@ -2,7 +2,6 @@
 #![tactic(auto)]
 
 mod choosing;
-mod copies;
 mod desk;
 mod ending;
 mod stands;

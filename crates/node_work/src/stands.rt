@@ -14,7 +14,6 @@ ghost use Rattle.node_work.specs.Work.{most_rehandles, Works};
 ghost use Rattle.node_work.specs.declared.stands.Frame.{Frame as Frames};
 ghost use Rattle.node_work.specs.Stands.{entry_in, value_in, box_along, IsStand};
 
-use crate::copies::{copy_record, same_record};
 use crate::ending::end_box;
 use crate::worked::Worked;
 use certificate::{End, Record};
@@ -53,7 +52,7 @@ fn in_common(frames: &[Frame], path: &[bool], trail: &[Record]) -> usize
         if depth >= trail.len() {
             return depth;
         }
-        if !same_record(&frame.entry, &trail[depth]) {
+        if !frame.entry.is_same(&trail[depth]) {
             return depth;
         }
         if frame.value != path[depth] {
@@ -177,7 +176,7 @@ impl Stand {
         ensures frames { OnOk result ((f : Frames) × (f.entry ≡ entry.now) × (f.value ≡ value) × (self.new.frames.items ≡ self.old.frames.items ++ f ∷ [])) }
         ensures at_half { OnOk result (self.new.b ≡ box_along model.now (free_box (whole model.now)) self.new.frames.items) }
     {
-        let entry = copy_record(alloc, entry)?;
+        let entry = entry.copy(alloc)?;
         tighten_noted(
             alloc,
             model,

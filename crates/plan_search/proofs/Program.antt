@@ -5,7 +5,7 @@ use Rattle.zero_one_rows.specs.declared.program.Row.{Row}
 use Rattle.zero_one_rows.specs.Variables.{Voyage, is_rehandled, var}
 use Rattle.zero_one_rows.specs.Rows.{whole, bit}
 use Rattle.certificate.specs.Entries.{same_row}
-use Rattle.bound_checker.proofs.RowsAlike.{same_equal, same_itself}
+use Rattle.certificate.proofs.RowsAlike.{same_equal, same_itself}
 use Rattle.search_machine.specs.Machine.{NoneNegative}
 use Rattle.search_machine.specs.Outcomes.{Tells}
 

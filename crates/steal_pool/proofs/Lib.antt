@@ -1,5 +1,5 @@
 mod Beside
-mod RowsAlike
+mod RowsTell
 mod Steps
 mod Findings
 mod Replaying

@@ -1,7 +1,6 @@
 //! The search of a voyage's program: nodes handled one by one, until none is open or the budget is spent.
 #![tactic(auto)]
 
-mod copies;
 mod found;
 mod laws;
 mod opens;

@@ -7,7 +7,6 @@ ghost use Rattle.search_machine.specs.Bags.{Every};
 ghost use Rattle.steal_pool.specs.Opens.{path_at, AreBeside, IsOnWay};
 ghost use Rattle.steal_pool.specs.UnderWay.{IsUnderWay, Goes, Keeps, divided_by, entry_at, found_of, halves_of};
 
-use crate::copies::copy_record;
 use crate::found::Found;
 use crate::opens::Open;
 use certificate::{Entry, Journal, JournalList, Node, Path, PathList, Record, RecordList};
@@ -106,7 +105,7 @@ impl Run {
         ensures { OnOk result (self.new ≡ record self.old { here = divided_by self.old.here ends.now; opens = self.old.opens ++ halves_of self.old.here }) }
     {
         let above = self.here.path.len();
-        self.here.trail.push(copy_record(alloc, ends)?)?;
+        self.here.trail.push(ends.copy(alloc)?)?;
         self.opens.push(Open::Half {
             above,
             value: false,

@@ -120,6 +120,20 @@ impl<'a> Model<'a> {
         self.lists.number(self.base, self.rows, r)
     }
 
+    /// The ship.
+    pub fn ship(&self) -> &Ship
+        ensures { result.now ≡ self.now.ship }
+    {
+        self.ship
+    }
+
+    /// The cargo.
+    pub fn cargo(&self) -> &Cargo
+        ensures { result.now ≡ self.now.cargo }
+    {
+        self.cargo
+    }
+
     /// The greatest number of rehandles that a voyage needs: each container once at each call but the last.
     pub fn limit(&self) -> u64
         ensures { result ≡ length self.now.cargo.containers * (length self.now.cargo.rotation - 1) }

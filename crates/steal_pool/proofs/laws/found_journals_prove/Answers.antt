@@ -8,7 +8,7 @@ use Rattle.search_machine.specs.Journals.{Path, is_left, EachAllowed}
 use Rattle.search_machine.specs.Along.{HoldsAlong}
 use Rattle.node_ledger.specs.Gathered.{placed_entries, nodes_of, AreWhole, IsGathered}
 use Rattle.steal_pool.specs.Found.{IsWorked}
-use Rattle.steal_pool.proofs.RowsAlike.{rows_told}
+use Rattle.steal_pool.proofs.RowsTell.{rows_told}
 use Rattle.steal_pool.proofs.Findings.{whole_there, each_handled, each_allowed, gathers_there, worked_along, entries_length}
 use Rattle.steal_pool.proofs.laws.found_journals_prove.Goals as goal
 

@@ -1,7 +1,7 @@
 use Rattle.zero_one_rows.specs.Rows.{whole}
 use Rattle.program_rows.specs.Counted.{base_rows}
 use Rattle.certificate.specs.Entries.{same_row}
-use Rattle.steal_pool.proofs.RowsAlike.{rows_told}
+use Rattle.steal_pool.proofs.RowsTell.{rows_told}
 use Rattle.steal_pool.proofs.Replaying.{no_cost_negative, base_solves, replays_there}
 use Rattle.steal_pool.proofs.laws.found_journals_replay.Goals as goal
 

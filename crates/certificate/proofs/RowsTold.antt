@@ -4,7 +4,7 @@ use Rattle.zero_one_rows.specs.declared.program.Row.{Row}
 use Rattle.zero_one_rows.specs.declared.program.Row.TheVariants.{Flow, Start, Cell, Support, Twenty, Block, Hatch, Weight, Apart, Cross}
 use Rattle.zero_one_rows.specs.contracts.program.RowPartialEq.TheImpl as equality
 use Rattle.certificate.specs.Entries.{same_row}
-use Rattle.dual_bound.proofs.RowsAlike.{same_equal, same_itself, bits_equal}
+use Rattle.certificate.proofs.RowsAlike.{same_equal, same_itself, bits_equal}
 
 pub equal_same : (r s : Row) → equality.ghosts.eq r s ≡ same_row r s
 equal_same (Flow q i g) (Flow q' i' g') = refl

@@ -1,5 +1,5 @@
 use Rattle.std.proofs.Common.{◌≡◌, take}
-use Rattle.steal_pool.proofs.copies.copy_rows.Given as goal
+use Rattle.certificate.proofs.copies.copy_rows.Given as goal
 
 abbrev pub invariant-loop-row : goal.invariant-loop-row
 invariant-loop-row l = l.copy ≡ take l.row-index l.rows

@@ -1,5 +1,5 @@
 use Rattle.std.proofs.Common.{◌≡◌, take}
-use Rattle.node_work.proofs.copies.same_rows.Given as goal
+use Rattle.certificate.proofs.copies.same_rows.Given as goal
 
 abbrev pub invariant-loop-index : goal.invariant-loop-index
 invariant-loop-index l = take l.index l.a ≡ take l.index l.b

@@ -1,7 +1,7 @@
 //! Copies of records, and whether two are the same.
 ghost use Rattle.std.specs.Prelude.{◌≡◌, IfOk, true};
 
-use certificate::Record;
+use crate::tree::Record;
 use std::alloc::Global;
 use stow_data::NoMemory;
 use zero_one_rows::{Raise, RaiseList, Row, RowList};
@@ -43,18 +43,6 @@ fn copy_raises(alloc: Global, raises: &[Raise]) -> Result<RaiseList, NoMemory>
         copy.push(copy_raise(raise)?)?;
     }
     Ok(copy)
-}
-
-/// A copy of a record.
-pub fn copy_record(alloc: Global, entry: &Record) -> Result<Record, NoMemory>
-    ensures { IfOk result (λ copy. copy ≡ entry.now) }
-{
-    Ok(Record {
-        from_zero: entry.from_zero,
-        steps: copy_rows(alloc, entry.steps.as_slice())?,
-        raises: copy_raises(alloc, entry.raises.as_slice())?,
-        end: entry.end,
-    })
 }
 
 // Whether two rows are the same.
@@ -104,18 +92,32 @@ fn same_raises(a: &[Raise], b: &[Raise]) -> bool
     true
 }
 
-/// Whether two records are the same.
-pub fn same_record(a: &Record, b: &Record) -> bool
-    ensures { result ≡ true → a.now ≡ b.now }
-{
-    if a.from_zero != b.from_zero {
-        return false;
+impl Record {
+    /// A copy of the record.
+    pub fn copy(&self, alloc: Global) -> Result<Record, NoMemory>
+        ensures { IfOk result (λ copy. copy ≡ self.now) }
+    {
+        Ok(Record {
+            from_zero: self.from_zero,
+            steps: copy_rows(alloc, self.steps.as_slice())?,
+            raises: copy_raises(alloc, self.raises.as_slice())?,
+            end: self.end,
+        })
     }
-    if a.end != b.end {
-        return false;
+
+    /// Whether two records are the same. No is no claim: contracts see what a yes says.
+    pub fn is_same(&self, other: &Record) -> bool
+        ensures { result ≡ true → self.now ≡ other.now }
+    {
+        if self.from_zero != other.from_zero {
+            return false;
+        }
+        if self.end != other.end {
+            return false;
+        }
+        if !same_rows(self.steps.as_slice(), other.steps.as_slice()) {
+            return false;
+        }
+        same_raises(self.raises.as_slice(), other.raises.as_slice())
     }
-    if !same_rows(a.steps.as_slice(), b.steps.as_slice()) {
-        return false;
-    }
-    same_raises(a.raises.as_slice(), b.raises.as_slice())
 }

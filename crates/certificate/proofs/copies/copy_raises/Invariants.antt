@@ -1,5 +1,5 @@
 use Rattle.std.proofs.Common.{◌≡◌, take}
-use Rattle.node_work.proofs.copies.copy_raises.Given as goal
+use Rattle.certificate.proofs.copies.copy_raises.Given as goal
 
 abbrev pub invariant-loop-raise : goal.invariant-loop-raise
 invariant-loop-raise l = l.copy ≡ take l.raise-index l.raises

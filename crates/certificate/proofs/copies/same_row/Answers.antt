@@ -1,7 +1,7 @@
 use Rattle.std.proofs.Common.{◌∙◌, sym}
-use Rattle.dual_bound.proofs.RowsAlike.{same_equal}
-use Rattle.dual_bound.proofs.RowsTold.{equal_same}
-use Rattle.node_work.proofs.copies.same_row.Goals as goal
+use Rattle.certificate.proofs.RowsAlike.{same_equal}
+use Rattle.certificate.proofs.RowsTold.{equal_same}
+use Rattle.certificate.proofs.copies.same_row.Goals as goal
 
 pub returns : goal.returns
 returns c = λ h. same_equal c.args.a.now c.args.b.now (sym (equal_same c.args.a.now c.args.b.now) ∙ (sym c.eq.ensures ∙ h))
