@@ -51,7 +51,7 @@ impl Model for Multipliers {
 }
 
 /// The place of a row among those that have multipliers.
-#[tactic(auto, using(crate::proofs::RowsTold::equal_same))]
+#[tactic(auto, using(certificate::proofs::RowsTold::equal_same))]
 fn place_of(entries: &[(Row, u64)], r: &Row) -> Option<usize>
     ensures is { result ≡ place_in entries.now r.now }
     ensures inside { IfSome result (λ k. k < length entries.now) }
