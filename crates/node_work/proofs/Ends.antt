@@ -17,20 +17,21 @@ use Rattle.program_rows.specs.Counted.{base_rows}
 use Rattle.program_rows.proofs.EveryRow.{lists_base_rows}
 use Rattle.proof_trees.specs.Program.{Program, cost_of}
 use Rattle.proof_trees.specs.Boxes.{Box, at, violated, tightened, AreRows}
-use Rattle.proof_trees.proofs.Duality.{length_tightened}
 use Rattle.proof_trees.specs.Multipliers.{Multipliers, Closes, raised_all}
 use Rattle.proof_trees.specs.Trees.{begun, Pending}
 use Rattle.proof_trees.specs.Trees as trees
 use Rattle.certificate.specs.declared.tree.End.{End}
 use Rattle.certificate.specs.declared.tree.End.TheVariants.{Leaf, Branch}
 use Rattle.certificate.specs.declared.tree.Record.{Record}
-use Rattle.certificate.specs.Entries.{same_row, raise_of, entry_of, number_of}
-use Rattle.search_machine.specs.Journals.{NamesRows, EndAllowed, Anything, known}
-use Rattle.search_machine.specs.Machine.{is_fixed, fixed_below, breaks_none, is_full, nat_of, price}
+use Rattle.certificate.specs.Entries.{same_row, raise_of, entry_of, end_of, number_of}
+use Rattle.search_machine.specs.Journals.{NamesRows, EndAllowed, Anything, known, branches, multipliers_after}
+use Rattle.search_machine.specs.Machine.{Divides, is_fixed, fixed_below, breaks_none, is_full, nat_of, price}
 use Rattle.partial_plan.specs.Full.{ones}
 use Rattle.partial_plan.specs.Tightening.{IsQuiet, ForceAll, Tightens}
 use Rattle.dual_bound.specs.Raising.{IsRaise, RiseAll, IsStuck, Raises}
-use Rattle.node_work.specs.Starts.{IsTight}
+use Rattle.node_work.specs.declared.worked.Worked.{Worked}
+use Rattle.node_work.specs.declared.worked.Worked.TheVariants.{Closed, Branched, Full, NoMemory}
+use Rattle.node_work.specs.Starts.{IsTight, HasSteps, IsAfterSteps}
 use Rattle.node_work.specs.Work.{most_rehandles, EachRises, IsLean, IsEarnest, Ends, EndsClosed, EndsBranched, EndsFull}
 use Rattle.node_work.proofs.Folds.{default_any}
 use Rattle.node_work.proofs.Numbered.{number_is}
@@ -50,9 +51,6 @@ base_has m rs h k d lt = and_right (is_base (get_or rs k d)) (has m (get_or rs k
 -- ## A tightened box
 
 module _ (m : Voyage) (b c : Box) (old new : List Row) (h : Tightens m b c old new) where
-  pub tight_vars : length b ≡ length (variables m) → length c ≡ length (variables m)
-  tight_vars len = ap (λ (d : Box). length d) h.box ∙ length_tightened (whole m) b h.rows len
-
   pub is_tight : (q : Pending Row) → q.box ≡ b → old ≡ [] → IsTight m q c new
   is_tight q same none =
       let e : h.rows ≡ new = sym (h.added ∙ ap (λ (rs : List Row). rs ++ h.rows) none) in
@@ -61,6 +59,15 @@ module _ (m : Voyage) (b c : Box) (old new : List Row) (h : Tightens m b c old n
         box = h.box ∙ ap (λ (rs : List Row). tightened (whole m) b rs) e ∙ ap (λ (d : Box). tightened (whole m) d new) (sym same);
         forced = subst (λ (rs : List Row). ForceAll (whole m) q.box rs) e (subst (λ (d : Box). ForceAll (whole m) d h.rows) (sym same) h.forced);
       }
+
+  -- the box of a record that divides it
+  pub after_steps : old ≡ [] → (w : Worked) → HasSteps new w → IsAfterSteps m b c w
+  after_steps none (Closed r) steps = tt
+  after_steps none (Branched r) steps =
+      let e : h.rows ≡ new = sym (h.added ∙ ap (λ (rs : List Row). rs ++ h.rows) none) in
+      h.box ∙ ap (λ (rs : List Row). tightened (whole m) b rs) (e ∙ sym steps)
+  after_steps none (Full r full cost) steps = tt
+  after_steps none NoMemory steps = tt
 
 module _ (m : Voyage) (q : Pending Row) (most value : ℕ) (from_zero : Bool) (steps : List Row) (raises : List Raise) (b : Box) (ms : Multipliers Row)
     (tight : IsTight m q b steps) (named : All (λ (r : Row × ℤ). (whole m).has r.0 ≡ true) (map raise_of raises)) (few : length raises ≤ most)
@@ -216,3 +223,15 @@ module _ (m : Voyage) (q : Pending Row) (most cut : ℕ) (steps : List Row) (b :
         divides = refl;
         earnest = earnest (Branch (var m x)) quiet short full;
       })
+
+-- ## Where a record divides the box
+
+divides_by : {R : Type 0} (p : Program R) (b : Box) (o : Option (Multipliers R)) (value : ℕ) (same : R → R → Bool) (e : trees.End) → branches e ≡ true → EndAllowed same p Anything value b o e → Divides p b e
+divides_by p b None value same e is h = absurd h
+divides_by p b (Some ms) value same trees.Leaf is h = absurd (cc)
+divides_by p b (Some ms) value same trees.Left is h = absurd (cc)
+divides_by p b (Some ms) value same (trees.Branch v) is h = h
+
+pub branched_divides : (m : Voyage) (q : Pending Row) (most cut : ℕ) (r : Record) (b : Box) → EndsBranched m q most cut r → b ≡ tightened (whole m) q.box r.steps → Divides (whole m) b (end_of (number_of m) r.end)
+branched_divides m q most cut r b h is = subst (λ (c : Box). Divides (whole m) c (end_of (number_of m) r.end)) (sym is)
+    (divides_by (whole m) (tightened (whole m) q.box r.steps) (multipliers_after same_row (whole m) q (entry_of m r)) cut same_row (end_of (number_of m) r.end) h.divides h.ends.allowed.1)

@@ -1,8 +1,8 @@
 pub mod Folds
+pub mod Adopting
 pub mod Values
 pub mod Numbered
 pub mod Halves
-pub mod Prices
 pub mod Changes
 pub mod Trails
 pub mod Ends
@@ -10,4 +10,5 @@ pub mod Stacks
 pub mod Standing
 pub mod Sameness
 pub mod Walks
+pub mod Leading
 pub mod Pricing

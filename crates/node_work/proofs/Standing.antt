@@ -1,7 +1,6 @@
 -- A kept box stays one when variables are fixed and freed, and when a record is joined.
-use Rattle.std.proofs.Common.{◌≡◌, ℕ, ◌<◌, ◌≤◌, Bool, All, List, [], ◌∷◌, ◌++◌, length, take, drop, sym, subst, ◌∙◌, ap, arith}
+use Rattle.std.proofs.Common.{◌≡◌, ℕ, ◌≤◌, Bool, All, List, [], ◌∷◌, ◌++◌, length, take, drop, sym, subst, ◌∙◌, ap, arith, append-nil}
 use Rattle.std.proofs.lemmas.List.{length-take-le, drop_all, take-append-drop}
-use Rattle.std.proofs.lemmas.List.Elements.{All-append, All-take}
 use Rattle.zero_one_rows.specs.Variables.{Voyage}
 use Rattle.zero_one_rows.specs.Rows.{whole}
 use Rattle.proof_trees.specs.Boxes.{Box, free_box, tightened}
@@ -9,7 +8,8 @@ use Rattle.certificate.specs.Entries.{end_of, number_of}
 use Rattle.search_machine.specs.Journals.{divided}
 use Rattle.search_machine.specs.Machine.{Divides}
 use Rattle.partial_plan.specs.Fixing.{freed, released, Fixes}
-use Rattle.partial_plan.proofs.Freeing.{freed_length}
+use Rattle.partial_plan.proofs.Freeing.{fixes_none}
+use Rattle.kept_box.specs.Kept.{Kept}
 use Rattle.node_work.specs.declared.stands.Frame.{Frame}
 use Rattle.node_work.specs.declared.stands.Stand.{Stand}
 use Rattle.node_work.specs.Stands.{box_under, box_along, IsFrame, Stacked, IsStand}
@@ -18,42 +18,35 @@ use Rattle.node_work.proofs.Stacks.{still_left, left_below, stays_stacked, below
 all_left : (known : Box) (undo : List ℕ) (mark : ℕ) → length undo ≤ mark → released known undo mark ≡ known
 all_left known undo mark le = ap (freed known) (drop_all mark undo le)
 
-fixed_length : (b c : Box) (xs : List ℕ) → Fixes b c xs → length c ≡ length b
-fixed_length b c xs h = sym (freed_length c xs) ∙ ap (λ (d : Box). length d) h.back
-
-module _ (m : Voyage) (s t : Stand) (stand : IsStand m s) where
-  pub stand_fixed : (xs : List ℕ) → t.undo ≡ s.undo ++ xs → Fixes s.b t.b xs → t.frames.items ≡ s.frames.items → IsStand m t
+module _ (m : Voyage) (s t : Stand) (stand : IsStand m s) (same : t.kept.voyage ≡ s.kept.voyage) where
+  pub stand_fixed : (xs : List ℕ) → t.kept.undo ≡ s.kept.undo ++ xs → Fixes s.kept.known t.kept.known xs → t.frames.items ≡ s.frames.items → IsStand m t
   stand_fixed xs undo fixes frames = record {
-    vars = fixed_length s.b t.b xs fixes ∙ stand.vars;
-    inside = subst (λ (n : ℕ). All (λ v. v < n) t.undo) (sym (fixed_length s.b t.b xs fixes)) (subst (λ (us : List ℕ). All (λ v. v < length s.b) us) (sym undo) (All-append (λ (v : ℕ). v < length s.b) s.undo xs stand.inside fixes.inside));
-    bottom = still_left s.b t.b s.undo t.undo xs 0 undo fixes (omega arith) ∙ stand.bottom;
-    stacked = subst (λ (fs : List Frame). Stacked m t.b t.undo 0 (free_box (whole m)) fs) (sym frames) (stays_stacked m s.b t.b s.undo t.undo xs undo fixes 0 (free_box (whole m)) s.frames.items stand.stacked);
+    voyage = same ∙ stand.voyage;
+    bottom = still_left s.kept.known t.kept.known s.kept.undo t.kept.undo xs 0 undo fixes (omega arith) ∙ stand.bottom;
+    stacked = subst (λ (fs : List Frame). Stacked m t.kept.known t.kept.undo 0 (free_box (whole m)) fs) (sym frames) (stays_stacked m s.kept.known t.kept.known s.kept.undo t.kept.undo xs undo fixes 0 (free_box (whole m)) s.frames.items stand.stacked);
   }
 
-  pub stand_freed : (to : ℕ) → to ≤ length s.undo → All (λ f. f.mark ≤ to) s.frames.items → t.b ≡ released s.b s.undo to → t.undo ≡ take to s.undo → t.frames.items ≡ s.frames.items → IsStand m t
+  pub stand_freed : (to : ℕ) → to ≤ length s.kept.undo → All (λ f. f.mark ≤ to) s.frames.items → t.kept.known ≡ released s.kept.known s.kept.undo to → t.kept.undo ≡ take to s.kept.undo → t.frames.items ≡ s.frames.items → IsStand m t
   stand_freed to le low b undo frames =
-      let len : length t.b ≡ length s.b = ap (λ (d : Box). length d) b ∙ freed_length s.b (drop to s.undo) in
       record {
-        vars = len ∙ stand.vars;
-        inside = subst (λ (n : ℕ). All (λ v. v < n) t.undo) (sym len) (subst (λ (us : List ℕ). All (λ v. v < length s.b) us) (sym undo) (All-take (λ (v : ℕ). v < length s.b) to s.undo stand.inside));
-        bottom = ap (λ (d : Box). released d t.undo 0) b ∙ ap (λ (us : List ℕ). released (released s.b s.undo to) us 0) undo ∙ left_below s.b s.undo 0 to (omega arith) le ∙ stand.bottom;
-        stacked = subst (λ (d : Box). Stacked m d t.undo 0 (free_box (whole m)) t.frames.items) (sym b) (subst (λ (us : List ℕ). Stacked m (released s.b s.undo to) us 0 (free_box (whole m)) t.frames.items) (sym undo)
-            (subst (λ (fs : List Frame). Stacked m (released s.b s.undo to) (take to s.undo) 0 (free_box (whole m)) fs) (sym frames) (below_stacked m s.b s.undo to le 0 (free_box (whole m)) s.frames.items low stand.stacked)));
+        voyage = same ∙ stand.voyage;
+        bottom = ap (λ (d : Box). released d t.kept.undo 0) b ∙ ap (λ (us : List ℕ). released (released s.kept.known s.kept.undo to) us 0) undo ∙ left_below s.kept.known s.kept.undo 0 to (omega arith) le ∙ stand.bottom;
+        stacked = subst (λ (d : Box). Stacked m d t.kept.undo 0 (free_box (whole m)) t.frames.items) (sym b) (subst (λ (us : List ℕ). Stacked m (released s.kept.known s.kept.undo to) us 0 (free_box (whole m)) t.frames.items) (sym undo)
+            (subst (λ (fs : List Frame). Stacked m (released s.kept.known s.kept.undo to) (take to s.kept.undo) 0 (free_box (whole m)) fs) (sym frames) (below_stacked m s.kept.known s.kept.undo to le 0 (free_box (whole m)) s.frames.items low stand.stacked)));
       }
 
   -- a record is joined, whose steps the box has had, and then variables are fixed
-  pub stand_joined : (f : Frame) (xs : List ℕ) → t.frames.items ≡ s.frames.items ++ f ∷ [] → s.b ≡ box_under m (box_along m (free_box (whole m)) s.frames.items) f → length s.undo ≡ f.mark
-      → last_mark m 0 s.frames.items ≤ f.mark → Divides (whole m) s.b (end_of (number_of m) f.entry.end) → t.undo ≡ s.undo ++ xs → Fixes s.b t.b xs → IsStand m t
+  pub stand_joined : (f : Frame) (xs : List ℕ) → t.frames.items ≡ s.frames.items ++ f ∷ [] → s.kept.known ≡ box_under m (box_along m (free_box (whole m)) s.frames.items) f → length s.kept.undo ≡ f.mark
+      → last_mark m 0 s.frames.items ≤ f.mark → Divides (whole m) s.kept.known (end_of (number_of m) f.entry.end) → t.kept.undo ≡ s.kept.undo ++ xs → Fixes s.kept.known t.kept.known xs → IsStand m t
   stand_joined f xs frames here mark rising divides undo fixes = record {
-    vars = fixed_length s.b t.b xs fixes ∙ stand.vars;
-    inside = subst (λ (n : ℕ). All (λ v. v < n) t.undo) (sym (fixed_length s.b t.b xs fixes)) (subst (λ (us : List ℕ). All (λ v. v < length s.b) us) (sym undo) (All-append (λ (v : ℕ). v < length s.b) s.undo xs stand.inside fixes.inside));
-    bottom = still_left s.b t.b s.undo t.undo xs 0 undo fixes (omega arith) ∙ stand.bottom;
-    stacked = subst (λ (fs : List Frame). Stacked m t.b t.undo 0 (free_box (whole m)) fs) (sym frames)
-        (one_more m t.b t.undo 0 (free_box (whole m)) s.frames.items f (stays_stacked m s.b t.b s.undo t.undo xs undo fixes 0 (free_box (whole m)) s.frames.items stand.stacked)
+    voyage = same ∙ stand.voyage;
+    bottom = still_left s.kept.known t.kept.known s.kept.undo t.kept.undo xs 0 undo fixes (omega arith) ∙ stand.bottom;
+    stacked = subst (λ (fs : List Frame). Stacked m t.kept.known t.kept.undo 0 (free_box (whole m)) fs) (sym frames)
+        (one_more m t.kept.known t.kept.undo 0 (free_box (whole m)) s.frames.items f (stays_stacked m s.kept.known t.kept.known s.kept.undo t.kept.undo xs undo fixes 0 (free_box (whole m)) s.frames.items stand.stacked)
         (record {
           rising = rising;
           mark = longer;
-          left = still_left s.b t.b s.undo t.undo xs f.mark undo fixes (omega arith) ∙ all_left s.b s.undo f.mark (omega arith) ∙ here;
+          left = still_left s.kept.known t.kept.known s.kept.undo t.kept.undo xs f.mark undo fixes (omega arith) ∙ all_left s.kept.known s.kept.undo f.mark (omega arith) ∙ here;
           divides = subst (λ (b : Box). Divides (whole m) b (end_of (number_of m) f.entry.end)) here divides;
         }));
   }
@@ -62,87 +55,95 @@ module _ (m : Voyage) (s t : Stand) (stand : IsStand m s) where
       appended [] vs = omega arith
       appended (u ∷ us) vs = omega (arith, appended us vs)
 
-      longer : f.mark ≤ length t.undo
-      longer = let n : length t.undo ≡ length (s.undo ++ xs) = ap (λ (us : List ℕ). length us) undo in omega (arith, appended s.undo xs)
+      longer : f.mark ≤ length t.kept.undo
+      longer = let n : length t.kept.undo ≡ length (s.kept.undo ++ xs) = ap (λ (us : List ℕ). length us) undo in omega (arith, appended s.kept.undo xs)
 
 -- ## The deepest record taken off
 
 module _ (m : Voyage) (s : Stand) (fs : List Frame) (f : Frame) (stand : IsStand m s) (is : s.frames.items ≡ fs ++ f ∷ []) where
-  whole_stack : Stacked m s.b s.undo 0 (free_box (whole m)) (fs ++ f ∷ [])
-  whole_stack = subst (λ (gs : List Frame). Stacked m s.b s.undo 0 (free_box (whole m)) gs) is stand.stacked
+  whole_stack : Stacked m s.kept.known s.kept.undo 0 (free_box (whole m)) (fs ++ f ∷ [])
+  whole_stack = subst (λ (gs : List Frame). Stacked m s.kept.known s.kept.undo 0 (free_box (whole m)) gs) is stand.stacked
 
-  pub deepest : IsFrame m s.b s.undo (last_mark m 0 fs) (box_along m (free_box (whole m)) fs) f
-  deepest = last_is m s.b s.undo 0 (free_box (whole m)) fs f whole_stack
+  pub deepest : IsFrame m s.kept.known s.kept.undo (last_mark m 0 fs) (box_along m (free_box (whole m)) fs) f
+  deepest = last_is m s.kept.known s.kept.undo 0 (free_box (whole m)) fs f whole_stack
 
-  pub stand_less : (t : Stand) → t.b ≡ s.b → t.undo ≡ s.undo → t.frames.items ≡ fs → IsStand m t
-  stand_less t b undo frames = record {
-    vars = ap (λ (d : Box). length d) b ∙ stand.vars;
-    inside = subst (λ (d : Box). All (λ v. v < length d) t.undo) (sym b) (subst (λ (us : List ℕ). All (λ v. v < length s.b) us) (sym undo) stand.inside);
-    bottom = ap (λ (d : Box). released d t.undo 0) b ∙ ap (λ (us : List ℕ). released s.b us 0) undo ∙ stand.bottom;
-    stacked = subst (λ (d : Box). Stacked m d t.undo 0 (free_box (whole m)) t.frames.items) (sym b) (subst (λ (us : List ℕ). Stacked m s.b us 0 (free_box (whole m)) t.frames.items) (sym undo)
-        (subst (λ (gs : List Frame). Stacked m s.b s.undo 0 (free_box (whole m)) gs) (sym frames) (first_stacked m s.b s.undo 0 (free_box (whole m)) fs (f ∷ []) whole_stack)));
+  pub stand_less : (t : Stand) → t.kept.voyage ≡ s.kept.voyage → t.kept.known ≡ s.kept.known → t.kept.undo ≡ s.kept.undo → t.frames.items ≡ fs → IsStand m t
+  stand_less t same b undo frames = record {
+    voyage = same ∙ stand.voyage;
+    bottom = ap (λ (d : Box). released d t.kept.undo 0) b ∙ ap (λ (us : List ℕ). released s.kept.known us 0) undo ∙ stand.bottom;
+    stacked = subst (λ (d : Box). Stacked m d t.kept.undo 0 (free_box (whole m)) t.frames.items) (sym b) (subst (λ (us : List ℕ). Stacked m s.kept.known us 0 (free_box (whole m)) t.frames.items) (sym undo)
+        (subst (λ (gs : List Frame). Stacked m s.kept.known s.kept.undo 0 (free_box (whole m)) gs) (sym frames) (first_stacked m s.kept.known s.kept.undo 0 (free_box (whole m)) fs (f ∷ []) whole_stack)));
   }
 
   pub low_marks : All (λ g. g.mark ≤ f.mark) fs
   low_marks =
-      let high = last_high m s.b s.undo 0 (free_box (whole m)) fs (first_stacked m s.b s.undo 0 (free_box (whole m)) fs (f ∷ []) whole_stack) in
+      let high = last_high m s.kept.known s.kept.undo 0 (free_box (whole m)) fs (first_stacked m s.kept.known s.kept.undo 0 (free_box (whole m)) fs (f ∷ []) whole_stack) in
       let up : last_mark m 0 fs ≤ f.mark = deepest.rising in
       λ k d lt. (let here = high.1 k d lt in omega (arith, here))
 
   abbrev pub with_value : Bool → Frame
   with_value y = record { entry = f.entry; value = y; mark = f.mark }
 
-  at_mark : (back : Stand) → back.b ≡ released s.b s.undo f.mark → back.b ≡ box_under m (box_along m (free_box (whole m)) fs) f
+  at_mark : (back : Stand) → back.kept.known ≡ released s.kept.known s.kept.undo f.mark → back.kept.known ≡ box_under m (box_along m (free_box (whole m)) fs) f
   at_mark back b = b ∙ deepest.left
 
   -- back at its mark
-  pub may_halve : (back : Stand) → back.b ≡ released s.b s.undo f.mark → Divides (whole m) back.b (end_of (number_of m) f.entry.end)
+  pub may_halve : (back : Stand) → back.kept.known ≡ released s.kept.known s.kept.undo f.mark → Divides (whole m) back.kept.known (end_of (number_of m) f.entry.end)
   may_halve back b = subst (λ (d : Box). Divides (whole m) d (end_of (number_of m) f.entry.end)) (sym (at_mark back b)) deepest.divides
 
   -- and on with a value of its branch
-  pub turned : (back t : Stand) (y : Bool) (xs : List ℕ) → IsStand m back → back.b ≡ released s.b s.undo f.mark → back.undo ≡ take f.mark s.undo → back.frames.items ≡ fs
-      → t.undo ≡ back.undo ++ xs → Fixes back.b t.b xs → t.frames.items ≡ fs ++ record { entry = f.entry; value = y; mark = f.mark } ∷ [] → IsStand m t
-  turned back t y xs back_stand b undo frames undo' fixes frames' =
-      let le : f.mark ≤ length s.undo = deepest.mark in
-      stand_joined m back t back_stand (record { entry = f.entry; value = y; mark = f.mark }) xs (frames' ∙ ap (λ (gs : List Frame). gs ++ record { entry = f.entry; value = y; mark = f.mark } ∷ []) (sym frames))
+  pub turned : (back t : Stand) (y : Bool) (xs : List ℕ) → IsStand m back → t.kept.voyage ≡ back.kept.voyage → back.kept.known ≡ released s.kept.known s.kept.undo f.mark → back.kept.undo ≡ take f.mark s.kept.undo → back.frames.items ≡ fs
+      → t.kept.undo ≡ back.kept.undo ++ xs → Fixes back.kept.known t.kept.known xs → t.frames.items ≡ fs ++ record { entry = f.entry; value = y; mark = f.mark } ∷ [] → IsStand m t
+  turned back t y xs back_stand same b undo frames undo' fixes frames' =
+      let le : f.mark ≤ length s.kept.undo = deepest.mark in
+      stand_joined m back t back_stand same (record { entry = f.entry; value = y; mark = f.mark }) xs (frames' ∙ ap (λ (gs : List Frame). gs ++ record { entry = f.entry; value = y; mark = f.mark } ∷ []) (sym frames))
       (at_mark back b ∙ ap (λ (gs : List Frame). box_under m (box_along m (free_box (whole m)) gs) f) (sym frames))
-      (ap (λ (us : List ℕ). length us) undo ∙ length-take-le f.mark s.undo le)
+      (ap (λ (us : List ℕ). length us) undo ∙ length-take-le f.mark s.kept.undo le)
       (subst (λ (gs : List Frame). last_mark m 0 gs ≤ f.mark) (sym frames) deepest.rising) (may_halve back b) undo' fixes
 
-  pub turned_at : (back t : Stand) (y : Bool) → back.b ≡ released s.b s.undo f.mark → t.b ≡ divided back.b (end_of (number_of m) f.entry.end) y
-      → t.frames.items ≡ fs ++ record { entry = f.entry; value = y; mark = f.mark } ∷ [] → t.b ≡ box_along m (free_box (whole m)) t.frames.items
+  pub turned_at : (back t : Stand) (y : Bool) → back.kept.known ≡ released s.kept.known s.kept.undo f.mark → t.kept.known ≡ divided back.kept.known (end_of (number_of m) f.entry.end) y
+      → t.frames.items ≡ fs ++ record { entry = f.entry; value = y; mark = f.mark } ∷ [] → t.kept.known ≡ box_along m (free_box (whole m)) t.frames.items
   turned_at back t y b half frames' =
       half ∙ ap (λ (d : Box). divided d (end_of (number_of m) f.entry.end) y) (at_mark back b)
       ∙ sym (along_more m (free_box (whole m)) fs (record { entry = f.entry; value = y; mark = f.mark })) ∙ ap (box_along m (free_box (whole m))) (sym frames')
 
 -- ## A record done again
 
-module _ (m : Voyage) (s u t : Stand) (f : Frame) (stand : IsStand m s) (xs ys : List ℕ) (at : s.b ≡ box_along m (free_box (whole m)) s.frames.items)
-    (tight : u.b ≡ tightened (whole m) s.b f.entry.steps) (undo : u.undo ≡ s.undo ++ xs) (fixes : Fixes s.b u.b xs) (frames : u.frames.items ≡ s.frames.items) where
+module _ (m : Voyage) (s u t : Stand) (f : Frame) (stand : IsStand m s) (xs ys : List ℕ) (at : s.kept.known ≡ box_along m (free_box (whole m)) s.frames.items)
+    (same : u.kept.voyage ≡ s.kept.voyage) (tight : u.kept.known ≡ tightened (whole m) s.kept.known f.entry.steps) (undo : u.kept.undo ≡ s.kept.undo ++ xs) (fixes : Fixes s.kept.known u.kept.known xs) (frames : u.frames.items ≡ s.frames.items) where
   pub tightened_stand : IsStand m u
-  tightened_stand = stand_fixed m s u stand xs undo fixes frames
+  tightened_stand = stand_fixed m s u stand same xs undo fixes frames
 
-  under : u.b ≡ box_under m (box_along m (free_box (whole m)) s.frames.items) f
+  under : u.kept.known ≡ box_under m (box_along m (free_box (whole m)) s.frames.items) f
   under = tight ∙ ap (λ (d : Box). tightened (whole m) d f.entry.steps) at
 
-  pub redone : length u.undo ≡ f.mark → Divides (whole m) u.b (end_of (number_of m) f.entry.end) → t.undo ≡ u.undo ++ ys → Fixes u.b t.b ys → t.frames.items ≡ s.frames.items ++ f ∷ [] → IsStand m t
-  redone mark divides undo' fixes' frames' =
-      let low : last_mark m 0 u.frames.items ≤ length u.undo = last_low m u.b u.undo (free_box (whole m)) u.frames.items tightened_stand.stacked in
-      stand_joined m u t tightened_stand f ys (frames' ∙ ap (λ (gs : List Frame). gs ++ f ∷ []) (sym frames)) (under ∙ ap (λ (gs : List Frame). box_under m (box_along m (free_box (whole m)) gs) f) (sym frames))
+  pub redone : t.kept.voyage ≡ u.kept.voyage → length u.kept.undo ≡ f.mark → Divides (whole m) u.kept.known (end_of (number_of m) f.entry.end) → t.kept.undo ≡ u.kept.undo ++ ys → Fixes u.kept.known t.kept.known ys → t.frames.items ≡ s.frames.items ++ f ∷ [] → IsStand m t
+  redone same' mark divides undo' fixes' frames' =
+      let low : last_mark m 0 u.frames.items ≤ length u.kept.undo = last_low m u.kept.known u.kept.undo (free_box (whole m)) u.frames.items tightened_stand.stacked in
+      stand_joined m u t tightened_stand same' f ys (frames' ∙ ap (λ (gs : List Frame). gs ++ f ∷ []) (sym frames)) (under ∙ ap (λ (gs : List Frame). box_under m (box_along m (free_box (whole m)) gs) f) (sym frames))
       mark (omega arith) divides undo' fixes'
 
-  pub redone_at : t.b ≡ divided u.b (end_of (number_of m) f.entry.end) f.value → t.frames.items ≡ s.frames.items ++ f ∷ [] → t.b ≡ box_along m (free_box (whole m)) t.frames.items
+  pub redone_at : t.kept.known ≡ divided u.kept.known (end_of (number_of m) f.entry.end) f.value → t.frames.items ≡ s.frames.items ++ f ∷ [] → t.kept.known ≡ box_along m (free_box (whole m)) t.frames.items
   redone_at half frames' =
       half ∙ ap (λ (d : Box). divided d (end_of (number_of m) f.entry.end) f.value) under ∙ sym (along_more m (free_box (whole m)) s.frames.items f) ∙ ap (box_along m (free_box (whole m))) (sym frames')
 
 -- ## The first frames alone
 
-pub stand_first : (m : Voyage) (s t : Stand) (n : ℕ) → IsStand m s → t.b ≡ s.b → t.undo ≡ s.undo → t.frames.items ≡ take n s.frames.items → IsStand m t
-stand_first m s t n stand b undo frames = record {
-  vars = ap (λ (d : Box). length d) b ∙ stand.vars;
-  inside = subst (λ (d : Box). All (λ v. v < length d) t.undo) (sym b) (subst (λ (us : List ℕ). All (λ v. v < length s.b) us) (sym undo) stand.inside);
-  bottom = ap (λ (d : Box). released d t.undo 0) b ∙ ap (λ (us : List ℕ). released s.b us 0) undo ∙ stand.bottom;
-  stacked = subst (λ (d : Box). Stacked m d t.undo 0 (free_box (whole m)) t.frames.items) (sym b) (subst (λ (us : List ℕ). Stacked m s.b us 0 (free_box (whole m)) t.frames.items) (sym undo)
-      (subst (λ (gs : List Frame). Stacked m s.b s.undo 0 (free_box (whole m)) gs) (sym frames) (first_stacked m s.b s.undo 0 (free_box (whole m)) (take n s.frames.items) (drop n s.frames.items)
-      (subst (λ (gs : List Frame). Stacked m s.b s.undo 0 (free_box (whole m)) gs) (sym (take-append-drop n s.frames.items)) stand.stacked))));
+pub stand_first : (m : Voyage) (s t : Stand) (n : ℕ) → IsStand m s → t.kept.voyage ≡ s.kept.voyage → t.kept.known ≡ s.kept.known → t.kept.undo ≡ s.kept.undo → t.frames.items ≡ take n s.frames.items → IsStand m t
+stand_first m s t n stand same b undo frames = record {
+  voyage = same ∙ stand.voyage;
+  bottom = ap (λ (d : Box). released d t.kept.undo 0) b ∙ ap (λ (us : List ℕ). released s.kept.known us 0) undo ∙ stand.bottom;
+  stacked = subst (λ (d : Box). Stacked m d t.kept.undo 0 (free_box (whole m)) t.frames.items) (sym b) (subst (λ (us : List ℕ). Stacked m s.kept.known us 0 (free_box (whole m)) t.frames.items) (sym undo)
+      (subst (λ (gs : List Frame). Stacked m s.kept.known s.kept.undo 0 (free_box (whole m)) gs) (sym frames) (first_stacked m s.kept.known s.kept.undo 0 (free_box (whole m)) (take n s.frames.items) (drop n s.frames.items)
+      (subst (λ (gs : List Frame). Stacked m s.kept.known s.kept.undo 0 (free_box (whole m)) gs) (sym (take-append-drop n s.frames.items)) stand.stacked))));
 }
+
+-- ## A record that divides the box is noted
+
+pub stand_noted : (m : Voyage) (s t : Stand) (f : Frame) → IsStand m s → t.kept ≡ s.kept → t.frames.items ≡ s.frames.items ++ f ∷ [] → s.kept.known ≡ box_under m (box_along m (free_box (whole m)) s.frames.items) f
+    → length s.kept.undo ≡ f.mark → Divides (whole m) s.kept.known (end_of (number_of m) f.entry.end) → IsStand m t
+stand_noted m s t f stand same frames here mark divides =
+    let low : last_mark m 0 s.frames.items ≤ length s.kept.undo = last_low m s.kept.known s.kept.undo (free_box (whole m)) s.frames.items stand.stacked in
+    stand_joined m s t stand (ap (λ (k : Kept). k.voyage) same) f [] frames here mark (omega arith) divides
+    (ap (λ (k : Kept). k.undo) same ∙ sym (append-nil s.kept.undo))
+    (subst (λ (b : Box). Fixes s.kept.known b []) (sym (ap (λ (k : Kept). k.known) same)) (fixes_none s.kept.known))

@@ -1,6 +1,6 @@
 -- Boxes that are kept from node to node: the records on the way to a node, and what is left of the box when only so many variables were fixed. No public clause cites this module.
-use Rattle.std.specs.Prelude.{◌≡◌, ℕ, ◌<◌, ◌≤◌, Bool, All, List, [], ◌∷◌, length}
-use Rattle.zero_one_rows.specs.Variables.{Voyage, variables}
+use Rattle.std.specs.Prelude.{◌≡◌, ℕ, ◌≤◌, Bool, List, [], ◌∷◌, length}
+use Rattle.zero_one_rows.specs.Variables.{Voyage}
 use Rattle.zero_one_rows.specs.Rows.{whole}
 use Rattle.proof_trees.specs.Boxes.{Box, free_box, tightened}
 use Rattle.certificate.specs.declared.tree.Record.{Record}
@@ -41,8 +41,8 @@ module _ (m : Voyage) where
   Stacked known undo from b [] = Unit {0}
   Stacked known undo from b (f ∷ fs) = IsFrame known undo from b f × Stacked known undo f.mark (half_under b f) fs
 
+  -- the kept box is of the program, the free box once all is freed, and stands along the frames
   pub record IsStand (s : Stand) : Type 0 where
-    pub vars : length s.b ≡ length (variables m)
-    pub inside : All (λ v. v < length s.b) s.undo
-    pub bottom : released s.b s.undo 0 ≡ free_box (whole m)
-    pub stacked : Stacked s.b s.undo 0 (free_box (whole m)) s.frames.items
+    pub voyage : s.kept.voyage ≡ m
+    pub bottom : released s.kept.known s.kept.undo 0 ≡ free_box (whole m)
+    pub stacked : Stacked s.kept.known s.kept.undo 0 (free_box (whole m)) s.frames.items

@@ -6,18 +6,21 @@ ghost use Rattle.zero_one_rows.specs.declared.program.Row.{Row as Rows};
 ghost use Rattle.zero_one_rows.specs.Variables.{variables};
 ghost use Rattle.partial_plan.specs.Fixing.{Fixes};
 ghost use Rattle.partial_plan.specs.Tightening.{IsQuiet};
-ghost use Rattle.dual_bound.specs.Raising.{AreMultipliers};
-ghost use Rattle.node_work.specs.Starts.{IsTight};
+ghost use Rattle.node_work.specs.Scales.{IsScale};
+ghost use Rattle.node_work.specs.Starts.{IsTight, HasSteps, IsAfterSteps};
 ghost use Rattle.node_work.specs.Work.{most_rehandles, Works};
 
-use crate::choosing::choose;
+use crate::choosing::{first_free, planned_or};
+use crate::scale::Scale;
 use crate::worked::Worked;
 use certificate::{End, Record};
-use dual_bound::{Multipliers, Raised, raise};
-use partial_plan::{Tightened, UndoList, cost_of, tighten};
+use dual_bound::{Raised, RowTable};
+use kept_box::KeptBox;
+use partial_plan::{Tightened, cost_of};
 use program_rows::rows_are_listed;
 use std::alloc::Global;
 use stow_data::{NoMemory, VarNo};
+use voyage_guess::{Planner, Wanted};
 use zero_one_model::{Box01, Model};
 use zero_one_rows::{Raise, RaiseList, Row, RowList};
 
@@ -27,6 +30,11 @@ fn closing_amount(most_rehandles: u64) -> i64
     ensures { result ≡ pos (16 * most_rehandles + 1) }
 {
     (16 * most_rehandles + 1) as i64
+}
+
+// The least cost that a dual value allows: a sixteenth of it, rounded up.
+fn least_cost(value: i128) -> u64 {
+    u64::try_from(value.saturating_add(15) / 16).unwrap_or(0)
 }
 
 // The leaf of a box in which a row is violated: that row is raised from zero, once.
@@ -58,7 +66,8 @@ fn end_full(
     requires vars { length b.now ≡ length (variables model.now) }
     requires full { All IsSome b.now }
     requires quiet { IsQuiet model.now b.now }
-    ensures { IfOk result (λ w. (q : Pending Rows) (most : ℕ) → IsTight model.now q b.now steps → Works model.now q most cut w) }
+    ensures steps { IfOk result (HasSteps steps) }
+    ensures worked { IfOk result (λ w. (q : Pending Rows) (most : ℕ) → IsTight model.now q b.now steps → Works model.now q most cut w) }
 {
     rows_are_listed();
     let entry = Record {
@@ -76,38 +85,48 @@ fn end_full(
     }
 }
 
-// Ends a node whose box has a free variable: by multipliers that close the box, or by the two halves.
+// Ends a node whose box has a free variable, of which `first` is the first: by multipliers that close the box, or by two halves.
 fn end_open(
     alloc: Global,
     model: &Model,
+    table: &RowTable,
+    planner: &mut Planner,
     b: &Box01,
-    multipliers: &mut Multipliers,
+    scale: &mut Scale,
     steps: RowList,
-    x: VarNo,
+    first: VarNo,
     most: u32,
-    cut: u64,
+    wanted: Wanted,
 ) -> Result<Worked, NoMemory>
+    requires table { table.now ≡ model.now }
     requires vars { length b.now ≡ length (variables model.now) }
-    requires prices { AreMultipliers model.now multipliers.old }
+    requires scale { IsScale model.now scale.old }
     requires quiet { IsQuiet model.now b.now }
-    requires inside { x < length (variables model.now) }
-    requires free { slice_get b.now x ≡ Some None }
-    ensures { IfOk result (λ w. (q : Pending Rows) → q.multipliers ≡ multipliers.old → IsTight model.now q b.now steps → Works model.now q most cut w) }
+    requires inside { first < length (variables model.now) }
+    requires free { slice_get b.now first ≡ Some None }
+    ensures scale { IsScale model.now scale.new }
+    ensures steps { IfOk result (HasSteps steps) }
+    ensures worked { IfOk result (λ w. (q : Pending Rows) → q.multipliers ≡ scale.old.gauge.multipliers → IsTight model.now q b.now steps → Works model.now q most wanted.cut w) }
 {
     let mut raises = RaiseList::new(alloc);
-    match raise(alloc, model, b, multipliers, cut, most, &mut raises) {
+    scale.set_box(model, b);
+    match scale.raise(alloc, model, table, wanted.cut, most, &mut raises) {
         Raised::Reached => Ok(Worked::Closed(Record {
             from_zero: false,
             steps,
             raises,
             end: End::Leaf,
         })),
-        Raised::Stuck | Raised::Spent => Ok(Worked::Branched(Record {
-            from_zero: false,
-            steps,
-            raises,
-            end: End::Branch(model.var(x)),
-        })),
+        Raised::Stuck | Raised::Spent => {
+            let enough = least_cost(scale.gauge.value());
+            let x = planned_or(planner, model, b, first, Wanted { enough, ..wanted })?;
+            Ok(Worked::Branched(Record {
+                from_zero: false,
+                steps,
+                raises,
+                end: End::Branch(model.var(x)),
+            }))
+        }
         Raised::NoMemory => Err(NoMemory),
     }
 }
@@ -116,44 +135,69 @@ fn end_open(
 fn end_quiet(
     alloc: Global,
     model: &Model,
+    table: &RowTable,
+    planner: &mut Planner,
     b: &Box01,
-    multipliers: &mut Multipliers,
+    scale: &mut Scale,
     steps: RowList,
     most: u32,
-    cut: u64,
+    wanted: Wanted,
 ) -> Result<Worked, NoMemory>
+    requires table { table.now ≡ model.now }
     requires vars { length b.now ≡ length (variables model.now) }
-    requires prices { AreMultipliers model.now multipliers.old }
+    requires scale { IsScale model.now scale.old }
     requires quiet { IsQuiet model.now b.now }
-    ensures { IfOk result (λ w. (q : Pending Rows) → q.multipliers ≡ multipliers.old → IsTight model.now q b.now steps → Works model.now q most cut w) }
+    ensures scale { IsScale model.now scale.new }
+    ensures steps { IfOk result (HasSteps steps) }
+    ensures worked { IfOk result (λ w. (q : Pending Rows) → q.multipliers ≡ scale.old.gauge.multipliers → IsTight model.now q b.now steps → Works model.now q most wanted.cut w) }
 {
-    match choose(model, b) {
-        Some(x) => end_open(alloc, model, b, multipliers, steps, x, most, cut),
-        None => end_full(alloc, model, b, steps, cut),
+    match first_free(model, b) {
+        Some(first) => end_open(
+            alloc, model, table, planner, b, scale, steps, first, most, wanted,
+        ),
+        None => end_full(alloc, model, b, steps, wanted.cut),
     }
 }
 
-/// Tightens the box of a node, notes what was fixed, and ends the node.
+/// Tightens the box of a node, and ends the node. Where that divides the box, it is the box after the record's steps.
 pub fn end_box(
     alloc: Global,
     model: &Model,
-    b: &mut Box01,
-    undo: &mut UndoList,
-    multipliers: &mut Multipliers,
+    table: &RowTable,
+    planner: &mut Planner,
+    kept: &mut KeptBox,
+    scale: &mut Scale,
     most: u32,
-    cut: u64,
+    wanted: Wanted,
 ) -> Result<Worked, NoMemory>
+    requires table { table.now ≡ model.now }
+    requires program { kept.old.voyage ≡ model.now }
     requires cargo { IsCargo model.now.cargo }
-    requires vars { length b.old ≡ length (variables model.now) }
-    requires prices { AreMultipliers model.now multipliers.old }
+    requires scale { IsScale model.now scale.old }
     requires some { 1 ≤ most }
-    requires cut { cut ≤ most_rehandles model.now + 1 }
-    ensures noted { (xs : List ℕ) × (undo.new ≡ undo.old ++ xs) × Fixes b.old b.new xs }
-    ensures worked { IfOk result (Works model.now (record { box = b.old; multipliers = multipliers.old }) most cut) }
+    requires cut { wanted.cut ≤ most_rehandles model.now + 1 }
+    ensures scale { IsScale model.now scale.new }
+    ensures same { kept.new.voyage ≡ kept.old.voyage }
+    ensures noted { (xs : List ℕ) × (kept.new.undo ≡ kept.old.undo ++ xs) × Fixes kept.old.known kept.new.known xs }
+    ensures tight { IfOk result (IsAfterSteps model.now kept.old.known kept.new.known) }
+    ensures worked { IfOk result (Works model.now (record { box = kept.old.known; multipliers = scale.old.gauge.multipliers }) most wanted.cut) }
 {
     let mut steps = RowList::new(alloc);
-    match tighten(alloc, model, b, undo, &mut steps) {
-        Tightened::Quiet => end_quiet(alloc, model, b, multipliers, steps, most, cut),
+    match kept.tighten(&mut steps) {
+        Tightened::Quiet => {
+            kept.is_whole();
+            end_quiet(
+                alloc,
+                model,
+                table,
+                planner,
+                kept.now(),
+                scale,
+                steps,
+                most,
+                wanted,
+            )
+        }
         Tightened::Violated(row) => {
             let leaf = violated_leaf(alloc, model, steps, row)?;
             Ok(Worked::Closed(leaf))

@@ -4,11 +4,14 @@
 mod choosing;
 mod desk;
 mod ending;
+mod retracing;
+mod scale;
 mod stands;
-mod start;
+mod tables;
 mod worked;
 mod working;
 
 pub use desk::Desk;
+pub use tables::Tables;
 pub use worked::Worked;
 pub use working::work;

@@ -1,28 +1,29 @@
 //! A box that is kept from node to node, with the records on the way to the last node.
-ghost use Rattle.std.specs.Prelude.{◌≡◌, ℕ, ◌+◌, ◌<◌, ◌≤◌, true, All, IfOk, OnOk, List, [], ◌∷◌, ◌++◌, Some, None, map, take, length, slice_get, slice_set};
+ghost use Rattle.std.specs.Prelude.{◌≡◌, ℕ, ◌+◌, ◌<◌, ◌≤◌, true, All, IfOk, OnOk, List, [], ◌∷◌, ◌++◌, map, take, length};
 ghost use Rattle.proof_trees.specs.Boxes.{free_box, tightened};
 ghost use Rattle.proof_trees.specs.Trees.{root};
-ghost use Rattle.zero_one_rows.specs.Variables.{variables};
 ghost use Rattle.zero_one_rows.specs.Rows.{whole};
 ghost use Rattle.certificate.specs.Entries.{same_row, entry_of, end_of, number_of};
-ghost use Rattle.search_machine.specs.Journals.{divided, after};
+ghost use Rattle.search_machine.specs.Journals.{after};
 ghost use Rattle.search_machine.specs.Machine.{Divides, IsTrail};
-ghost use Rattle.partial_plan.specs.Fixing.{Fixes, released};
+ghost use Rattle.partial_plan.specs.Fixing.{released};
 ghost use Rattle.stow_data.specs.Shipment.{IsCargo};
-ghost use Rattle.dual_bound.specs.Raising.{AreMultipliers};
 ghost use Rattle.node_work.specs.Work.{most_rehandles, Works};
 ghost use Rattle.node_work.specs.declared.stands.Frame.{Frame as Frames};
+ghost use Rattle.node_work.specs.Scales.{IsScale};
 ghost use Rattle.node_work.specs.Stands.{entry_in, value_in, box_along, IsStand};
 
 use crate::ending::end_box;
+use crate::retracing::{halve, retighten};
+use crate::scale::Scale;
 use crate::worked::Worked;
-use certificate::{End, Record};
-use dual_bound::Multipliers;
-use partial_plan::{UndoList, tighten_by, undo};
+use certificate::Record;
+use dual_bound::RowTable;
+use kept_box::{BaseMatrix, KeptBox};
 use std::alloc::Global;
-use stow_data::{NoMemory, VarNo};
-use zero_one_model::{Box01, Model};
-use zero_one_rows::Row;
+use stow_data::NoMemory;
+use voyage_guess::{Planner, Wanted};
+use zero_one_model::Model;
 
 /// A record on the way to a node, the value of the branch that was taken from it, and how many variables were fixed after its steps.
 #[derive(Drop)]
@@ -32,11 +33,10 @@ pub struct Frame {
     pub mark: usize,
 }
 
-/// The box of a node or what was fixed beyond it, the variables that were fixed in order, and the records on the way.
+/// The box of a node or what was fixed beyond it, and the records on the way.
 #[derive(Drop)]
-pub struct Stand {
-    pub b: Box01,
-    pub undo: UndoList,
+pub struct Stand<'a> {
+    pub kept: KeptBox<'a>,
     pub frames: Vec<Frame>,
 }
 
@@ -62,66 +62,13 @@ fn in_common(frames: &[Frame], path: &[bool], trail: &[Record]) -> usize
     frames.len()
 }
 
-// Fixes a free variable, and notes it.
-fn fix_noted(b: &mut Box01, undo: &mut UndoList, x: VarNo, value: bool) -> Result<(), NoMemory>
-    requires { slice_get b.old x ≡ Some None }
-    ensures fixed { OnOk result (b.new ≡ slice_set b.old x (Some value)) }
-    ensures noted { (xs : List ℕ) × (undo.new ≡ undo.old ++ xs) × Fixes b.old b.new xs }
-{
-    undo.push(x)?;
-    b.fix(x, value);
-    Ok(())
-}
-
-// Goes from a divided box to one of its halves.
-fn halve_noted(
-    model: &Model,
-    b: &mut Box01,
-    undo: &mut UndoList,
-    end: &End,
-    value: bool,
-) -> Result<(), NoMemory>
-    requires whole { length b.old ≡ length (variables model.now) }
-    requires divides { Divides (whole model.now) b.old (end_of (number_of model.now) end.now) }
-    ensures half { OnOk result (b.new ≡ divided b.old (end_of (number_of model.now) end.now) value) }
-    ensures noted { (xs : List ℕ) × (undo.new ≡ undo.old ++ xs) × Fixes b.old b.new xs }
-{
-    match end {
-        End::Branch(var) => match model.number(var) {
-            Some(x) => fix_noted(b, undo, x, value),
-            None => unreachable!(),
-        },
-        End::Leaf | End::Left => unreachable!(),
-    }
-}
-
-// Tightens a box by rows, in order, and notes what was fixed.
-fn tighten_noted(
-    alloc: Global,
-    model: &Model,
-    b: &mut Box01,
-    undo: &mut UndoList,
-    steps: &[Row],
-) -> Result<(), NoMemory>
-    requires whole { length b.old ≡ length (variables model.now) }
-    requires rows { All (λ r. (whole model.now).has r ≡ true) steps.now }
-    ensures tight { OnOk result (b.new ≡ tightened (whole model.now) b.old steps.now) }
-    ensures noted { (xs : List ℕ) × (undo.new ≡ undo.old ++ xs) × Fixes b.old b.new xs }
-{
-    for row in steps {
-        tighten_by(alloc, model, b, undo, row)?;
-    }
-    Ok(())
-}
-
-impl Stand {
+impl<'a> Stand<'a> {
     /// At the root: all variables are free.
-    pub fn root(alloc: Global, model: &Model) -> Result<Stand, NoMemory>
-        ensures { IfOk result (IsStand model.now) }
+    pub fn root(alloc: Global, matrix: &'a BaseMatrix<'a>) -> Result<Stand<'a>, NoMemory>
+        ensures { IfOk result (IsStand matrix.now) }
     {
         Ok(Stand {
-            b: Box01::free(alloc, model)?,
-            undo: UndoList::new(alloc),
+            kept: KeptBox::free(alloc, matrix)?,
             frames: Vec::new(alloc),
         })
     }
@@ -129,14 +76,14 @@ impl Stand {
     // Frees what was fixed past a place of the list.
     fn back_to(&mut self, model: &Model, to: usize)
         requires stand { IsStand model.now self.old }
-        requires to { to ≤ length self.old.undo }
+        requires to { to ≤ length self.old.kept.undo }
         requires low { All (λ f. f.mark ≤ to) self.old.frames.items }
         ensures stand { IsStand model.now self.new }
-        ensures freed { self.new.b ≡ released self.old.b self.old.undo to }
-        ensures kept { self.new.undo ≡ take to self.old.undo }
+        ensures freed { self.new.kept.known ≡ released self.old.kept.known self.old.kept.undo to }
+        ensures fewer { self.new.kept.undo ≡ take to self.old.kept.undo }
         ensures frames { self.new.frames ≡ self.old.frames }
     {
-        undo(&mut self.b, &mut self.undo, to);
+        self.kept.undo_to(to);
     }
 
     // Goes to the half with this value of the deepest record.
@@ -145,13 +92,13 @@ impl Stand {
         requires some { 0 < length self.old.frames.items }
         ensures stand { IsStand model.now self.new }
         ensures frames { OnOk result ((fs : List Frames) × (f : Frames) × (self.old.frames.items ≡ fs ++ f ∷ []) × (self.new.frames.items ≡ fs ++ record f { value = value } ∷ [])) }
-        ensures at_half { OnOk result (self.new.b ≡ box_along model.now (free_box (whole model.now)) self.new.frames.items) }
+        ensures at_half { OnOk result (self.new.kept.known ≡ box_along model.now (free_box (whole model.now)) self.new.frames.items) }
     {
         let Some(frame) = self.frames.pop() else {
             unreachable!()
         };
         self.back_to(model, frame.mark);
-        halve_noted(model, &mut self.b, &mut self.undo, &frame.entry.end, value)?;
+        halve(model, &mut self.kept, &frame.entry.end, value);
         self.frames.push(Frame {
             entry: frame.entry,
             value,
@@ -169,23 +116,17 @@ impl Stand {
         value: bool,
     ) -> Result<(), NoMemory>
         requires stand { IsStand model.now self.old }
-        requires at { self.old.b ≡ box_along model.now (free_box (whole model.now)) self.old.frames.items }
+        requires at { self.old.kept.known ≡ box_along model.now (free_box (whole model.now)) self.old.frames.items }
         requires rows { All (λ r. (whole model.now).has r ≡ true) entry.now.steps }
-        requires divides { Divides (whole model.now) (tightened (whole model.now) self.old.b entry.now.steps) (end_of (number_of model.now) entry.now.end) }
+        requires divides { Divides (whole model.now) (tightened (whole model.now) self.old.kept.known entry.now.steps) (end_of (number_of model.now) entry.now.end) }
         ensures stand { IsStand model.now self.new }
         ensures frames { OnOk result ((f : Frames) × (f.entry ≡ entry.now) × (f.value ≡ value) × (self.new.frames.items ≡ self.old.frames.items ++ f ∷ [])) }
-        ensures at_half { OnOk result (self.new.b ≡ box_along model.now (free_box (whole model.now)) self.new.frames.items) }
+        ensures at_half { OnOk result (self.new.kept.known ≡ box_along model.now (free_box (whole model.now)) self.new.frames.items) }
     {
         let entry = entry.copy(alloc)?;
-        tighten_noted(
-            alloc,
-            model,
-            &mut self.b,
-            &mut self.undo,
-            entry.steps.as_slice(),
-        )?;
-        let mark = self.undo.len();
-        halve_noted(model, &mut self.b, &mut self.undo, &entry.end, value)?;
+        retighten(alloc, model, &mut self.kept, entry.steps.as_slice())?;
+        let mark = self.kept.fixed().len();
+        halve(model, &mut self.kept, &entry.end, value);
         self.frames.push(Frame { entry, value, mark })?;
         Ok(())
     }
@@ -199,7 +140,7 @@ impl Stand {
         ensures stand { IsStand model.now self.new }
         ensures entries { OnOk result (map entry_in self.new.frames.items ≡ map entry_in (take depth self.old.frames.items)) }
         ensures values { OnOk result (map value_in self.new.frames.items ≡ take depth path.now) }
-        ensures at_half { OnOk result (self.new.b ≡ box_along model.now (free_box (whole model.now)) self.new.frames.items) }
+        ensures at_half { OnOk result (self.new.kept.known ≡ box_along model.now (free_box (whole model.now)) self.new.frames.items) }
     {
         self.frames.truncate(depth);
         if depth == 0 {
@@ -223,9 +164,10 @@ impl Stand {
         requires records { depth ≤ length trail.now }
         requires entries { map entry_in self.old.frames.items ≡ take depth trail.now }
         requires values { map value_in self.old.frames.items ≡ take depth path.now }
-        requires at_half { self.old.b ≡ box_along model.now (free_box (whole model.now)) self.old.frames.items }
+        requires at_half { self.old.kept.known ≡ box_along model.now (free_box (whole model.now)) self.old.frames.items }
         ensures stand { IsStand model.now self.new }
-        ensures begins { OnOk result (self.new.b ≡ (after same_row (whole model.now) (root (whole model.now)) path.now (map (entry_of model.now) trail.now)).box) }
+        ensures begins { OnOk result (self.new.kept.known ≡ (after same_row (whole model.now) (root (whole model.now)) path.now (map (entry_of model.now) trail.now)).box) }
+        ensures at { OnOk result (self.new.kept.known ≡ box_along model.now (free_box (whole model.now)) self.new.frames.items) }
     {
         for k in depth..trail.len() {
             self.redo(alloc, model, &trail[k], path[k])?;
@@ -244,11 +186,26 @@ impl Stand {
         requires stand { IsStand model.now self.old }
         requires trail { IsTrail same_row (whole model.now) (root (whole model.now)) path.now (map (entry_of model.now) trail.now) }
         ensures stand { IsStand model.now self.new }
-        ensures begins { OnOk result (self.new.b ≡ (after same_row (whole model.now) (root (whole model.now)) path.now (map (entry_of model.now) trail.now)).box) }
+        ensures begins { OnOk result (self.new.kept.known ≡ (after same_row (whole model.now) (root (whole model.now)) path.now (map (entry_of model.now) trail.now)).box) }
+        ensures at { OnOk result (self.new.kept.known ≡ box_along model.now (free_box (whole model.now)) self.new.frames.items) }
     {
         let depth = in_common(self.frames.as_slice(), path, trail);
         self.rejoin(model, depth, path)?;
         self.go_on(alloc, model, depth, path, trail)
+    }
+
+    // Keeps the record that divided the box, so that the node's halves begin here.
+    fn note(&mut self, alloc: Global, model: &Model, entry: &Record) -> Result<(), NoMemory>
+        requires stand { IsStand model.now self.old }
+        requires at { self.old.kept.known ≡ tightened (whole model.now) (box_along model.now (free_box (whole model.now)) self.old.frames.items) entry.now.steps }
+        requires divides { Divides (whole model.now) self.old.kept.known (end_of (number_of model.now) entry.now.end) }
+        ensures { IsStand model.now self.new }
+    {
+        let entry = entry.copy(alloc)?;
+        let mark = self.kept.fixed().len();
+        let value = true;
+        self.frames.push(Frame { entry, value, mark })?;
+        Ok(())
     }
 
     /// Ends the node at which the box stands.
@@ -256,26 +213,36 @@ impl Stand {
         &mut self,
         alloc: Global,
         model: &Model,
-        multipliers: &mut Multipliers,
+        table: &RowTable,
+        planner: &mut Planner,
+        scale: &mut Scale,
         most: u32,
-        cut: u64,
+        wanted: Wanted,
     ) -> Result<Worked, NoMemory>
+        requires table { table.now ≡ model.now }
         requires cargo { IsCargo model.now.cargo }
         requires stand { IsStand model.now self.old }
-        requires prices { AreMultipliers model.now multipliers.old }
+        requires at { self.old.kept.known ≡ box_along model.now (free_box (whole model.now)) self.old.frames.items }
+        requires scale { IsScale model.now scale.old }
         requires some { 1 ≤ most }
-        requires cut { cut ≤ most_rehandles model.now + 1 }
+        requires cut { wanted.cut ≤ most_rehandles model.now + 1 }
         ensures stand { IsStand model.now self.new }
-        ensures worked { IfOk result (Works model.now (record { box = self.old.b; multipliers = multipliers.old }) most cut) }
+        ensures scale { IsScale model.now scale.new }
+        ensures worked { IfOk result (Works model.now (record { box = self.old.kept.known; multipliers = scale.old.gauge.multipliers }) most wanted.cut) }
     {
-        end_box(
+        let worked = end_box(
             alloc,
             model,
-            &mut self.b,
-            &mut self.undo,
-            multipliers,
+            table,
+            planner,
+            &mut self.kept,
+            scale,
             most,
-            cut,
-        )
+            wanted,
+        )?;
+        if let Worked::Branched(entry) = &worked {
+            self.note(alloc, model, entry)?;
+        }
+        Ok(worked)
     }
 }

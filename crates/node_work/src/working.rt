@@ -3,13 +3,13 @@ ghost use Rattle.std.specs.Prelude.{◌≡◌, ◌≤◌, ◌+◌, IfOk};
 ghost use Rattle.stow_data.specs.Shipment.{IsCargo};
 ghost use Rattle.node_work.specs.Work.{IsNode, begins_at, most_at, most_rehandles, Works};
 
-use crate::ending::end_box;
-use crate::start::{Start, start_of};
+use crate::desk::Desk;
+use crate::tables::Tables;
 use crate::worked::Worked;
 use certificate::Node;
-use partial_plan::UndoList;
 use std::alloc::Global;
 use stow_data::NoMemory;
+use voyage_guess::Planner;
 use zero_one_model::Model;
 
 /// The most raises of a node.
@@ -19,23 +19,25 @@ pub fn most_raises(node: &Node) -> u32
     if node.path.is_empty() { 4096 } else { 64 }
 }
 
+/// How many voyages are tried for the branch of a node.
+pub fn runs_at(node: &Node) -> u32 {
+    if node.path.is_empty() { 2_000 } else { 100 }
+}
+
 // The work on a node; want of memory is an error.
-fn work_on(alloc: Global, model: &Model, node: &Node, cut: u64) -> Result<Worked, NoMemory>
+fn work_afresh(alloc: Global, model: &Model, node: &Node, cut: u64) -> Result<Worked, NoMemory>
     requires cargo { IsCargo model.now.cargo }
     requires trail { IsNode model.now node.now }
     requires cut { cut ≤ most_rehandles model.now + 1 }
     ensures { IfOk result (Works model.now (begins_at model.now node.now) (most_at node.now) cut) }
 {
-    let Start {
-        mut b,
-        mut multipliers,
-    } = start_of(alloc, model, node)?;
-    let mut undo = UndoList::new(alloc);
-    let most = most_raises(node);
-    end_box(alloc, model, &mut b, &mut undo, &mut multipliers, most, cut)
+    let tables = Tables::build(alloc, model)?;
+    let planner = Planner::new(alloc, model)?;
+    let mut desk = Desk::fresh(alloc, &tables, planner)?;
+    Ok(desk.work(alloc, node, cut))
 }
 
-/// Ends a node against a cut, the cost below which a solution is of use.
+/// Ends a node against a cut, the cost below which a solution is of use, at a desk that is made for it.
 ///
 /// The box of the node is tightened by base rows for as long as one of them forces a variable. Then multipliers are raised, at most 4,096 times at the root and 64 times elsewhere, until the box closes or nothing more raises its dual value. A box that stays open is divided by a free variable; a full box that costs less than the cut is a solution.
 pub fn work(alloc: Global, model: &Model, node: &Node, cut: u64) -> Worked
@@ -44,7 +46,7 @@ pub fn work(alloc: Global, model: &Model, node: &Node, cut: u64) -> Worked
     requires cut { cut ≤ most_rehandles model.now + 1 }
     ensures { Works model.now (begins_at model.now node.now) (most_at node.now) cut result }
 {
-    match work_on(alloc, model, node, cut) {
+    match work_afresh(alloc, model, node, cut) {
         Ok(worked) => worked,
         Err(NoMemory) => Worked::NoMemory,
     }

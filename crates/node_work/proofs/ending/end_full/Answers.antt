@@ -1,8 +1,8 @@
 use Rattle.node_work.proofs.Ends.{full_closed, full_ends}
 use Rattle.node_work.proofs.ending.end_full.Goals as goal
 
-pub returns-in_ok-full : goal.returns-in_ok-full
-returns-in_ok-full c = λ q most tight. full_ends c.args.model.now q most c.args.cut c.cost_of-cost.result c.args.steps c.args.b.now tight c.requires.vars c.requires.full c.requires.quiet c.cost_of-cost.ensures c.new.result c.in_ok-full.full c.new.ensures c.in_ok-full.ensures c.if-cost-cut.true
+pub returns-in_ok-full-clause-worked : goal.returns-in_ok-full-clause-worked
+returns-in_ok-full-clause-worked c = λ q most tight. full_ends c.args.model.now q most c.args.cut c.cost_of-cost.result c.args.steps c.args.b.now tight c.requires.vars c.requires.full c.requires.quiet c.cost_of-cost.ensures c.new.result c.in_ok-full.full c.new.ensures c.in_ok-full.ensures c.if-cost-cut.true
 
-pub returns-else-cost-cut : goal.returns-else-cost-cut
-returns-else-cost-cut c = λ q most tight. full_closed c.args.model.now q most c.args.cut c.cost_of-cost.result c.args.steps c.args.b.now tight c.requires.vars c.requires.full c.requires.quiet c.cost_of-cost.ensures c.new.result c.new.ensures c.if-cost-cut.false
+pub returns-else-cost-cut-clause-worked : goal.returns-else-cost-cut-clause-worked
+returns-else-cost-cut-clause-worked c = λ q most tight. full_closed c.args.model.now q most c.args.cut c.cost_of-cost.result c.args.steps c.args.b.now tight c.requires.vars c.requires.full c.requires.quiet c.cost_of-cost.ensures c.new.result c.new.ensures c.if-cost-cut.false

@@ -14,7 +14,7 @@ redo-requires-clause-rows c = rows_here c.args.model.now c.args.path.now c.args.
 
 pub redo-requires-clause-divides : goal.redo-requires-clause-divides
 redo-requires-clause-divides c =
-    divides_here c.args.model.now c.args.path.now c.args.trail.now c.loop-k.k c.index-trail-k.result c.requires.trail c.loop-k-test.true c.index-trail-k.is c.loop-k.self.b
+    divides_here c.args.model.now c.args.path.now c.args.trail.now c.loop-k.k c.index-trail-k.result c.requires.trail c.loop-k-test.true c.index-trail-k.is c.loop-k.self.kept.known
     (c.loop-k.invariant.at_half ∙ box_here c.args.model.now c.args.path.now c.args.trail.now c.loop-k.self.frames.items c.loop-k.k c.loop-k.invariant.entries c.loop-k.invariant.values)
 
 pub loop-k-preserved : goal.loop-k-preserved

@@ -9,5 +9,5 @@ invariant-loop-k l = record {
   stand : IsStand l.model l.self;
   entries : map entry_in l.self.frames.items ≡ take l.k l.trail;
   values : map value_in l.self.frames.items ≡ take l.k l.path;
-  at_half : l.self.b ≡ box_along l.model (free_box (whole l.model)) l.self.frames.items;
+  at_half : l.self.kept.known ≡ box_along l.model (free_box (whole l.model)) l.self.frames.items;
 }

@@ -7,7 +7,7 @@ use Rattle.node_work.proofs.Walks.{turned_values}
 use Rattle.node_work.proofs.stands.Stand.rejoin.Goals as goal
 
 pub turn-requires-clause-stand : goal.turn-requires-clause-stand
-turn-requires-clause-stand c = stand_first c.args.model.now c.args.self.now _ c.args.depth c.requires.stand refl refl c.truncate.ensures.items
+turn-requires-clause-stand c = stand_first c.args.model.now c.args.self.now _ c.args.depth c.requires.stand refl refl refl c.truncate.ensures.items
 
 pub returns-clause-values : goal.returns-clause-values
 returns-clause-values c = on_ok_weaker c.turn.result (λ t.

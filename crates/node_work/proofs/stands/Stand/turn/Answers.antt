@@ -5,7 +5,7 @@ use Rattle.node_work.proofs.Standing.{deepest, stand_less, low_marks, may_halve,
 use Rattle.node_work.proofs.stands.Stand.turn.Goals as goal
 
 pub back_to-requires-clause-stand : goal.back_to-requires-clause-stand
-back_to-requires-clause-stand c = stand_less c.args.model.now c.args.self.now c.pop.new.self.items c.in-Some.frame c.requires.stand c.in-Some.ensures.items _ refl refl refl
+back_to-requires-clause-stand c = stand_less c.args.model.now c.args.self.now c.pop.new.self.items c.in-Some.frame c.requires.stand c.in-Some.ensures.items _ refl refl refl refl
 
 pub back_to-requires-clause-to : goal.back_to-requires-clause-to
 back_to-requires-clause-to c = (deepest c.args.model.now c.args.self.now c.pop.new.self.items c.in-Some.frame c.requires.stand c.in-Some.ensures.items).mark
@@ -13,23 +13,25 @@ back_to-requires-clause-to c = (deepest c.args.model.now c.args.self.now c.pop.n
 pub back_to-requires-clause-low : goal.back_to-requires-clause-low
 back_to-requires-clause-low c = low_marks c.args.model.now c.args.self.now c.pop.new.self.items c.in-Some.frame c.requires.stand c.in-Some.ensures.items
 
-pub halve_noted-requires-clause-divides : goal.halve_noted-requires-clause-divides
-halve_noted-requires-clause-divides c = may_halve c.args.model.now c.args.self.now c.pop.new.self.items c.in-Some.frame c.requires.stand c.in-Some.ensures.items c.back_to.new.self c.back_to.ensures.freed
+pub halve-requires-clause-divides : goal.halve-requires-clause-divides
+halve-requires-clause-divides c = may_halve c.args.model.now c.args.self.now c.pop.new.self.items c.in-Some.frame c.requires.stand c.in-Some.ensures.items c.back_to.new.self c.back_to.ensures.freed
 
-pub returns-in_err-halve_noted-clause-stand : goal.returns-in_err-halve_noted-clause-stand
-returns-in_err-halve_noted-clause-stand c = let n = c.in_err-halve_noted.ensures.noted in stand_fixed c.args.model.now c.back_to.new.self _ c.back_to.ensures.stand n.0 n.1 n.2 refl
+pub returns-in_err-push-clause-stand : goal.returns-in_err-push-clause-stand
+returns-in_err-push-clause-stand c =
+    let n = c.halve.ensures.noted in
+    stand_fixed c.args.model.now c.back_to.new.self _ c.back_to.ensures.stand c.halve.ensures.same n.0 n.1 n.2 (c.in_err-push.ensures.items)
 
 pub returns-clause-stand : goal.returns-clause-stand
 returns-clause-stand c =
-    let n = c.in_ok-halve_noted.ensures.noted in
+    let n = c.halve.ensures.noted in
     let same : c.back_to.new.self.frames.items ≡ c.pop.new.self.items = ap (λ v. v.items) c.back_to.ensures.frames in
-    let t : Stand = record { b = c.halve_noted.new.b; undo = c.halve_noted.new.undo; frames = c.push.new.self } in
-    turned c.args.model.now c.args.self.now c.pop.new.self.items c.in-Some.frame c.requires.stand c.in-Some.ensures.items c.back_to.new.self t c.args.value n.0 c.back_to.ensures.stand c.back_to.ensures.freed c.back_to.ensures.kept same n.1 n.2
+    let t : Stand = record { kept = c.halve.new.kept; frames = c.push.new.self } in
+    turned c.args.model.now c.args.self.now c.pop.new.self.items c.in-Some.frame c.requires.stand c.in-Some.ensures.items c.back_to.new.self t c.args.value n.0 c.back_to.ensures.stand c.halve.ensures.same c.back_to.ensures.freed c.back_to.ensures.fewer same n.1 n.2
     (c.in_ok-push.ensures.items ∙ ap (λ (gs : List Frame). gs ++ record { entry = c.in-Some.frame.entry; value = c.args.value; mark = c.in-Some.frame.mark } ∷ []) same)
 
 pub returns-clause-at_half : goal.returns-clause-at_half
 returns-clause-at_half c =
-    let t : Stand = record { b = c.halve_noted.new.b; undo = c.halve_noted.new.undo; frames = c.push.new.self } in
+    let t : Stand = record { kept = c.halve.new.kept; frames = c.push.new.self } in
     let same : c.back_to.new.self.frames.items ≡ c.pop.new.self.items = ap (λ v. v.items) c.back_to.ensures.frames in
-    turned_at c.args.model.now c.args.self.now c.pop.new.self.items c.in-Some.frame c.requires.stand c.in-Some.ensures.items c.back_to.new.self t c.args.value c.back_to.ensures.freed c.in_ok-halve_noted.ensures.half
+    turned_at c.args.model.now c.args.self.now c.pop.new.self.items c.in-Some.frame c.requires.stand c.in-Some.ensures.items c.back_to.new.self t c.args.value c.back_to.ensures.freed c.halve.ensures.half
     (c.in_ok-push.ensures.items ∙ ap (λ (gs : List Frame). gs ++ record { entry = c.in-Some.frame.entry; value = c.args.value; mark = c.in-Some.frame.mark } ∷ []) same)
