@@ -57,3 +57,6 @@ module _ (m : Voyage) (b : Box) (ms : Multipliers Row) where
 -- the row at a place of the list
 pub same_place : (xs : List Row) (k : ℕ) (q r : Row) → slice_get xs k ≡ Some q → slice_get xs k ≡ Some r → q ≡ r
 same_place xs k q r e h = let s : Some q ≡ Some r = sym e ∙ h in cc
+
+pub at_most_none : (z : ℤ) → le_z z (pos 0) ≡ true → z ≤ℤ pos 0
+at_most_none z h = grind (arith, ints)

@@ -8,3 +8,9 @@ pub mod Raises
 pub mod Flat
 pub mod TermsMore
 pub mod Keeping
+pub mod CrossSums
+pub mod Climbing
+pub mod PairKeys
+pub mod PairSums
+pub mod Offering
+pub mod BaseFlat

@@ -1,4 +1,4 @@
--- What is kept beside a box and multipliers: reduced costs and the dual value, and the sizes that keep them in range. No public clause cites this module.
+-- What is kept beside a box and multipliers: reduced costs and the dual value, and the sizes that keep them in range.
 use Rattle.std.specs.Prelude.{◌≡◌, ◌≢◌, ◌↔◌, ℕ, Bool, ◌+◌, ◌<◌, ◌≤◌, ◌^◌, true, All, Contains, List, [], ◌∷◌, length, map, slice_index_or, Option, ℤ, pos, ◌+ℤ◌, ◌-ℤ◌, ◌*ℤ◌, unsigned_abs}
 use Rattle.std.specs.List.{AllPairs}
 use Rattle.zero_one_rows.specs.declared.program.Row.{Row}

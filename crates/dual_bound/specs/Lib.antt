@@ -5,3 +5,6 @@ pub mod Rising
 pub mod Kept
 pub mod Gauging
 pub mod GaugeRule
+pub mod CrossGains
+pub mod Climbs
+pub mod Pairs

@@ -1,8 +1,8 @@
 -- Rows whose multiplier can be raised with gain. No public clause cites this module.
-use Rattle.std.specs.Prelude.{ℕ, ◌+◌, ◌<◌, ◌≤◌, ◌^◌, ◌<ℤ◌, ◌≤ℤ◌}
+use Rattle.std.specs.Prelude.{◌≡◌, true, false, ℕ, ◌+◌, ◌<◌, ◌≤◌, ◌^◌, ◌<ℤ◌, ◌≤ℤ◌}
 use Rattle.zero_one_rows.specs.declared.program.Row.{Row}
 use Rattle.zero_one_rows.specs.Variables.{Voyage}
-use Rattle.zero_one_rows.specs.Rows.{whole}
+use Rattle.zero_one_rows.specs.Rows.{whole, is_base}
 use Rattle.proof_trees.specs.Boxes.{Box}
 use Rattle.proof_trees.specs.Multipliers.{Multipliers, amount_of, with_amount, worth, Closes}
 use Rattle.certificate.specs.Entries.{same_row}
@@ -19,6 +19,10 @@ raised_by ms r more = with_amount same_row ms r (amount_of same_row ms r + more)
 -- the row's multiplier is 2^40, or raised by 1 it doesn't make the box worth more
 abbrev pub IsFlat : Voyage → Box → Multipliers Row → Row → Type 0
 IsFlat m b ms r = amount_of same_row ms r < 2 ^ 40 → worth (whole m) b (raised_by ms r 1) ≤ℤ worth (whole m) b ms
+
+-- no crossing row rises
+abbrev pub AreCrossingFlat : Voyage → Box → Multipliers Row → Type 0
+AreCrossingFlat m b ms = (r : Row) → is_base r ≡ false → (whole m).has r ≡ true → IsFlat m b ms r
 
 -- the row's multiplier makes the box worth more when it is raised by 1, and when it is raised by so much, which keeps it in range
 pub record RisesBy (m : Voyage) (b : Box) (ms : Multipliers Row) (r : Row) (more : ℕ) : Type 0 where

@@ -65,6 +65,18 @@ fn sum_parts(model: &Model, b: &Box01, reduced: &[i128]) -> i128
     total
 }
 
+// Sets the reduced costs to those where no row has a multiplier.
+fn reset(reduced: &mut [i128], model: &Model)
+    requires { length reduced.old ≡ length (variables model.now) }
+    ensures len { length reduced.new ≡ length (variables model.now) }
+    ensures each { (v : ℕ) → v < length (variables model.now) → number_at reduced.new v ≡ pos 16 *ℤ (whole model.now).cost v }
+    ensures small { (v : ℕ) → v < length (variables model.now) → unsigned_abs (number_at reduced.new v) ≤ 16 }
+{
+    for v in 0..model.vars() {
+        reduced[v as usize] = first_cost(model.cost(VarNo(v)));
+    }
+}
+
 impl Costs {
     /// Those of a box without multipliers.
     pub fn start(alloc: Global, model: &Model, b: &Box01) -> Result<Costs, NoMemory>
@@ -78,6 +90,17 @@ impl Costs {
             right: 0,
             value,
         })
+    }
+
+    /// Those of the same box without multipliers. It takes no memory.
+    pub fn clear(&mut self, model: &Model, b: &Box01)
+        requires whole { length b.now ≡ length (variables model.now) }
+        requires len { length self.old.reduced.items ≡ length (variables model.now) }
+        ensures { Priced model.now b.now [] self.new }
+    {
+        reset(self.reduced.as_mut_slice(), model);
+        self.right = 0;
+        self.value = sum_parts(model, b, self.reduced.as_slice());
     }
 
     // One variable of a row whose multiplier changes.

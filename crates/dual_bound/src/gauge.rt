@@ -1,19 +1,22 @@
 //! A box and multipliers, with the dual value kept from step to step.
-ghost use Rattle.std.specs.Prelude.{◌≡◌, ◌+◌, ◌<◌, length, slice_get, slice_set, Some, None, [], IfOk};
-ghost use Rattle.proof_trees.specs.Multipliers.{worth};
+ghost use Rattle.std.specs.Prelude.{◌≡◌, true, ◌+◌, ◌<◌, length, slice_get, slice_set, Some, None, [], IfOk};
+ghost use Rattle.proof_trees.specs.Multipliers.{worth, raised};
+ghost use Rattle.certificate.specs.Entries.{same_row};
 ghost use Rattle.zero_one_rows.specs.Variables.{variables};
 ghost use Rattle.zero_one_rows.specs.Rows.{whole};
+ghost use Rattle.dual_bound.specs.Adding.{Adds};
 ghost use Rattle.dual_bound.specs.Raising.{Raises};
 ghost use Rattle.dual_bound.specs.Rising.{Ends};
 
+use crate::changing::change_kept;
 use crate::costs::Costs;
-use crate::multipliers::Multipliers;
+use crate::multipliers::{AddNo, Multipliers};
 use crate::raising::{Raised, raise_kept};
 use crate::table::RowTable;
 use std::alloc::Global;
 use stow_data::{NoMemory, VarNo};
 use zero_one_model::{Box01, Model};
-use zero_one_rows::RaiseList;
+use zero_one_rows::{RaiseList, Row};
 
 /// A box and multipliers of a program, with every reduced cost and the dual value, which are kept from step to step. Contracts see the voyage, the box and the multipliers.
 #[derive(Drop)]
@@ -96,6 +99,39 @@ impl<'a> Gauge<'a> {
     {
         self.costs.allow(self.model, &self.b, x, None);
         self.b.release(x);
+    }
+
+    /// Changes a row's multiplier by an amount. OutOfRange comes exactly where it would leave 0 to 2^40; after a refusal nothing is changed.
+    pub fn add(
+        &mut self,
+        alloc: Global,
+        table: &RowTable,
+        row: &Row,
+        amount: i64,
+    ) -> Result<(), AddNo>
+        requires table { table.now ≡ self.old.voyage }
+        requires row { (whole self.old.voyage).has row.now ≡ true }
+        ensures same { (self.new.voyage ≡ self.old.voyage) × (self.new.box ≡ self.old.box) }
+        ensures adds { Adds (raised same_row self.old.multipliers row.now amount) self.old.multipliers self.new.multipliers result }
+    {
+        change_kept(
+            alloc,
+            self.model,
+            table,
+            &self.b,
+            &mut self.multipliers,
+            &mut self.costs,
+            row,
+            amount,
+        )
+    }
+
+    /// Leaves no row a multiplier. It takes no memory.
+    pub fn clear(&mut self, alloc: Global)
+        ensures { self.new ≡ record self.old { multipliers = [] } }
+    {
+        self.multipliers = Multipliers::zero(alloc);
+        self.costs.clear(self.model, &self.b);
     }
 
     /// Raises multipliers until the box closes at the cut, or no multiplier raised by 1 raises the dual value, or `most` raises are made. Each raise is appended to the list, also where memory is wanting after it.

@@ -1,17 +1,24 @@
 //! Multipliers of a program's rows, the dual value of a box, and how multipliers are raised (weak duality with whole multipliers).
 #![tactic(auto)]
 
+mod best_pairs;
+mod changing;
 mod costs;
 mod gauge;
 mod multipliers;
+mod offers;
+mod pairs;
 mod plain_value;
 mod raising;
 mod sizes;
 mod table;
 mod terms;
+mod tracing;
 
+pub use costs::Costs;
 pub use gauge::Gauge;
 pub use multipliers::{AddNo, Multipliers};
 pub use plain_value::value;
 pub use raising::{Raised, raise, raise_by};
 pub use table::RowTable;
+pub use terms::{Listed, Term, list_row, terms_of};

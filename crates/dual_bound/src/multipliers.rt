@@ -60,7 +60,7 @@ fn place_of(entries: &[(Row, u64)], r: &Row) -> Option<usize>
 }
 
 /// A multiplier that is changed, where it stays in 0 to 2^40.
-fn changed(old: u64, by: i64) -> Option<u64>
+pub fn changed(old: u64, by: i64) -> Option<u64>
     requires { old ≤ 2 ^ 40 }
     ensures { result ≡ in_range (pos old +ℤ by) }
 {

@@ -8,10 +8,12 @@ ghost use Rattle.zero_one_rows.specs.Rows.{whole};
 ghost use Rattle.program_rows.specs.Counted.{all_rows};
 ghost use Rattle.dual_bound.specs.Raising.{AreMultipliers, IsStuck, Raises};
 ghost use Rattle.dual_bound.specs.Costs.{IsListed, Priced, PricedSome};
-ghost use Rattle.dual_bound.specs.Rising.{raised_by, IsFlat, RisesBy, Rises, Ends};
+ghost use Rattle.dual_bound.specs.Rising.{raised_by, IsFlat, RisesBy, Rises, AreCrossingFlat, Ends};
 
+use crate::changing::add_amount;
 use crate::costs::Costs;
 use crate::multipliers::{MOST, Multipliers, copy_of};
+use crate::offers::choose_crossing;
 use crate::sizes::signed;
 use crate::table::RowTable;
 use crate::terms::{Listed, Term, list_row, terms_of};
@@ -231,7 +233,7 @@ fn find_between(
 }
 
 // A row that can be raised with gain, the first from this number on, or else from the first row on.
-fn find(
+fn find_listed(
     alloc: Global,
     model: &Model,
     table: &RowTable,
@@ -252,6 +254,84 @@ fn find(
         Some(rising) => Ok(Some(rising)),
         None => find_between(alloc, model, table, b, m, costs, 0, from),
     }
+}
+
+// A base row that can be raised with gain, the first from this number on, or else from the first row on, where no crossing row can.
+fn find_base(
+    alloc: Global,
+    model: &Model,
+    table: &RowTable,
+    b: &Box01,
+    m: &Multipliers,
+    costs: &Costs,
+    from: u64,
+) -> Result<Option<Rising>, NoMemory>
+    requires table { table.now ≡ model.now }
+    requires whole { length b.now ≡ length (variables model.now) }
+    requires priced { Priced model.now b.now m.now costs.now }
+    requires crossing { AreCrossingFlat model.now b.now m.now }
+    ensures none { result ≡ Ok None → IsStuck model.now b.now m.now }
+    ensures some { IfOk result (λ o. IfSome o (λ c. Rises model.now b.now m.now c)) }
+{
+    let base = model.base_rows();
+    let from = from.min(base);
+    match find_between(alloc, model, table, b, m, costs, from, base)? {
+        Some(rising) => Ok(Some(rising)),
+        None => find_between(alloc, model, table, b, m, costs, 0, from),
+    }
+}
+
+// Looks at a row that may gain, if there is one.
+fn look_at(
+    alloc: Global,
+    model: &Model,
+    table: &RowTable,
+    b: &Box01,
+    m: &Multipliers,
+    costs: &Costs,
+    row: Option<Row>,
+) -> Result<Option<Rising>, NoMemory>
+    requires table { table.now ≡ model.now }
+    requires whole { length b.now ≡ length (variables model.now) }
+    requires priced { Priced model.now b.now m.now costs.now }
+    ensures { IfOk result (λ o. IfSome o (λ c. Rises model.now b.now m.now c)) }
+{
+    let Some(row) = row else {
+        return Ok(None);
+    };
+    let Some(number) = model.row_number(&row) else {
+        return Ok(None);
+    };
+    look(alloc, model, table, b, m, costs, number)
+}
+
+// A row that can be raised with gain: the crossing row that gains most, or else a base row. All rows are looked at only where what pairs of calls bring isn't kept, or where the best crossing row's multiplier can't rise.
+fn find(
+    alloc: Global,
+    model: &Model,
+    table: &RowTable,
+    b: &Box01,
+    m: &Multipliers,
+    costs: &Costs,
+    from: u64,
+) -> Result<Option<Rising>, NoMemory>
+    requires table { table.now ≡ model.now }
+    requires whole { length b.now ≡ length (variables model.now) }
+    requires priced { Priced model.now b.now m.now costs.now }
+    ensures none { result ≡ Ok None → IsStuck model.now b.now m.now }
+    ensures some { IfOk result (λ o. IfSome o (λ c. Rises model.now b.now m.now c)) }
+{
+    let Some(pairs) = table.pairs() else {
+        return find_listed(alloc, model, table, b, m, costs, from);
+    };
+    let choice = choose_crossing(model, pairs, b, costs);
+    if choice.gain <= 0 {
+        return find_base(alloc, model, table, b, m, costs, from);
+    }
+    if let Some(rising) = look_at(alloc, model, table, b, m, costs, choice.row)? {
+        return Ok(Some(rising));
+    }
+    find_listed(alloc, model, table, b, m, costs, from)
 }
 
 // Makes one raise, and appends it. After want of memory nothing is changed.
@@ -401,17 +481,7 @@ fn add_entry(
     requires priced { PricedSome model.now b.now costs.old }
     ensures { (ms : Prices Rows) → Priced model.now b.now ms costs.old → amount_of same_row ms row.now ≡ 0 → OnOk result (Priced model.now b.now (with_amount same_row ms row.now amount) costs.new) }
 {
-    if let Some(number) = model.row_number(row) {
-        if let Some((right, terms)) = table.row(number) {
-            let listed = Listed { row, right, terms };
-            costs.add_row(model, b, listed, signed(amount));
-            return Ok(());
-        }
-    }
-    let terms = terms_of(alloc, model, row)?;
-    let listed = list_row(model, row, terms.as_slice());
-    costs.add_row(model, b, listed, signed(amount));
-    Ok(())
+    add_amount(alloc, model, table, b, costs, row, signed(amount))
 }
 
 // The costs of multipliers in a box.

@@ -4,7 +4,9 @@ ghost use Rattle.zero_one_rows.specs.declared.program.Row.{Row as Rows};
 ghost use Rattle.program_rows.specs.Counted.{all_rows};
 ghost use Rattle.dual_bound.specs.Costs.{IsListed};
 ghost use Rattle.dual_bound.specs.Kept.{AreKept};
+ghost use Rattle.dual_bound.specs.Pairs.{ArePairs};
 
+use crate::pairs::PairTable;
 use crate::terms::{Term, list_row, terms_of};
 use flat_lists::FlatLists;
 use std::alloc::Global;
@@ -14,23 +16,24 @@ use zero_one_model::Model;
 /// The most terms that are kept.
 const MOST_TERMS: usize = 1 << 25;
 
-/// The right sides and terms of a program's rows, of as many as there is room for. Contracts see the voyage.
+/// The right sides and terms of a program's rows, of as many as there is room for, and what pairs of calls bring to crossing rows. Contracts see the voyage.
 #[derive(Drop)]
 pub struct RowTable<'a> {
     model: &'a Model<'a>,
     rights: Seq<i64>,
     terms: FlatLists<Term>,
+    pairs: Option<PairTable>,
 }
 
 impl<'a> std::marker::Model for RowTable<'a> {
     ghost use Rattle.zero_one_rows.specs.Variables.{Voyage};
-    ghost use Rattle.dual_bound.specs.Kept.{AreKept};
+    ghost use Rattle.dual_bound.specs.Kept.{IsTable};
 
     ghost Value = { Voyage };
 
     ghost view = { λ a. a.model.now };
 
-    ghost invariant = { λ a. AreKept a.model.now a.rights a.terms };
+    ghost invariant = { λ a. IsTable a.model.now a.rights a.terms a.pairs };
 }
 
 // Appends the right side and the terms of the next row.
@@ -76,6 +79,13 @@ fn append_rows(alloc: Global, model: &Model, rights: &mut Seq<i64>, lists: &mut 
     }
 }
 
+// What pairs of calls bring, where there is memory for it.
+fn pairs_of(alloc: Global, model: &Model) -> Option<PairTable>
+    ensures { IfSome result (ArePairs model.now) }
+{
+    PairTable::build(alloc, model).ok()
+}
+
 impl<'a> RowTable<'a> {
     /// A table that keeps no rows. It takes no memory.
     pub fn none(alloc: Global, model: &'a Model<'a>) -> RowTable<'a>
@@ -85,6 +95,7 @@ impl<'a> RowTable<'a> {
             model,
             rights: Seq::new(alloc),
             terms: FlatLists::new(alloc),
+            pairs: None,
         }
     }
 
@@ -99,6 +110,7 @@ impl<'a> RowTable<'a> {
             model,
             rights,
             terms,
+            pairs: pairs_of(alloc, model),
         }
     }
 
@@ -112,5 +124,12 @@ impl<'a> RowTable<'a> {
         } else {
             None
         }
+    }
+
+    /// What pairs of calls bring to crossing rows, where it is kept.
+    pub fn pairs(&self) -> Option<&PairTable>
+        ensures { IfSome result (λ t. ArePairs self.now t.now) }
+    {
+        self.pairs.as_ref()
     }
 }

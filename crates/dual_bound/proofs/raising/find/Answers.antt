@@ -1,7 +1,13 @@
-use Rattle.std.proofs.Common.{ap, Ok}
-use Rattle.dual_bound.proofs.Flat.{flat_both}
+use Rattle.std.proofs.Common.{rules, SFits, w64, ◌≡◌, true, ℤ, pos}
+use lib.Signed.{le_z}
+use Rattle.std.proofs.lemmas.Int.{to_z-of_z}
+use Rattle.dual_bound.proofs.Flat.{at_most_none}
+use Rattle.dual_bound.proofs.BaseFlat.{crossing_flat}
 use Rattle.dual_bound.proofs.raising.find.Goals as goal
 
-pub returns-in-None-clause-none : goal.returns-in-None-clause-none
-returns-in-None-clause-none c = λ ok.
-    flat_both c.args.model.now c.args.b.now c.args.m.now c.min-from.result c.rows-rows.result c.rows-rows.ensures.number (c.in_ok-rising.ensures.none (ap Ok c.in-None.is)) (c.find_between-in-None.ensures.none ok)
+pub find_base-requires-clause-crossing : goal.find_base-requires-clause-crossing
+find_base-requires-clause-crossing c =
+    let gain : ℤ = c.choose_crossing-choice.result.gain in
+    let s : SFits w64 gain = search rules in
+    let le : le_z gain (pos 0) ≡ true = simp to_z-of_z at c.if-choice-le0.true in
+    crossing_flat c.args.model.now c.args.b.now c.args.m.now c.args.costs.now gain c.requires.priced c.choose_crossing-choice.ensures (at_most_none gain le)

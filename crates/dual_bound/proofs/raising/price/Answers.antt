@@ -1,4 +1,4 @@
-use Rattle.std.proofs.Common.{rules, ◌≡◌, ◌+◌, take, subst}
+use Rattle.std.proofs.Common.{take, subst}
 use Rattle.zero_one_rows.specs.declared.program.Row.{Row}
 use Rattle.proof_trees.specs.Multipliers.{Multipliers}
 use Rattle.dual_bound.specs.Costs.{Priced}

@@ -1,4 +1,4 @@
-use Rattle.std.proofs.Common.{◌≡◌, ◌≤◌, ◌^◌, length}
+use Rattle.std.proofs.Common.{◌≡◌, length}
 use Rattle.dual_bound.specs.Kept.{AreKept}
 use Rattle.dual_bound.proofs.table.append_rows.Given as goal
 

@@ -1,4 +1,4 @@
-use Rattle.std.proofs.Common.{rules, arith, SFits, ◌≡◌, ◌<◌, ◌≤◌, ◌^◌, ◌+ℤ◌, ◌-ℤ◌, length, set, ℤ, pos, Option, Bool, ◌∙◌, ap, sym, subst}
+use Rattle.std.proofs.Common.{rules, arith, SFits, ◌≡◌, ◌<◌, ◌≤◌, ◌^◌, ◌+ℤ◌, ◌-ℤ◌, length, ℤ, ◌∙◌, ap, sym, subst}
 use Rattle.std.specs.Int.{w128}
 use Rattle.std.specs.Int.RustNames.{unsigned_abs}
 use Rattle.std.proofs.lemmas.Int.{to_z-of_z, fits_signed_from_abs}
@@ -6,7 +6,7 @@ use Rattle.zero_one_rows.specs.Variables.{variables}
 use Rattle.program_rows.specs.Counted.{all_rows}
 use Rattle.proof_trees.specs.Boxes.{at}
 use Rattle.proof_trees.specs.Multipliers.{least}
-use Rattle.dual_bound.specs.Costs.{number_at, parts, HasRoom}
+use Rattle.dual_bound.specs.Costs.{number_at}
 use Rattle.dual_bound.proofs.Pricing.{has_room, put_box}
 use Rattle.dual_bound.proofs.costs.Costs.with_part.Goals as goal
 
