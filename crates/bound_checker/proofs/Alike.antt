@@ -5,10 +5,12 @@ use Rattle.proof_trees.specs.Multipliers.{Multipliers, dot, amount_of, with_amou
 use Rattle.zero_one_rows.specs.declared.program.Row.{Row}
 use Rattle.zero_one_rows.specs.Variables.{Voyage}
 use Rattle.certificate.specs.Entries.{same_row}
-use Rattle.bound_checker.specs.Sums.{Lacks, AreSmall}
+use Rattle.dual_bound.specs.Raising.{Lacks}
+use Rattle.dual_bound.specs.Costs.{AreSmall}
 use Rattle.certificate.proofs.RowsAlike.{same_equal, same_itself}
 use Rattle.bound_checker.proofs.Multiplied.{amount_with}
-use Rattle.bound_checker.proofs.Multiplied.{sum_times, dot_with, small_with}
+use Rattle.dual_bound.proofs.Summing.{sum_times}
+use Rattle.dual_bound.proofs.Multiplied.{dot_with, small_with}
 
 lacks_none : (ms : Multipliers Row) (r : Row) → Lacks ms r → amount_of same_row ms r ≡ 0
 lacks_none [] r h = refl

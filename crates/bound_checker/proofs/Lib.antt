@@ -1,14 +1,9 @@
 pub mod RowsOrdered
 pub mod Look
-pub mod Adding
-pub mod Sizes
-pub mod Touched
 pub mod Multiplied
 pub mod Alike
 pub mod Waiting
 pub mod Back
-pub mod RowsListed
-pub mod Room
 pub mod Raising
 pub mod InOrder
 pub mod FirstFault
@@ -16,4 +11,5 @@ pub mod Bounding
 pub mod Stepping
 pub mod Numbered
 pub mod Walks
+pub mod Following
 pub mod FewRecords

@@ -1,5 +1,5 @@
 -- A look-up in a map of rows is that in its list of rows.
-use Rattle.std.proofs.Common.{◌≡◌, ℕ, Bool, true, false, cond, List, [], ◌∷◌, Option, Some, None, refl, ap, sym, ◌∙◌, subst}
+use Rattle.std.proofs.Common.{◌≡◌, ℕ, Bool, true, false, cond, List, [], ◌∷◌, Option, Some, None, refl, ap, sym, ◌∙◌}
 use Rattle.std.specs.Prelude.{unwrap_or}
 use Rattle.std.specs.Option.{IfSome}
 use Rattle.std.specs.Map.{lookup}
@@ -9,14 +9,8 @@ use Rattle.zero_one_rows.specs.declared.program.Row.{Row}
 use Rattle.zero_one_rows.specs.contracts.program.RowOrd.TheImpl as order
 use Rattle.proof_trees.specs.Multipliers.{amount_of}
 use Rattle.certificate.specs.Entries.{same_row}
-use Rattle.certificate.proofs.RowsAlike.{same_equal, same_itself, bits_equal}
+use Rattle.certificate.proofs.RowsTold.{same_turned}
 use Rattle.bound_checker.proofs.RowsOrdered.{order_same}
-
-pub same_turned : (r s : Row) → same_row r s ≡ same_row s r
-same_turned r s = bits_equal (same_row r s) (same_row s r) (λ h. turn r s (same_equal r s h)) (λ h. turn s r (same_equal s r h))
-  where
-    turn : (r s : Row) → r ≡ s → same_row s r ≡ true
-    turn r s e = subst (λ (t : Row). same_row t r ≡ true) e (same_itself r)
 
 unwrap_cond : (c : Bool) (n : ℕ) (o : Option ℕ) → unwrap_or (cond c (Some n) o) 0 ≡ cond c n (unwrap_or o 0)
 unwrap_cond true n o = refl

@@ -1,58 +1,64 @@
 -- What a changed multiplier leaves of the sums.
-use Rattle.std.proofs.Common.{◌≡◌, ℕ, ◌<◌, ◌≤◌, ◌^◌, Bool, true, false, cond, length, List, [], ◌∷◌, Option, Some, None, Result, Ok, Err, ℤ, pos, ◌+ℤ◌, ◌*ℤ◌, arith, refl, sym, ◌∙◌, ap, subst}
+use Rattle.std.proofs.Common.{◌≡◌, ℕ, ◌<◌, ◌≤◌, ◌^◌, Bool, true, false, cond, length, List, [], ◌∷◌, Option, Some, None, Result, Ok, Err, ℤ, pos, ◌+ℤ◌, ◌-ℤ◌, ◌*ℤ◌, arith, refl, sym, ◌∙◌, ap, subst}
 use Rattle.std.specs.Option.{option_map, ok_or}
-use Rattle.std.specs.Int.RustNames.{unsigned_abs}
 use Rattle.zero_one_rows.specs.declared.program.Row.{Row}
 use Rattle.zero_one_rows.specs.Variables.{Voyage, variables}
 use Rattle.zero_one_rows.specs.Rows.{whole}
-use Rattle.program_rows.specs.Counted.{all_rows}
-use Rattle.proof_trees.specs.Multipliers.{Multipliers, amount_of, with_amount, raised}
+use Rattle.proof_trees.specs.Boxes.{Box, at}
+use Rattle.proof_trees.specs.Multipliers.{Multipliers, amount_of, with_amount, raised, least, weighed_rhs, worth}
 use Rattle.certificate.specs.declared.refusals.BoundNo.{BoundNo}
 use Rattle.certificate.specs.declared.refusals.BoundNo.TheVariants.{Multiplier, StepRow, NoMemory}
+use Rattle.dual_bound.specs.Adding.{in_range}
+use Rattle.dual_bound.specs.Costs.{AreSmall, Priced, parts}
+use Rattle.dual_bound.proofs.Multiplied.{changed_is}
+use Rattle.dual_bound.proofs.Pricing.{value_is}
 use Rattle.bound_checker.specs.declared.sums.Sums.{Sums}
 use Rattle.bound_checker.specs.declared.prices.Change.{Change}
 use Rattle.bound_checker.specs.declared.prices.Prices.{Prices}
 use Rattle.certificate.specs.Entries.{same_row}
 use Rattle.bound_checker.specs.Faults.{raised_row}
-use Rattle.bound_checker.specs.Sums.{in_range, weight_at, IsSmall, AreSmall, Carries, HasRoom}
+use Rattle.bound_checker.specs.Sums.{Carries}
 use Rattle.bound_checker.specs.Prices.{Holds, Ends}
 use Rattle.certificate.proofs.RowsAlike.{same_equal}
-use Rattle.bound_checker.proofs.Multiplied.{amount_with, dot_with, small_with, changed_is}
+use Rattle.bound_checker.proofs.Multiplied.{amount_with, amount_low}
 use Rattle.bound_checker.proofs.Alike.{dot_alike}
-use Rattle.bound_checker.proofs.Room.{has_room}
 use Rattle.bound_checker.proofs.Waiting.{moves_alike}
 
-module _ (m : Voyage) (ms : Multipliers Row) (r : Row) (z : ℤ) (s s' : Sums) (n : ℕ) (carries : Carries m ms s) where
-  pub carries_more : pos (amount_of same_row s.amounts r) +ℤ z ≡ pos n → n ≤ 2 ^ 40 → IsSmall m r → ((q : Row) → amount_of same_row s'.amounts q ≡ cond (same_row r q) n (amount_of same_row s.amounts q))
-      → s'.right ≡ s.right +ℤ z *ℤ (whole m).rhs r → length s'.weighed.items ≡ length (variables m)
-      → ((v : ℕ) → v < length (variables m) → weight_at s'.weighed.items v ≡ weight_at s.weighed.items v +ℤ z *ℤ (whole m).coef r v) → Carries m (with_amount same_row ms r n) s'
-  carries_more sum low small amounts right len weights =
-      let now : pos (amount_of same_row ms r) +ℤ z ≡ pos n = ap (λ (n : ℕ). pos n +ℤ z) (sym (carries.amounts r)) ∙ sum in
-      record {
-        amounts = λ q. amounts q ∙ ap (λ (k : ℕ). cond (same_row r q) n k) (carries.amounts q) ∙ sym (amount_with ms r q n);
-        right = right ∙ ap (λ (k : ℤ). k +ℤ z *ℤ (whole m).rhs r) carries.right ∙ sym (dot_with ms r n z (whole m).rhs now);
-        len = len;
-        weights = λ v lt. weights v lt ∙ ap (λ (k : ℤ). k +ℤ z *ℤ (whole m).coef r v) (carries.weights v lt) ∙ sym (dot_with ms r n z (λ r. (whole m).coef r v) now);
-        small = small_with m ms r n small low carries.small;
-      }
+module _ (m : Voyage) (b : Box) (ms : Multipliers Row) (s : Sums) (carries : Carries m b ms s) where
+  pub amounts_low : (r : Row) → amount_of same_row s.amounts r ≤ 2 ^ 40
+  amounts_low r = subst (λ (n : ℕ). n ≤ 2 ^ 40) (sym (carries.amounts r)) (amount_low m ms r carries.priced.small)
 
--- the sums of multipliers are those of others that are alike
-pub carries_alike : (m : Voyage) (ms ns : Multipliers Row) (s : Sums) → AreSmall m ns → ((r : Row) → amount_of same_row ns r ≡ amount_of same_row ms r) → Carries m ms s → Carries m ns s
-carries_alike m ms ns s small same h = record {
-  amounts = λ r. h.amounts r ∙ sym (same r);
-  right = h.right ∙ sym (dot_alike m (whole m).rhs ns ms small h.small same);
-  len = h.len;
-  weights = λ v lt. h.weights v lt ∙ sym (dot_alike m (λ r. (whole m).coef r v) ns ms small h.small same);
-  small = small;
-}
+  pub value_here : s.costs.value ≡ worth (whole m) b ms
+  value_here = value_is m b ms s.costs carries.priced
 
--- no multipliers are left
-pub carries_none : (m : Voyage) (ms : Multipliers Row) (s : Sums) → s.amounts ≡ [] → Carries m ms s → Carries m [] s
-carries_none m ms s none h = carries_alike m ms [] s tt (λ r. sym (ap (λ (a : Multipliers Row). amount_of same_row a r) none) ∙ h.amounts r) h
+  -- one multiplier is changed
+  pub carries_more : (r : Row) (n : ℕ) (s' : Sums) → ((q : Row) → amount_of same_row s'.amounts q ≡ cond (same_row r q) n (amount_of same_row s.amounts q)) → Priced m b (with_amount same_row ms r n) s'.costs → Carries m b (with_amount same_row ms r n) s'
+  carries_more r n s' amounts priced = record {
+    whole = carries.whole;
+    amounts = λ q. amounts q ∙ ap (λ (k : ℕ). cond (same_row r q) n k) (carries.amounts q) ∙ sym (amount_with ms r q n);
+    priced = priced;
+  }
 
-pub holds_none : (m : Voyage) (first ms : Multipliers Row) (k : List Change) (p : Prices) → p.sums.amounts ≡ [] → Holds m first k ms p → Holds m first k [] p
-holds_none m first ms k p none h = record {
-  carries = carries_none m ms p.sums none h.carries;
+  -- the sums are those of other multipliers that are alike
+  pub carries_alike : (ns : Multipliers Row) → AreSmall m ns → ((r : Row) → amount_of same_row ns r ≡ amount_of same_row ms r) → Carries m b ns s
+  carries_alike ns small same = record {
+    whole = carries.whole;
+    amounts = λ r. carries.amounts r ∙ sym (same r);
+    priced = record {
+      gauged = carries.priced.gauged;
+      right = carries.priced.right ∙ sym (dot_alike m (whole m).rhs ns ms small carries.priced.small same);
+      reduced = λ v lt. carries.priced.reduced v lt ∙ ap (λ (z : ℤ). pos 16 *ℤ (whole m).cost v -ℤ z) (sym (dot_alike m (λ r. (whole m).coef r v) ns ms small carries.priced.small same));
+      small = small;
+    };
+  }
+
+  -- no multipliers are left
+  pub carries_none : s.amounts ≡ [] → Carries m b [] s
+  carries_none none = carries_alike [] tt (λ r. sym (ap (λ (a : Multipliers Row). amount_of same_row a r) none) ∙ carries.amounts r)
+
+pub holds_none : (m : Voyage) (b : Box) (first ms : Multipliers Row) (k : List Change) (p : Prices) → p.sums.amounts ≡ [] → Holds m b first k ms p → Holds m b first k [] p
+holds_none m b first ms k p none h = record {
+  carries = carries_none m b ms p.sums h.carries none;
   moves = moves_alike m first ms [] k p.changes.items (λ r. sym (ap (λ (a : Multipliers Row). amount_of same_row a r) none) ∙ h.carries.amounts r) h.moves;
 }
 
@@ -67,25 +73,13 @@ named m (x ∷ ms) r small lt = by (same_row x.0 r) refl lt (named m ms r small.
 
 -- ## Sums while a row is taken out
 
-module _ (m : Voyage) (ms : Multipliers Row) (s t : Sums) (r : Row) (a : ℕ) (few : length (all_rows m) ≤ 2000000) (carries : Carries m ms s)
-    (was : amount_of same_row s.amounts r ≡ a) (rest : (q : Row) → amount_of same_row t.amounts q ≡ cond (same_row r q) 0 (amount_of same_row s.amounts q)) (right : t.right ≡ s.right) (weighed' : t.weighed ≡ s.weighed) where
+module _ (m : Voyage) (b : Box) (ms : Multipliers Row) (s t : Sums) (r : Row) (a : ℕ) (carries : Carries m b ms s)
+    (was : amount_of same_row s.amounts r ≡ a) (rest : (q : Row) → amount_of same_row t.amounts q ≡ cond (same_row r q) 0 (amount_of same_row s.amounts q)) where
   pub out_low : a ≤ 2 ^ 40
-  out_low = let h : amount_of same_row s.amounts r ≤ 2 ^ 40 = (has_room m ms s few carries).amounts r in omega arith
+  out_low = let h : amount_of same_row s.amounts r ≤ 2 ^ 40 = amounts_low m b ms s carries r in omega arith
 
   pub out_named : 0 < a → (whole m).has r ≡ true
-  out_named lt = named m ms r carries.small (let e : amount_of same_row s.amounts r ≡ amount_of same_row ms r = carries.amounts r in omega arith)
-
-  low_cond : (c : Bool) (n : ℕ) → n ≤ 2 ^ 40 → cond c 0 n ≤ 2 ^ 40
-  low_cond true n h = omega arith
-  low_cond false n h = h
-
-  pub out_room : HasRoom m t
-  out_room = let h = has_room m ms s few carries in record {
-    amounts = λ q. subst (λ (n : ℕ). n ≤ 2 ^ 40) (sym (rest q)) (low_cond (same_row r q) (amount_of same_row s.amounts q) (h.amounts q));
-    right = subst (λ (z : ℤ). unsigned_abs z ≤ 2 ^ 98) (sym right) h.right;
-    len = ap (λ w. length w.items) weighed' ∙ h.len;
-    weights = λ v lt. subst (λ (z : ℤ). unsigned_abs z ≤ 2 ^ 78) (sym (ap (λ w. weight_at w.items v) weighed')) (h.weights v lt);
-  }
+  out_named lt = named m ms r carries.priced.small (let e : amount_of same_row s.amounts r ≡ amount_of same_row ms r = carries.amounts r in omega arith)
 
   same_cond : (q : Row) → a ≡ 0 → amount_of same_row t.amounts q ≡ amount_of same_row s.amounts q
   same_cond q none = rest q ∙ by (same_row r q) refl
@@ -95,22 +89,20 @@ module _ (m : Voyage) (ms : Multipliers Row) (s t : Sums) (r : Row) (a : ℕ) (f
       by false e = refl
 
   -- a row that had none
-  pub out_none : a ≡ 0 → Carries m ms t
-  out_none none = record {
+  pub out_none : t.costs ≡ s.costs → a ≡ 0 → Carries m b ms t
+  out_none costs none = record {
+    whole = carries.whole;
     amounts = λ q. same_cond q none ∙ carries.amounts q;
-    right = right ∙ carries.right;
-    len = ap (λ w. length w.items) weighed' ∙ carries.len;
-    weights = λ v lt. ap (λ w. weight_at w.items v) weighed' ∙ carries.weights v lt;
-    small = carries.small;
+    priced = subst (Priced m b ms) (sym costs) carries.priced;
   }
 
+  -- what the row's multiplier becomes
+  pub out_sum : (z : ℤ) → pos a +ℤ z ≡ pos 0 → pos (amount_of same_row ms r) +ℤ z ≡ pos 0
+  out_sum z sum = ap (λ (n : ℕ). pos n +ℤ z) (sym (carries.amounts r) ∙ was) ∙ sum
+
   -- a row that had one
-  pub out_some : (z : ℤ) (u : Sums) → pos a +ℤ z ≡ pos 0 → IsSmall m r → u.amounts ≡ t.amounts → u.right ≡ t.right +ℤ z *ℤ (whole m).rhs r → length u.weighed.items ≡ length (variables m)
-      → ((v : ℕ) → v < length (variables m) → weight_at u.weighed.items v ≡ weight_at t.weighed.items v +ℤ z *ℤ (whole m).coef r v) → Carries m (with_amount same_row ms r 0) u
-  out_some z u sum small amounts is len weights = carries_more m ms r z s u 0 carries (ap (λ (n : ℕ). pos n +ℤ z) was ∙ sum) (omega arith) small
-      (λ q. ap (λ (es : Multipliers Row). amount_of same_row es q) amounts ∙ rest q)
-      (is ∙ ap (λ (x : ℤ). x +ℤ z *ℤ (whole m).rhs r) right) len
-      (λ v lt. weights v lt ∙ ap (λ w. weight_at w.items v +ℤ z *ℤ (whole m).coef r v) weighed')
+  pub out_some : (u : Sums) → u.amounts ≡ t.amounts → Priced m b (with_amount same_row ms r 0) u.costs → Carries m b (with_amount same_row ms r 0) u
+  out_some u amounts priced = carries_more m b ms s carries r 0 u (λ q. ap (λ (es : Multipliers Row). amount_of same_row es q) amounts ∙ rest q) priced
 
 -- ## Answers
 
@@ -127,12 +119,12 @@ module _ (m : Voyage) (node : ℕ) (ms : Multipliers Row) (r : Row) (z : ℤ) wh
   raised_is o has e = ap (λ (b : Bool). cond b (ok_or (raised same_row ms r z) (Multiplier node)) (Err (StepRow node))) has
       ∙ ap (λ (k : Option (Multipliers Row)). ok_or k (Multiplier node)) (changed_is ms r (pos (amount_of same_row ms r) +ℤ z) ∙ ap (λ (k : Option ℕ). option_map (with_amount same_row ms r) k) e)
 
-  pub out_of_range : (H : Multipliers Row → Type 0) (s : Sums) → Carries m ms s → (whole m).has r ≡ true → in_range (pos (amount_of same_row s.amounts r) +ℤ z) ≡ None → Ends H (raised_row (whole m) node ms (r, z)) (Err (Multiplier node))
-  out_of_range H s carries has e =
+  pub out_of_range : (H : Multipliers Row → Type 0) (b : Box) (s : Sums) → Carries m b ms s → (whole m).has r ≡ true → in_range (pos (amount_of same_row s.amounts r) +ℤ z) ≡ None → Ends H (raised_row (whole m) node ms (r, z)) (Err (Multiplier node))
+  out_of_range H b s carries has e =
       let k : raised_row (whole m) node ms (r, z) ≡ Err (Multiplier node) = raised_is None has (ap (λ (n : ℕ). in_range (pos n +ℤ z)) (sym (carries.amounts r)) ∙ e) in
       subst (λ (o : Result (Multipliers Row) BoundNo). Ends H o (Err (Multiplier node))) (sym k) (λ h. refl)
 
-  pub raised_well : (H : Multipliers Row → Type 0) (s : Sums) (n : ℕ) → Carries m ms s → (whole m).has r ≡ true → in_range (pos (amount_of same_row s.amounts r) +ℤ z) ≡ Some n → H (with_amount same_row ms r n) → Ends H (raised_row (whole m) node ms (r, z)) (Ok tt)
-  raised_well H s n carries has e h =
+  pub raised_well : (H : Multipliers Row → Type 0) (b : Box) (s : Sums) (n : ℕ) → Carries m b ms s → (whole m).has r ≡ true → in_range (pos (amount_of same_row s.amounts r) +ℤ z) ≡ Some n → H (with_amount same_row ms r n) → Ends H (raised_row (whole m) node ms (r, z)) (Ok tt)
+  raised_well H b s n carries has e h =
       let k : raised_row (whole m) node ms (r, z) ≡ Ok (with_amount same_row ms r n) = raised_is (Some n) has (ap (λ (n : ℕ). in_range (pos n +ℤ z)) (sym (carries.amounts r)) ∙ e) in
       subst (λ (o : Result (Multipliers Row) BoundNo). Ends H o (Ok tt)) (sym k) h

@@ -14,7 +14,7 @@ use Rattle.zero_one_rows.specs.Rows.{whole}
 use Rattle.certificate.specs.Entries.{same_row}
 use Rattle.bound_checker.specs.declared.prices.Change.{Change}
 use Rattle.bound_checker.specs.declared.walk.Frame.{Frame}
-use Rattle.bound_checker.specs.Sums.{AreSmall}
+use Rattle.dual_bound.specs.Costs.{AreSmall}
 use Rattle.bound_checker.specs.Waits.{back_at, IsSound, Moves, Waits, AllWait}
 use Rattle.certificate.proofs.RowsAlike.{same_equal}
 use Rattle.bound_checker.proofs.Multiplied.{amount_with}

@@ -3,6 +3,7 @@ use Rattle.std.proofs.Common.{◌≡◌, ◌≢◌, ℕ, zero, suc, ◌+◌, ◌
 use Rattle.std.specs.Prelude.{reverse}
 use Rattle.std.specs.Option.{is_none, option_or}
 use Rattle.std.proofs.lemmas.Bool.Decides.{nat_tests}
+use Rattle.std.proofs.Math.Seq.{drop-append_seam}
 use Rattle.std.proofs.lemmas.List.{reverse-append, length-set}
 use Rattle.std.proofs.lemmas.List.Elements.{All-append, All-cons, All-nil, All-take}
 use Rattle.zero_one_rows.specs.declared.program.Row.{Row}
@@ -25,10 +26,11 @@ use Rattle.certificate.specs.declared.tree.Record.{Record}
 use Rattle.certificate.specs.Entries.{end_of, entry_of, number_of}
 use Rattle.bound_checker.specs.Faults.{step_fault, raised_rows, short_fault, end_fault, tree_fault, first_fault}
 use Rattle.bound_checker.proofs.Bounding.{up_to}
-use Rattle.bound_checker.specs.Sums.{AreSmall, Carries}
+use Rattle.dual_bound.specs.Costs.{AreSmall}
+use Rattle.bound_checker.specs.Sums.{Carries}
 use Rattle.bound_checker.specs.Waits.{Before, IsSound, Waits, AllWait}
 use Rattle.bound_checker.specs.Prices.{Holds, Ends}
-use Rattle.bound_checker.specs.Walks.{Stands, StandsSome, IsAt, IsSomewhere, Narrows, Opens, Closes, Takes}
+use Rattle.bound_checker.specs.Walks.{Goes, frame_of, Stands, StandsSome, IsAt, IsSomewhere, Narrows, Opens, Closes, Takes}
 use Rattle.bound_checker.proofs.Waiting.{still_wait, moves_none, divided}
 
 no_two : (b : Bool) → b ≡ true → b ≡ false → ⊥
@@ -154,15 +156,15 @@ module _ (m : Voyage) (bounds : Bounds) (node : ℕ) where
   reversed_more fs fs' f e = ap reverse e ∙ reverse-append fs (f ∷ [])
 
   pub branched : (w u : Walk) (q : Pending Row) (qs : List (Pending Row)) (v x : ℕ) → Stands m w q qs → v ≡ x → x < length (variables m) → at w.b x ≡ None
-      → u.b ≡ fixed w.b x true → u.undo ≡ w.undo ++ x ∷ [] → u.prices ≡ w.prices → u.frames.items ≡ w.frames.items ++ record { var = x; mark = length w.undo; changes = length w.prices.changes.items } ∷ [] → u.done ≡ w.done → bounds.low ≤ bounds.high
+      → Goes m w (fixed w.b x true) (w.undo ++ x ∷ []) (w.frames.items ++ frame_of w x ∷ []) u → bounds.low ≤ bounds.high
       → Closes m bounds node q qs (Branch v) (Ok bounds.high) u
-  branched w u q qs v x stands e lt free box undo prices frames done order = (
+  branched w u q qs v x stands e lt free goes order = (
     first ∷ other ∷ qs,
     here,
     record {
       from = order;
       to = omega arith;
-      passes = λ bound le R. goes bound R;
+      passes = λ bound le R. passes bound R;
       fails = λ bound lt le. absurd (omega arith);
     },
   )
@@ -179,25 +181,26 @@ module _ (m : Voyage) (bounds : Bounds) (node : ℕ) where
       inside : x < length w.b
       inside = omega (arith, stands.len)
 
-      goes : (bound : ℕ) (R : List (Pending Row) → Option BoundNo) → end_fault (whole m) bound R node qs q.box (Ok q.multipliers) (Branch v) ≡ R (first ∷ other ∷ qs)
-      goes bound R =
+      passes : (bound : ℕ) (R : List (Pending Row) → Option BoundNo) → end_fault (whole m) bound R node qs q.box (Ok q.multipliers) (Branch v) ≡ R (first ∷ other ∷ qs)
+      passes bound R =
           let n : is_none (at q.box v) ≡ true = ap (λ (y : Box). is_none (at y v)) stands.box ∙ ap (λ (k : ℕ). is_none (at w.b k)) e ∙ ap is_none free in
           let l : nat_lt v (length (variables m)) ≡ true = below v (length (variables m)) (omega arith) in
           ap (λ (c : Bool). cond (c && is_none (at q.box v)) (R (first ∷ other ∷ qs)) (Some (BranchFixed node))) l ∙ ap (λ (c : Bool). cond c (R (first ∷ other ∷ qs)) (Some (BranchFixed node))) n
 
       wait : AllWait m (fixed w.b x true) (w.undo ++ x ∷ []) q.multipliers w.prices.changes.items (record { var = x; mark = length w.undo; changes = length w.prices.changes.items } ∷ reverse w.frames.items) (other ∷ qs)
       wait = subst (λ (c : Box). AllWait m (fixed w.b x true) (w.undo ++ x ∷ []) q.multipliers w.prices.changes.items (record { var = x; mark = length w.undo; changes = length w.prices.changes.items } ∷ reverse w.frames.items) (record { box = c; multipliers = q.multipliers } ∷ qs)) (sym (half false))
-          (divided m w.b w.undo q.multipliers w.prices.changes.items x inside free (reverse w.frames.items) qs stands.carries.small stands.waits)
+          (divided m w.b w.undo q.multipliers w.prices.changes.items x inside free (reverse w.frames.items) qs stands.carries.priced.small stands.waits)
 
       here : Stands m u first (other ∷ qs)
       here = record {
-        in_hand = done ∙ stands.in_hand;
-        box = half true ∙ sym box;
-        len = ap (λ (b : Box). length b) box ∙ length-set w.b x (Some true) ∙ stands.len;
-        inside = rw (box, undo, length-set w.b x (Some true)) (All-append (λ k. k < length w.b) w.undo (x ∷ []) stands.inside (All-cons (λ k. k < length w.b) x [] inside (All-nil (λ k. k < length w.b))));
-        carries = subst (λ p. Carries m q.multipliers p.sums) (sym prices) stands.carries;
-        sound = subst (λ p. All (IsSound m) p.changes.items) (sym prices) stands.sound;
-        waits = rw (box, undo, prices, reversed_more w.frames.items u.frames.items _ frames) wait;
+        in_hand = goes.done ∙ stands.in_hand;
+        box = half true ∙ sym goes.box;
+        len = ap (λ (b : Box). length b) goes.box ∙ length-set w.b x (Some true) ∙ stands.len;
+        inside = rw (goes.box, goes.fixes, length-set w.b x (Some true)) (All-append (λ k. k < length w.b) w.undo (x ∷ []) stands.inside (All-cons (λ k. k < length w.b) x [] inside (All-nil (λ k. k < length w.b))));
+        priced = goes.priced;
+        carries = goes.carries q.multipliers stands.carries;
+        sound = subst (λ p. All (IsSound m) p.items) (sym goes.changes) stands.sound;
+        waits = rw (goes.box, goes.fixes, goes.changes, reversed_more w.frames.items u.frames.items _ goes.waiting) wait;
       }
 
 -- ## The box that waits
@@ -224,10 +227,10 @@ module _ (m : Voyage) (w : Walk) (fs : List Frame) (f : Frame) (is : w.frames.it
       let l : length c ≡ length w.b = ap (λ (b : Box). length b) e ∙ freed_length w.b (drop f.mark w.undo) in
       (omega arith, ap (λ (b : Box). at b f.var) e ∙ n.3.free)
 
-  pub next_stands : (q : Pending Row) (qs : List (Pending Row)) (u : Walk) (c : Box) → Stands m w q qs → c ≡ released w.b w.undo f.mark → u.b ≡ fixed c f.var false → u.undo ≡ take f.mark w.undo ++ f.var ∷ []
+  pub next_stands : (q : Pending Row) (qs : List (Pending Row)) (u : Walk) → Stands m w q qs → u.b ≡ fixed (released w.b w.undo f.mark) f.var false → u.undo ≡ take f.mark w.undo ++ f.var ∷ [] → u.priced ≡ u.b
       → u.prices.changes.items ≡ take f.changes w.prices.changes.items → u.frames.items ≡ fs → u.done ≡ w.done
-      → ((ms ns : Multipliers Row) → Carries m ms w.prices.sums → Before ns f.changes w.prices.changes.items ms → AreSmall m ns → Carries m ns u.prices.sums) → IsAt m u qs
-  next_stands q qs u c stands e box undo changes frames done carries =
+      → ((ms ns : Multipliers Row) → Carries m w.b ms w.prices.sums → Before ns f.changes w.prices.changes.items ms → AreSmall m ns → Carries m u.b ns u.prices.sums) → IsAt m u qs
+  next_stands q qs u stands b undo priced changes frames done carries =
       let n = next_of q qs stands in subst (λ (rs : List (Pending Row)). IsAt m u rs) (sym n.2) (here n.0 n.1 n.3 n.4)
     where
       here : (next : Pending Row) (rest : List (Pending Row)) → Waits m w.b w.undo q.multipliers w.prices.changes.items f next
@@ -238,13 +241,13 @@ module _ (m : Voyage) (w : Walk) (fs : List Frame) (f : Frame) (is : w.frames.it
           let lt : f.var < length w.b = waits.inside in
           let inside : f.var < length r = omega arith in
           let one : Fixes r (fixed r f.var false) (f.var ∷ []) = fixes_one r f.var false inside waits.free in
-          let b : u.b ≡ fixed r f.var false = box ∙ ap (λ (x : Box). fixed x f.var false) e in
           let len : length (fixed r f.var false) ≡ length w.b = length-set r f.var (Some false) ∙ l in
           record {
             in_hand = done ∙ stands.in_hand;
             box = waits.box ∙ sym b;
             len = ap (λ (x : Box). length x) b ∙ len ∙ stands.len;
             inside = rw (b, undo, len) (All-append (λ k. k < length w.b) (take f.mark w.undo) (f.var ∷ []) (All-take (λ k. k < length w.b) f.mark w.undo stands.inside) (All-cons (λ k. k < length w.b) f.var [] lt (All-nil (λ k. k < length w.b))));
+            priced = priced;
             carries = carries q.multipliers next.multipliers stands.carries waits.amounts waits.small;
             sound = rw changes (All-take (IsSound m) f.changes w.prices.changes.items stands.sound);
             waits = rw (b, undo, changes, frames) (still_wait m r (fixed r f.var false) (take f.mark w.undo) (take f.mark w.undo ++ f.var ∷ []) (f.var ∷ []) next.multipliers next.multipliers (take f.changes w.prices.changes.items) (take f.changes w.prices.changes.items) refl one.back (moves_none m next.multipliers (take f.changes w.prices.changes.items)) (reverse fs) rest all);
@@ -260,14 +263,18 @@ none_left m w u q qs none done stands = by qs (subst (λ (gs : List Frame). AllW
 
 -- ## Steps and raises
 
+-- what was noted past the end of a list
+pub noted_past : (us us' xs : List ℕ) (mark : ℕ) (ys : List ℕ) → us' ≡ us ++ xs → mark ≡ length us → ys ≡ drop mark us' → ys ≡ xs
+noted_past us us' xs mark ys is at past = past ∙ ap (λ (k : ℕ). drop k us') at ∙ ap (drop (length us)) is ∙ drop-append_seam us xs
+
 module _ (m : Voyage) (node : ℕ) (w : Walk) (q : Pending Row) (qs : List (Pending Row)) (e : Entry Row) where
   pub not_stepped : (v : Walk) (r : Result (Unit {0}) BoundNo) (f : BoundNo) → r ≡ Err f → (f ≢ NoMemory → step_fault (whole m) node e.steps ≡ Some f) → Opens m node q qs e r v
   not_stepped v r f is some = subst (λ (r : Result (Unit {0}) BoundNo). Opens m node q qs e r v) (sym is) (λ other. inl (some other))
 
-  pub opened : (v : Walk) (xs : List ℕ) (r : Result (Unit {0}) BoundNo) → Stands m w q qs → step_fault (whole m) node e.steps ≡ None → v.b ≡ tightened (whole m) w.b e.steps → v.undo ≡ w.undo ++ xs → Fixes w.b v.b xs
+  pub opened : (v : Walk) (xs : List ℕ) (r : Result (Unit {0}) BoundNo) → Stands m w q qs → step_fault (whole m) node e.steps ≡ None → v.b ≡ tightened (whole m) w.b e.steps → v.undo ≡ w.undo ++ xs → v.priced ≡ v.b → Fixes w.b v.b xs
       → v.frames.items ≡ w.frames.items → v.done ≡ w.done
-      → Ends (λ ns. Holds m q.multipliers w.prices.changes.items ns v.prices) (raised_rows (whole m) node (Ok (begun e.from_zero q.multipliers)) e.raises) r → Opens m node q qs e r v
-  opened v xs r stands none box undo fixes frames done ends = by (raised_rows (whole m) node (Ok (begun e.from_zero q.multipliers)) e.raises) refl r ends
+      → Ends (λ ns. Holds m v.b q.multipliers w.prices.changes.items ns v.prices) (raised_rows (whole m) node (Ok (begun e.from_zero q.multipliers)) e.raises) r → Opens m node q qs e r v
+  opened v xs r stands none box undo priced fixes frames done ends = by (raised_rows (whole m) node (Ok (begun e.from_zero q.multipliers)) e.raises) refl r ends
     where
       len : length v.b ≡ length w.b
       len = sym (freed_length v.b xs) ∙ ap (λ (b : Box). length b) fixes.back
@@ -275,12 +282,13 @@ module _ (m : Voyage) (node : ℕ) (w : Walk) (q : Pending Row) (qs : List (Pend
       inside : All (λ k. k < length w.b) v.undo
       inside = subst (λ (us : List ℕ). All (λ k. k < length w.b) us) (sym undo) (All-append (λ k. k < length w.b) w.undo xs stands.inside fixes.inside)
 
-      now : (ms : Multipliers Row) → Holds m q.multipliers w.prices.changes.items ms v.prices → Stands m v (record { box = tightened (whole m) q.box e.steps; multipliers = ms }) qs
+      now : (ms : Multipliers Row) → Holds m v.b q.multipliers w.prices.changes.items ms v.prices → Stands m v (record { box = tightened (whole m) q.box e.steps; multipliers = ms }) qs
       now ms holds = record {
         in_hand = done ∙ stands.in_hand;
         box = ap (λ (b : Box). tightened (whole m) b e.steps) stands.box ∙ sym box;
         len = len ∙ stands.len;
         inside = subst (λ (n : ℕ). All (λ k. k < n) v.undo) (sym len) inside;
+        priced = priced;
         carries = holds.carries;
         sound = subst (λ (k : List Change). All (IsSound m) k) (sym holds.moves.added) (All-append (IsSound m) w.prices.changes.items holds.moves.more stands.sound holds.moves.sound);
         waits = subst (λ (fs : List Frame). AllWait m v.b v.undo ms v.prices.changes.items (reverse fs) qs) (sym frames)
@@ -288,7 +296,7 @@ module _ (m : Voyage) (node : ℕ) (w : Walk) (q : Pending Row) (qs : List (Pend
       }
 
       by : (o : Result (Multipliers Row) BoundNo) → raised_rows (whole m) node (Ok (begun e.from_zero q.multipliers)) e.raises ≡ o → (r : Result (Unit {0}) BoundNo)
-          → Ends (λ ns. Holds m q.multipliers w.prices.changes.items ns v.prices) o r → Opens m node q qs e r v
+          → Ends (λ ns. Holds m v.b q.multipliers w.prices.changes.items ns v.prices) o r → Opens m node q qs e r v
       by (Ok ms) is (Ok u) h = (none, (ms, is, now ms h))
       by (Ok ms) is (Err f) h = λ other. absurd (other h)
       by (Err f) is (Ok u) h = absurd h

@@ -10,7 +10,7 @@ use Rattle.zero_one_rows.specs.Rows.{whole}
 use Rattle.certificate.specs.Entries.{same_row}
 use Rattle.bound_checker.specs.declared.prices.Change.{Change}
 use Rattle.bound_checker.specs.declared.walk.Frame.{Frame}
-use Rattle.bound_checker.specs.Sums.{AreSmall}
+use Rattle.dual_bound.specs.Costs.{AreSmall}
 
 -- a row's multiplier before these changes: what the first change of the row found
 abbrev pub back_at : Row → ℕ → List Change → ℕ

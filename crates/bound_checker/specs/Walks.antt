@@ -1,18 +1,45 @@
 -- Where the checker stands in a tree. No public clause cites this module.
-use Rattle.std.specs.Prelude.{◌≡◌, ◌≢◌, ℕ, ◌+◌, ◌<◌, ◌≤◌, true, false, All, List, [], ◌∷◌, length, reverse, Option, Some, None, Result, Ok, Err, ◌⊎◌}
+use Rattle.std.specs.Prelude.{◌≡◌, ◌≢◌, ℕ, ◌+◌, ◌<◌, ◌≤◌, true, false, All, List, [], ◌∷◌, ◌++◌, length, reverse, Option, Some, None, Result, Ok, Err, ◌⊎◌}
 use Rattle.zero_one_rows.specs.declared.program.Row.{Row}
 use Rattle.zero_one_rows.specs.Variables.{Voyage, variables}
 use Rattle.zero_one_rows.specs.Rows.{whole}
-use Rattle.proof_trees.specs.Boxes.{tightened}
+use Rattle.proof_trees.specs.Boxes.{Box, tightened}
 use Rattle.proof_trees.specs.Multipliers.{Multipliers}
 use Rattle.proof_trees.specs.Trees.{End, Entry, Pending, begun}
 use Rattle.certificate.specs.declared.refusals.BoundNo.{BoundNo}
 use Rattle.certificate.specs.declared.refusals.BoundNo.TheVariants.{NoMemory}
 use Rattle.bound_checker.specs.declared.walk.Bounds.{Bounds}
+use Rattle.partial_plan.specs.Fixing.{Fixes}
+use Rattle.bound_checker.specs.declared.walk.Frame.{Frame}
 use Rattle.bound_checker.specs.declared.walk.Walk.{Walk}
 use Rattle.bound_checker.specs.Faults.{step_fault, raised_rows, end_fault, tree_fault}
-use Rattle.bound_checker.specs.Sums.{Carries}
+use Rattle.bound_checker.specs.Sums.{Carries, CarriesSome}
 use Rattle.bound_checker.specs.Waits.{IsSound, AllWait}
+
+-- the dual value that is kept is that of the box in hand
+pub record IsPriced (m : Voyage) (w : Walk) : Type 0 where
+  pub same : w.priced ≡ w.b
+  pub carries : CarriesSome m w.b w.prices.sums
+
+-- this box comes into hand, with the variables that were fixed and the frames; multipliers and their changes stay
+pub record Goes (m : Voyage) (w : Walk) (b : Box) (undo : List ℕ) (frames : List Frame) (v : Walk) : Type 0 where
+  pub box : v.b ≡ b
+  pub fixes : v.undo ≡ undo
+  pub waiting : v.frames.items ≡ frames
+  pub priced : v.priced ≡ v.b
+  pub carries : (ms : Multipliers Row) → Carries m w.b ms w.prices.sums → Carries m v.b ms v.prices.sums
+  pub changes : v.prices.changes ≡ w.prices.changes
+  pub done : v.done ≡ w.done
+
+-- the box in hand is tightened
+pub record Tightens (m : Voyage) (w : Walk) (steps : List Row) (v : Walk) : Type 0 where
+  pub fixed : List ℕ
+  pub fixes : Fixes w.b v.b fixed
+  pub goes : Goes m w (tightened (whole m) w.b steps) (w.undo ++ fixed) w.frames.items v
+
+-- what leads back to the half of value 0
+abbrev pub frame_of : Walk → ℕ → Frame
+frame_of w x = record { var = x; mark = length w.undo; changes = length w.prices.changes.items }
 
 -- this box is in hand, and these wait
 pub record Stands (m : Voyage) (w : Walk) (q : Pending Row) (qs : List (Pending Row)) : Type 0 where
@@ -20,7 +47,8 @@ pub record Stands (m : Voyage) (w : Walk) (q : Pending Row) (qs : List (Pending 
   pub box : q.box ≡ w.b
   pub len : length w.b ≡ length (variables m)
   pub inside : All (λ v. v < length w.b) w.undo
-  pub carries : Carries m q.multipliers w.prices.sums
+  pub priced : w.priced ≡ w.b
+  pub carries : Carries m w.b q.multipliers w.prices.sums
   pub sound : All (IsSound m) w.prices.changes.items
   pub waits : AllWait m w.b w.undo q.multipliers w.prices.changes.items (reverse w.frames.items) qs
 

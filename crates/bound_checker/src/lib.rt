@@ -4,6 +4,7 @@
 mod amounts;
 mod check;
 mod laws;
+mod priced_box;
 mod prices;
 mod steps;
 mod sums;

@@ -3,11 +3,13 @@ ghost use Rattle.std.specs.Prelude.{◌≡◌, ℕ, ◌<◌, ◌≤◌, ◌^◌,
 ghost use Rattle.proof_trees.specs.Multipliers.{Multipliers, with_amount};
 ghost use Rattle.proof_trees.specs.Trees.{begun};
 ghost use Rattle.zero_one_rows.specs.declared.program.Row.{Row as Rows};
+ghost use Rattle.zero_one_rows.specs.Variables.{variables};
 ghost use Rattle.zero_one_rows.specs.Rows.{whole};
 ghost use Rattle.bound_checker.specs.declared.prices.Change.{Change as Changes};
 ghost use Rattle.certificate.specs.Entries.{raise_of, same_row};
 ghost use Rattle.bound_checker.specs.Faults.{raised_row, raised_rows};
-ghost use Rattle.bound_checker.specs.Sums.{AreSmall, Carries, CarriesSome};
+ghost use Rattle.dual_bound.specs.Costs.{AreSmall};
+ghost use Rattle.bound_checker.specs.Sums.{Carries, CarriesSome};
 ghost use Rattle.bound_checker.specs.Waits.{IsSound, Before};
 ghost use Rattle.bound_checker.specs.Prices.{Holds, HoldsSome, Ends};
 
@@ -16,11 +18,8 @@ use crate::sums::{Sums, changed};
 use certificate::BoundNo;
 use std::alloc::Global;
 use stow_data::NoMemory;
-use zero_one_model::Model;
+use zero_one_model::{Box01, Model};
 use zero_one_rows::{Raise, Row};
-
-/// The most rows of a program.
-const MOST_ROWS: u64 = 2_000_000;
 
 /// A row whose multiplier was changed, and its multiplier before.
 #[derive(Drop)]
@@ -40,19 +39,20 @@ pub struct Prices {
 fn turned(amount: u64) -> i64
     requires { amount ≤ 2 ^ 40 }
     ensures value { pos amount +ℤ result ≡ pos 0 }
-    ensures size { unsigned_abs result ≤ 2 ^ 41 }
+    ensures size { unsigned_abs result ≤ 2 ^ 40 }
 {
     -(amount as i64)
 }
 
 impl Prices {
     /// No multipliers, and no changes.
-    pub fn none(alloc: Global, model: &Model) -> Result<Prices, NoMemory>
-        ensures carries { IfOk result (λ p. Carries model.now [] p.sums) }
+    pub fn none(alloc: Global, model: &Model, b: &Box01) -> Result<Prices, NoMemory>
+        requires { length b.now ≡ length (variables model.now) }
+        ensures carries { IfOk result (λ p. Carries model.now b.now [] p.sums) }
         ensures changes { IfOk result (λ p. p.changes.items ≡ []) }
     {
         Ok(Prices {
-            sums: Sums::none(alloc, model)?,
+            sums: Sums::none(alloc, model, b)?,
             changes: Vec::new(alloc),
         })
     }
@@ -62,18 +62,17 @@ impl Prices {
         &mut self,
         alloc: Global,
         model: &Model,
+        b: &Box01,
         row: &Row,
         amount: u64,
     ) -> Result<(), NoMemory>
         requires row { (whole model.now).has row.now ≡ true }
         requires amount { amount ≤ 2 ^ 40 }
-        requires carries { CarriesSome model.now self.old.sums }
-        ensures { (first ms : Multipliers Rows) (k : List Changes) → Holds model.now first k ms self.old → OnOk result (Holds model.now first k (with_amount same_row ms row.now amount) self.new) }
+        requires carries { CarriesSome model.now b.now self.old.sums }
+        ensures { (first ms : Multipliers Rows) (k : List Changes) → Holds model.now b.now first k ms self.old → OnOk result (Holds model.now b.now first k (with_amount same_row ms row.now amount) self.new) }
     {
-        let rows = model.rows();
-        prove!(rows <= MOST_ROWS);
         let old = self.sums.amounts.at(row);
-        self.sums.give(alloc, model, row, amount)?;
+        self.sums.give(alloc, model, b, row, amount)?;
         self.changes.push(Change {
             row: copy_of(row)?,
             old,
@@ -86,21 +85,20 @@ impl Prices {
         &mut self,
         alloc: Global,
         model: &Model,
+        b: &Box01,
         raise: &Raise,
         node: u32,
     ) -> Result<(), BoundNo>
-        requires carries { CarriesSome model.now self.old.sums }
-        ensures { (first ms : Multipliers Rows) (k : List Changes) → Holds model.now first k ms self.old → Ends (λ ns. Holds model.now first k ns self.new) (raised_row (whole model.now) node ms (raise_of raise.now)) result }
+        requires carries { CarriesSome model.now b.now self.old.sums }
+        ensures { (first ms : Multipliers Rows) (k : List Changes) → Holds model.now b.now first k ms self.old → Ends (λ ns. Holds model.now b.now first k ns self.new) (raised_row (whole model.now) node ms (raise_of raise.now)) result }
     {
         if !model.has_row(&raise.row) {
             return Err(BoundNo::StepRow { node });
         }
-        let rows = model.rows();
-        prove!(rows <= MOST_ROWS);
         let Some(amount) = changed(self.sums.amounts.at(&raise.row), raise.amount) else {
             return Err(BoundNo::Multiplier { node });
         };
-        self.change(alloc, model, &raise.row, amount)?;
+        self.change(alloc, model, b, &raise.row, amount)?;
         Ok(())
     }
 
@@ -109,56 +107,61 @@ impl Prices {
         &mut self,
         alloc: Global,
         model: &Model,
+        b: &Box01,
         raises: &[Raise],
         node: u32,
     ) -> Result<(), BoundNo>
-        requires carries { CarriesSome model.now self.old.sums }
-        ensures { (first ms : Multipliers Rows) (k : List Changes) → Holds model.now first k ms self.old → Ends (λ ns. Holds model.now first k ns self.new) (raised_rows (whole model.now) node (Ok ms) (map raise_of raises.now)) result }
+        requires carries { CarriesSome model.now b.now self.old.sums }
+        ensures { (first ms : Multipliers Rows) (k : List Changes) → Holds model.now b.now first k ms self.old → Ends (λ ns. Holds model.now b.now first k ns self.new) (raised_rows (whole model.now) node (Ok ms) (map raise_of raises.now)) result }
     {
         for raise in raises {
-            self.raise(alloc, model, raise, node)?;
+            self.raise(alloc, model, b, raise, node)?;
         }
         Ok(())
     }
 
     // Gives one row with a multiplier the multiplier 0; false where there is none.
-    fn clear_one(&mut self, alloc: Global, model: &Model) -> Result<bool, NoMemory>
-        requires carries { CarriesSome model.now self.old.sums }
-        ensures holds { (first ms : Multipliers Rows) (k : List Changes) → Holds model.now first k ms self.old → OnOk result (HoldsSome model.now first k self.new) }
+    fn clear_one(&mut self, alloc: Global, model: &Model, b: &Box01) -> Result<bool, NoMemory>
+        requires carries { CarriesSome model.now b.now self.old.sums }
+        ensures holds { (first ms : Multipliers Rows) (k : List Changes) → Holds model.now b.now first k ms self.old → OnOk result (HoldsSome model.now b.now first k self.new) }
         ensures less { result ≡ Ok true → length self.new.sums.amounts < length self.old.sums.amounts }
         ensures none { result ≡ Ok false → self.new.sums.amounts ≡ [] }
     {
-        let rows = model.rows();
-        prove!(rows <= MOST_ROWS);
         let Some((row, amount)) = self.sums.amounts.take_first() else {
             return Ok(false);
         };
         if amount > 0 {
-            self.sums.add_row(alloc, model, &row, turned(amount))?;
+            self.sums.add_row(alloc, model, b, &row, turned(amount))?;
             self.changes.push(Change { row, old: amount })?;
         }
         Ok(true)
     }
 
     /// Gives each row the multiplier 0.
-    pub fn clear(&mut self, alloc: Global, model: &Model) -> Result<(), NoMemory>
-        requires carries { CarriesSome model.now self.old.sums }
-        ensures { (first ms : Multipliers Rows) (k : List Changes) → Holds model.now first k ms self.old → OnOk result (Holds model.now first k [] self.new) }
+    pub fn clear(&mut self, alloc: Global, model: &Model, b: &Box01) -> Result<(), NoMemory>
+        requires carries { CarriesSome model.now b.now self.old.sums }
+        ensures { (first ms : Multipliers Rows) (k : List Changes) → Holds model.now b.now first k ms self.old → OnOk result (Holds model.now b.now first k [] self.new) }
     {
         let mut more = true;
         while more {
-            more = self.clear_one(alloc, model)?;
+            more = self.clear_one(alloc, model, b)?;
         }
         Ok(())
     }
 
     // What a record begins with.
-    fn begin(&mut self, alloc: Global, model: &Model, from_zero: bool) -> Result<(), NoMemory>
-        requires carries { CarriesSome model.now self.old.sums }
-        ensures { (first ms : Multipliers Rows) (k : List Changes) → Holds model.now first k ms self.old → OnOk result (Holds model.now first k (begun from_zero ms) self.new) }
+    fn begin(
+        &mut self,
+        alloc: Global,
+        model: &Model,
+        b: &Box01,
+        from_zero: bool,
+    ) -> Result<(), NoMemory>
+        requires carries { CarriesSome model.now b.now self.old.sums }
+        ensures { (first ms : Multipliers Rows) (k : List Changes) → Holds model.now b.now first k ms self.old → OnOk result (Holds model.now b.now first k (begun from_zero ms) self.new) }
     {
         if from_zero {
-            self.clear(alloc, model)?;
+            self.clear(alloc, model, b)?;
         }
         Ok(())
     }
@@ -168,28 +171,35 @@ impl Prices {
         &mut self,
         alloc: Global,
         model: &Model,
+        b: &Box01,
         from_zero: bool,
         raises: &[Raise],
         node: u32,
     ) -> Result<(), BoundNo>
-        requires carries { CarriesSome model.now self.old.sums }
-        ensures { (first ms : Multipliers Rows) (k : List Changes) → Holds model.now first k ms self.old → Ends (λ ns. Holds model.now first k ns self.new) (raised_rows (whole model.now) node (Ok (begun from_zero ms)) (map raise_of raises.now)) result }
+        requires carries { CarriesSome model.now b.now self.old.sums }
+        ensures { (first ms : Multipliers Rows) (k : List Changes) → Holds model.now b.now first k ms self.old → Ends (λ ns. Holds model.now b.now first k ns self.new) (raised_rows (whole model.now) node (Ok (begun from_zero ms)) (map raise_of raises.now)) result }
     {
-        self.begin(alloc, model, from_zero)?;
-        self.raise_all(alloc, model, raises, node)
+        self.begin(alloc, model, b, from_zero)?;
+        self.raise_all(alloc, model, b, raises, node)
     }
 
     /// Takes back what was changed past a place of the list, the last first.
-    pub fn take_back(&mut self, alloc: Global, model: &Model, to: usize) -> Result<(), NoMemory>
-        requires carries { CarriesSome model.now self.old.sums }
+    pub fn take_back(
+        &mut self,
+        alloc: Global,
+        model: &Model,
+        b: &Box01,
+        to: usize,
+    ) -> Result<(), NoMemory>
+        requires carries { CarriesSome model.now b.now self.old.sums }
         requires to { to ≤ length self.old.changes.items }
         requires sound { All (IsSound model.now) self.old.changes.items }
-        ensures carries { (ms ns : Multipliers Rows) → Carries model.now ms self.old.sums → Before ns to self.old.changes.items ms → AreSmall model.now ns → OnOk result (Carries model.now ns self.new.sums) }
+        ensures carries { (ms ns : Multipliers Rows) → Carries model.now b.now ms self.old.sums → Before ns to self.old.changes.items ms → AreSmall model.now ns → OnOk result (Carries model.now b.now ns self.new.sums) }
         ensures changes { OnOk result (self.new.changes.items ≡ take to self.old.changes.items) }
     {
         while self.changes.len() > to {
             if let Some(change) = self.changes.pop() {
-                self.sums.give(alloc, model, &change.row, change.old)?;
+                self.sums.give(alloc, model, b, &change.row, change.old)?;
             }
         }
         Ok(())

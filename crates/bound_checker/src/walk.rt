@@ -1,17 +1,19 @@
 //! A tree in preorder, walked with one box and one set of multipliers.
-ghost use Rattle.std.specs.Prelude.{◌≡◌, ◌≢◌, ℕ, ◌≤◌, ◌≤ℤ◌, true, false, List, [], ◌∷◌, ◌++◌, length, slice_get, OnOk, IfOk, MatchResult, None, Some};
-ghost use Rattle.proof_trees.specs.Boxes.{fixed};
+ghost use Rattle.std.specs.Prelude.{◌≡◌, ◌≢◌, ℕ, ◌<◌, ◌≤◌, ◌≤ℤ◌, true, false, All, List, [], ◌∷◌, ◌++◌, length, take, drop, slice_get, OnOk, IfOk, IfErr, MatchResult, None, Some};
+ghost use Rattle.proof_trees.specs.Boxes.{Box, fixed};
 ghost use Rattle.proof_trees.specs.Multipliers.{Multipliers};
 ghost use Rattle.proof_trees.specs.Trees.{Pending, root};
 ghost use Rattle.proof_trees.specs.Trees.{Leaf as Leaves, Branch as Branches};
 ghost use Rattle.zero_one_rows.specs.declared.program.Row.{Row as Rows};
-ghost use Rattle.zero_one_rows.specs.Variables.{variables};
+ghost use Rattle.zero_one_rows.specs.Variables.{Voyage, variables};
 ghost use Rattle.zero_one_rows.specs.Rows.{whole};
+ghost use Rattle.partial_plan.specs.Fixing.{released};
 ghost use Rattle.certificate.specs.Entries.{entry_of, end_of, number_of};
-ghost use Rattle.bound_checker.specs.Faults.{needed, short_fault};
-ghost use Rattle.bound_checker.specs.Sums.{Carries, CarriesSome};
-ghost use Rattle.bound_checker.specs.Walks.{Stands, StandsSome, IsAt, IsSomewhere, Narrows, Opens, Closes, Takes};
+ghost use Rattle.bound_checker.specs.Faults.{needed, short_fault, step_fault};
+ghost use Rattle.bound_checker.specs.Sums.{Carries};
+ghost use Rattle.bound_checker.specs.Walks.{IsPriced, Goes, Tightens, frame_of, Stands, StandsSome, IsAt, IsSomewhere, Narrows, Opens, Closes, Takes};
 
+use crate::priced_box::{allow, follow, free_all};
 use crate::prices::Prices;
 use crate::steps::tighten_all;
 use crate::sums::Sums;
@@ -20,7 +22,7 @@ use partial_plan::{UndoList, undo};
 use std::alloc::Global;
 use stow_data::{NoMemory, VarNo};
 use zero_one_model::{Box01, Model};
-use zero_one_rows::Var;
+use zero_one_rows::{Row, Var};
 
 /// A variable whose half of value 0 waits, and how much was fixed and changed before it.
 #[derive(Clone, Copy)]
@@ -35,6 +37,9 @@ pub struct Frame {
 pub struct Walk {
     pub b: Box01,
     pub undo: UndoList,
+
+    /// The box whose dual value is kept: the one in hand, but for the time of a record's steps.
+    pub priced: Box01,
     pub prices: Prices,
     pub frames: Vec<Frame>,
 
@@ -73,20 +78,12 @@ fn closing_bound(value: i128, most: u64) -> u64
 }
 
 // The greatest bound up to the high one at which a box closes, where it closes at the low one.
-fn close_box(
-    model: &Model,
-    b: &Box01,
-    sums: &Sums,
-    bounds: Bounds,
-    node: u32,
-) -> Result<u64, BoundNo>
-    requires carries { CarriesSome model.now sums.now }
-    requires whole { length b.now ≡ length (variables model.now) }
-    requires order { bounds.low ≤ bounds.high }
-    ensures { (ms : Multipliers Rows) → Carries model.now ms sums.now
-        → MatchResult result (λ best. Narrows bounds.low bounds.high best (λ bound. short_fault (whole model.now) bound node b.now ms ≡ None) (λ bound. short_fault (whole model.now) bound node b.now ms ≢ None)) (λ fault. short_fault (whole model.now) bounds.low node b.now ms ≡ Some fault) }
+fn close_box(sums: &Sums, bounds: Bounds, node: u32) -> Result<u64, BoundNo>
+    requires { bounds.low ≤ bounds.high }
+    ensures { (m : Voyage) (b : Box) (ms : Multipliers Rows) → Carries m b ms sums.now
+        → MatchResult result (λ best. Narrows bounds.low bounds.high best (λ bound. short_fault (whole m) bound node b ms ≡ None) (λ bound. short_fault (whole m) bound node b ms ≢ None)) (λ fault. short_fault (whole m) bounds.low node b ms ≡ Some fault) }
 {
-    let value = sums.value(model, b);
+    let value = sums.value();
     let needed = needed_value(bounds.low);
     if value < needed {
         return Err(BoundNo::LeafShort {
@@ -98,18 +95,59 @@ fn close_box(
     Ok(closing_bound(value, bounds.high))
 }
 
+// What was noted past a place of the list.
+fn past(undo: &UndoList, mark: usize) -> &[VarNo]
+    requires { mark ≤ length undo.now }
+    ensures { result.now ≡ drop mark undo.now }
+{
+    &undo.as_slice()[mark..]
+}
+
 impl Walk {
     /// At the root: all variables are free, and no row has a multiplier.
     pub fn start(alloc: Global, model: &Model) -> Result<Walk, NoMemory>
         ensures { IfOk result (λ w. IsAt model.now w (root (whole model.now) ∷ [])) }
     {
+        let priced = Box01::free(alloc, model)?;
+        let prices = Prices::none(alloc, model, &priced)?;
         Ok(Walk {
             b: Box01::free(alloc, model)?,
             undo: UndoList::new(alloc),
-            prices: Prices::none(alloc, model)?,
+            priced,
+            prices,
             frames: Vec::new(alloc),
             done: false,
         })
+    }
+
+    // Frees what was fixed past a place of the list.
+    fn release(&mut self, model: &Model, mark: usize)
+        requires mark { mark ≤ length self.old.undo }
+        requires inside { All (λ v. v < length self.old.b) self.old.undo }
+        requires priced { IsPriced model.now self.old }
+        ensures { Goes model.now self.old (released self.old.b self.old.undo mark) (take mark self.old.undo) self.old.frames.items self.new }
+    {
+        let fixed = past(&self.undo, mark);
+        free_all(model, fixed, &mut self.priced, &mut self.prices.sums);
+        undo(&mut self.b, &mut self.undo, mark);
+    }
+
+    // Fixes a free variable.
+    fn halve(&mut self, model: &Model, x: VarNo, value: bool) -> Result<(), NoMemory>
+        requires free { slice_get self.old.b x ≡ Some None }
+        requires priced { IsPriced model.now self.old }
+        ensures { OnOk result (Goes model.now self.old (fixed self.old.b x value) (self.old.undo ++ x ∷ []) self.old.frames.items self.new) }
+    {
+        self.undo.push(x)?;
+        self.b.fix(x, value);
+        allow(
+            model,
+            &mut self.priced,
+            &mut self.prices.sums,
+            x,
+            Some(value),
+        );
+        Ok(())
     }
 
     // Goes on to the box that waits.
@@ -121,10 +159,9 @@ impl Walk {
             self.done = true;
             return Ok(());
         };
-        undo(&mut self.b, &mut self.undo, frame.mark);
-        self.prices.take_back(alloc, model, frame.changes)?;
-        self.undo.push(frame.var)?;
-        self.b.fix(frame.var, false);
+        self.release(model, frame.mark);
+        self.prices.take_back(alloc, model, &self.b, frame.changes)?;
+        self.halve(model, frame.var, false)?;
         Ok(())
     }
 
@@ -140,27 +177,24 @@ impl Walk {
         requires order { bounds.low ≤ bounds.high }
         ensures { (q : Pending Rows) (qs : List (Pending Rows)) → Stands model.now self.old q qs → Closes model.now bounds node q qs Leaves result self.new }
     {
-        let best = close_box(model, &self.b, &self.prices.sums, bounds, node)?;
+        let best = close_box(&self.prices.sums, bounds, node)?;
         self.leave(alloc, model)?;
         Ok(best)
     }
 
     // The half of value 1 comes into hand, and the other waits.
-    fn divide(&mut self, x: VarNo) -> Result<(), NoMemory>
+    fn divide(&mut self, model: &Model, x: VarNo) -> Result<(), NoMemory>
         requires free { slice_get self.old.b x ≡ Some None }
-        ensures halved { OnOk result (self.new.b ≡ fixed self.old.b x true) }
-        ensures noted { OnOk result (self.new.undo ≡ self.old.undo ++ x ∷ []) }
-        ensures prices { OnOk result (self.new.prices ≡ self.old.prices) }
-        ensures frames { OnOk result (self.new.frames.items ≡ self.old.frames.items ++ record { var = x; mark = length self.old.undo; changes = length self.old.prices.changes.items } ∷ []) }
-        ensures done { OnOk result (self.new.done ≡ self.old.done) }
+        requires priced { IsPriced model.now self.old }
+        ensures { OnOk result (Goes model.now self.old (fixed self.old.b x true) (self.old.undo ++ x ∷ []) (self.old.frames.items ++ frame_of self.old x ∷ []) self.new) }
     {
-        self.frames.push(Frame {
+        let frame = Frame {
             var: x,
             mark: self.undo.len(),
             changes: self.prices.changes.len(),
-        })?;
-        self.undo.push(x)?;
-        self.b.fix(x, true);
+        };
+        self.halve(model, x, true)?;
+        self.frames.push(frame)?;
         Ok(())
     }
 
@@ -182,7 +216,7 @@ impl Walk {
         if self.b.at(x).is_some() {
             return Err(BoundNo::BranchFixed { node });
         }
-        self.divide(x)?;
+        self.divide(model, x)?;
         Ok(bounds.high)
     }
 
@@ -205,6 +239,33 @@ impl Walk {
         }
     }
 
+    // A record's steps.
+    fn tighten(
+        &mut self,
+        alloc: Global,
+        model: &Model,
+        steps: &[Row],
+        node: u32,
+    ) -> Result<(), BoundNo>
+        requires whole { length self.old.b ≡ length (variables model.now) }
+        requires priced { IsPriced model.now self.old }
+        ensures faultless { OnOk result (step_fault (whole model.now) node steps.now ≡ None) }
+        ensures tightened { OnOk result (Tightens model.now self.old steps.now self.new) }
+        ensures refused { IfErr result (λ f. f ≢ BoundNo.NoMemory → step_fault (whole model.now) node steps.now ≡ Some f) }
+    {
+        let mark = self.undo.len();
+        tighten_all(alloc, model, &mut self.b, &mut self.undo, steps, node)?;
+        let fixed = past(&self.undo, mark);
+        follow(
+            model,
+            &self.b,
+            fixed,
+            &mut self.priced,
+            &mut self.prices.sums,
+        );
+        Ok(())
+    }
+
     // A record's steps and raises.
     fn open(
         &mut self,
@@ -216,15 +277,11 @@ impl Walk {
         requires stands { StandsSome model.now self.old }
         ensures { (q : Pending Rows) (qs : List (Pending Rows)) → Stands model.now self.old q qs → Opens model.now node q qs (entry_of model.now entry.now) result self.new }
     {
-        tighten_all(
-            alloc,
-            model,
-            &mut self.b,
-            &mut self.undo,
-            entry.steps.as_slice(),
-            node,
-        )?;
-        self.prices.take(alloc, model, entry.from_zero, entry.raises.as_slice(), node)
+        let steps = entry.steps.as_slice();
+        self.tighten(alloc, model, steps, node)?;
+        let raises = entry.raises.as_slice();
+        self.prices
+            .take(alloc, model, &self.b, entry.from_zero, raises, node)
     }
 
     /// One record: the greatest bound up to the high one that it doesn't refute.

@@ -1,17 +1,15 @@
-use Rattle.std.proofs.Common.{rules, arith, ◌≡◌, ◌≤◌, ◌^◌, ◌∙◌, sym, subst, ℕ, [], ◌∷◌, ◌++◌, length}
-use Rattle.program_rows.specs.Counted.{all_rows}
+use Rattle.std.proofs.Common.{rules, ◌≡◌, ◌≤◌, ◌^◌, ◌∙◌, sym, subst, ℕ, [], ◌∷◌, ◌++◌}
 use Rattle.proof_trees.specs.Multipliers.{with_amount}
 use Rattle.bound_checker.specs.declared.prices.Change.{Change}
 use Rattle.certificate.specs.Entries.{same_row}
-use Rattle.bound_checker.proofs.Room.{has_room}
+use Rattle.bound_checker.proofs.Raising.{amounts_low}
 use Rattle.bound_checker.proofs.Waiting.{moves_one, moves_more}
 use Rattle.bound_checker.proofs.prices.Prices.change.Goals as goal
 
 pub returns : goal.returns
 returns c = λ first ms k holds.
-    let few : length (all_rows c.args.model.now) ≤ 2000000 = omega (arith, c.rows-rows.ensures.number, c.rows-rows.ensures.size) in
     let one : Change = record { row = c.args.row.now; old = c.at-old.result } in
-    let low : c.at-old.result ≤ 2 ^ 40 = subst (λ (n : ℕ). n ≤ 2 ^ 40) (sym c.at-old.ensures) ((has_room c.args.model.now ms c.args.self.now.sums few holds.carries).amounts c.args.row.now) in
+    let low : c.at-old.result ≤ 2 ^ 40 = subst (λ (n : ℕ). n ≤ 2 ^ 40) (sym c.at-old.ensures) (amounts_low c.args.model.now c.args.b.now ms c.args.self.now.sums holds.carries c.args.row.now) in
     let e : c.push.new.self.items ≡ c.args.self.now.changes.items ++ one ∷ [] = search rules in
     record {
       carries = c.in_ok-give.ensures ms holds.carries;

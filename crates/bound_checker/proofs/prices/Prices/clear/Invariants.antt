@@ -8,8 +8,8 @@ use Rattle.bound_checker.proofs.prices.Prices.clear.Given as goal
 
 abbrev pub invariant-loop-more : goal.invariant-loop-more
 invariant-loop-more l = record {
-  carries : CarriesSome l.model l.self.sums;
-  holds : (first ms : Multipliers Row) (k : List Change) → Holds l.model first k ms l.fn.self → HoldsSome l.model first k l.self;
+  carries : CarriesSome l.model l.b l.self.sums;
+  holds : (first ms : Multipliers Row) (k : List Change) → Holds l.model l.b first k ms l.fn.self → HoldsSome l.model l.b first k l.self;
   none : l.more ≡ false → l.self.sums.amounts ≡ [];
 }
 

@@ -1,62 +1,58 @@
 use Rattle.std.proofs.Common.{rules, arith, SFits, w64, ◌≡◌, ◌≤◌, ◌∙◌, refl, sym, [], ◌∷◌, ◌++◌, length}
 use Rattle.std.proofs.lemmas.Int.{to_z-of_z}
 use Rattle.zero_one_rows.specs.Variables.{Voyage}
-use Rattle.program_rows.specs.Counted.{all_rows}
+use Rattle.proof_trees.specs.Boxes.{Box}
 use Rattle.proof_trees.specs.Multipliers.{with_amount}
 use Rattle.bound_checker.specs.declared.sums.Sums.{Sums}
 use Rattle.bound_checker.specs.declared.prices.Change.{Change}
 use Rattle.certificate.specs.Entries.{same_row}
-use Rattle.bound_checker.proofs.Raising.{out_low, out_named, out_room, out_none, out_some}
+use Rattle.bound_checker.proofs.Raising.{out_low, out_named, out_none, out_sum, out_some}
 use Rattle.bound_checker.proofs.Waiting.{moves_one, moves_more}
 use Rattle.bound_checker.proofs.prices.Prices.clear_one.Goals as goal
 
 pub turned-requires : goal.turned-requires
 turned-requires c =
-    let m : Voyage = c.args.model.now in
     let s : Sums = c.args.self.now.sums in
-    let t : Sums = record { amounts = c.take_first.new.self; right = s.right; weighed = s.weighed } in
-    let few : length (all_rows m) ≤ 2000000 = omega (arith, c.rows-rows.ensures.number, c.rows-rows.ensures.size) in
-    out_low m c.requires.carries.0 s t c.in-Some.row c.in-Some.amount few c.requires.carries.1 c.in-Some.ensures.was c.in-Some.ensures.rest refl refl
+    let t : Sums = record { amounts = c.take_first.new.self; costs = s.costs } in
+    out_low c.args.model.now c.args.b.now c.requires.carries.0 s t c.in-Some.row c.in-Some.amount c.requires.carries.1 c.in-Some.ensures.was c.in-Some.ensures.rest
 
 pub add_row-requires-clause-row : goal.add_row-requires-clause-row
 add_row-requires-clause-row c =
-    let m : Voyage = c.args.model.now in
     let s : Sums = c.args.self.now.sums in
-    let t : Sums = record { amounts = c.take_first.new.self; right = s.right; weighed = s.weighed } in
-    let few : length (all_rows m) ≤ 2000000 = omega (arith, c.rows-rows.ensures.number, c.rows-rows.ensures.size) in
-    out_named m c.requires.carries.0 s t c.in-Some.row c.in-Some.amount few c.requires.carries.1 c.in-Some.ensures.was c.in-Some.ensures.rest refl refl c.if-amount-gt0.true
+    let t : Sums = record { amounts = c.take_first.new.self; costs = s.costs } in
+    out_named c.args.model.now c.args.b.now c.requires.carries.0 s t c.in-Some.row c.in-Some.amount c.requires.carries.1 c.in-Some.ensures.was c.in-Some.ensures.rest c.if-amount-gt0.true
 
-pub add_row-requires-clause-room : goal.add_row-requires-clause-room
-add_row-requires-clause-room c =
-    let m : Voyage = c.args.model.now in
-    let s : Sums = c.args.self.now.sums in
-    let t : Sums = record { amounts = c.take_first.new.self; right = s.right; weighed = s.weighed } in
-    let few : length (all_rows m) ≤ 2000000 = omega (arith, c.rows-rows.ensures.number, c.rows-rows.ensures.size) in
-    out_room m c.requires.carries.0 s t c.in-Some.row c.in-Some.amount few c.requires.carries.1 c.in-Some.ensures.was c.in-Some.ensures.rest refl refl
+pub add_row-requires-clause-whole : goal.add_row-requires-clause-whole
+add_row-requires-clause-whole c = c.requires.carries.1.whole
+
+pub add_row-requires-clause-priced : goal.add_row-requires-clause-priced
+add_row-requires-clause-priced c = (c.requires.carries.0, c.requires.carries.1.priced)
 
 pub returns-in_ok-push-clause-holds : goal.returns-in_ok-push-clause-holds
 returns-in_ok-push-clause-holds c = λ first ms k holds.
     let m : Voyage = c.args.model.now in
+    let b : Box = c.args.b.now in
     let s : Sums = c.args.self.now.sums in
-    let t : Sums = record { amounts = c.take_first.new.self; right = s.right; weighed = s.weighed } in
-    let few : length (all_rows m) ≤ 2000000 = omega (arith, c.rows-rows.ensures.number, c.rows-rows.ensures.size) in
-    let b : SFits w64 c.turned.result = search rules in
+    let t : Sums = record { amounts = c.take_first.new.self; costs = s.costs } in
+    let f : SFits w64 c.turned.result = search rules in
     let one : Change = record { row = c.in-Some.row; old = c.in-Some.amount } in
     let e : c.push.new.self.items ≡ c.args.self.now.changes.items ++ one ∷ [] = search rules in
-    let a = c.in_ok-add_row.ensures in (
+    let was = c.in-Some.ensures.was in
+    let rest = c.in-Some.ensures.rest in
+    let a = c.in_ok-add_row.ensures in
+    let priced = simp to_z-of_z at a.priced in (
       with_amount same_row ms c.in-Some.row 0,
       record {
-        carries = out_some m ms s t c.in-Some.row c.in-Some.amount few holds.carries c.in-Some.ensures.was c.in-Some.ensures.rest refl refl c.turned.result c.add_row.new.self c.turned.ensures.value a.small a.amounts (simp to_z-of_z at a.right) a.len (simp to_z-of_z at a.weights);
+        carries = out_some m b ms s t c.in-Some.row c.in-Some.amount holds.carries was rest c.add_row.new.self a.amounts
+            (priced ms 0 holds.carries.priced (out_sum m b ms s t c.in-Some.row c.in-Some.amount holds.carries was rest c.turned.result c.turned.ensures.value) (omega arith));
         moves = moves_more m first ms (with_amount same_row ms c.in-Some.row 0) k c.args.self.now.changes.items c.push.new.self.items holds.moves
-            (moves_one m ms c.args.self.now.changes.items c.push.new.self.items one 0 (out_named m ms s t c.in-Some.row c.in-Some.amount few holds.carries c.in-Some.ensures.was c.in-Some.ensures.rest refl refl c.if-amount-gt0.true) (out_low m ms s t c.in-Some.row c.in-Some.amount few holds.carries c.in-Some.ensures.was c.in-Some.ensures.rest refl refl) (sym c.in-Some.ensures.was ∙ holds.carries.amounts c.in-Some.row) e);
+            (moves_one m ms c.args.self.now.changes.items c.push.new.self.items one 0 (out_named m b ms s t c.in-Some.row c.in-Some.amount holds.carries was rest c.if-amount-gt0.true) (out_low m b ms s t c.in-Some.row c.in-Some.amount holds.carries was rest) (sym was ∙ holds.carries.amounts c.in-Some.row) e);
       },
     )
 
 pub returns-else-amount-gt0-clause-holds : goal.returns-else-amount-gt0-clause-holds
 returns-else-amount-gt0-clause-holds c = λ first ms k holds.
-    let m : Voyage = c.args.model.now in
     let s : Sums = c.args.self.now.sums in
-    let t : Sums = record { amounts = c.take_first.new.self; right = s.right; weighed = s.weighed } in
-    let few : length (all_rows m) ≤ 2000000 = omega (arith, c.rows-rows.ensures.number, c.rows-rows.ensures.size) in
+    let t : Sums = record { amounts = c.take_first.new.self; costs = s.costs } in
     let none : c.in-Some.amount ≡ 0 = omega (arith, c.if-amount-gt0.false) in
-    (ms, record { carries = out_none m ms s t c.in-Some.row c.in-Some.amount few holds.carries c.in-Some.ensures.was c.in-Some.ensures.rest refl refl none; moves = holds.moves })
+    (ms, record { carries = out_none c.args.model.now c.args.b.now ms s t c.in-Some.row c.in-Some.amount holds.carries c.in-Some.ensures.was c.in-Some.ensures.rest refl none; moves = holds.moves })

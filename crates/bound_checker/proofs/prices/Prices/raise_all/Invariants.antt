@@ -9,4 +9,4 @@ use Rattle.bound_checker.specs.Prices.{Holds, Held}
 use Rattle.bound_checker.proofs.prices.Prices.raise_all.Given as goal
 
 abbrev pub invariant-loop-raise : goal.invariant-loop-raise
-invariant-loop-raise l = (first ms : Multipliers Row) (k : List Change) → Holds l.model first k ms l.fn.self → Held (λ ns. Holds l.model first k ns l.self) (raised_rows (whole l.model) l.node (Ok ms) (map raise_of (take l.raise-index l.raises)))
+invariant-loop-raise l = (first ms : Multipliers Row) (k : List Change) → Holds l.model l.b first k ms l.fn.self → Held (λ ns. Holds l.model l.b first k ns l.self) (raised_rows (whole l.model) l.node (Ok ms) (map raise_of (take l.raise-index l.raises)))

@@ -10,7 +10,7 @@ returns-in_err-begin c = λ first ms k holds. let p = err_from_is_err_and c.from
 
 pub raise_all-requires : goal.raise_all-requires
 raise_all-requires c =
-    let start : Holds c.args.model.now c.requires.carries.0 c.args.self.now.changes.items c.requires.carries.0 c.args.self.now = record { carries = c.requires.carries.1; moves = moves_none c.args.model.now c.requires.carries.0 c.args.self.now.changes.items } in
+    let start : Holds c.args.model.now c.args.b.now c.requires.carries.0 c.args.self.now.changes.items c.requires.carries.0 c.args.self.now = record { carries = c.requires.carries.1; moves = moves_none c.args.model.now c.requires.carries.0 c.args.self.now.changes.items } in
     record { carries = (begun c.args.from_zero c.requires.carries.0, (c.in_ok-begin.ensures c.requires.carries.0 c.requires.carries.0 c.args.self.now.changes.items start).carries) }
 
 pub returns : goal.returns

@@ -19,7 +19,7 @@ pub returns-clause-carries : goal.returns-clause-carries
 returns-clause-carries c = λ ms ns carries before small.
     let k = c.loop-alloc.invariant.carries ms ns carries before in
     let e : c.args.to ≡ length c.loop-alloc.self.changes.items = omega (arith, c.loop-alloc-test.false, c.len.ensures, c.loop-alloc.invariant.to) in
-    carries_alike c.args.model.now k.0 ns c.loop-alloc.self.sums small (before_end ns k.0 c.args.to c.loop-alloc.self.changes.items e k.2) k.1
+    carries_alike c.args.model.now c.args.b.now k.0 c.loop-alloc.self.sums k.1 ns small (before_end ns k.0 c.args.to c.loop-alloc.self.changes.items e k.2)
 
 pub returns-clause-changes : goal.returns-clause-changes
 returns-clause-changes c =

@@ -7,8 +7,8 @@ use Rattle.bound_checker.proofs.prices.Prices.take_back.Given as goal
 
 abbrev pub invariant-loop-alloc : goal.invariant-loop-alloc
 invariant-loop-alloc l = record {
-  some : CarriesSome l.model l.self.sums;
-  carries : (ms ns : Multipliers Row) → Carries l.model ms l.fn.self.sums → Before ns l.to l.fn.self.changes.items ms → (os : Multipliers Row) × Carries l.model os l.self.sums × Before ns l.to l.self.changes.items os;
+  some : CarriesSome l.model l.b l.self.sums;
+  carries : (ms ns : Multipliers Row) → Carries l.model l.b ms l.fn.self.sums → Before ns l.to l.fn.self.changes.items ms → (os : Multipliers Row) × Carries l.model l.b os l.self.sums × Before ns l.to l.self.changes.items os;
   sound : All (IsSound l.model) l.self.changes.items;
   kept : take l.to l.self.changes.items ≡ take l.to l.fn.self.changes.items;
   to : l.to ≤ length l.self.changes.items;
