@@ -219,3 +219,10 @@ closes_over key s id v ws drawn budget k at owner all e e1 e2 more =
     let d2 : key.1 ≡ budget = cc in
     let t = whole key s id v (λ u. u.over) k at owner all refl in
     omega (arith, t, k.overs, more, d1, d2)
+
+pub closes_within : (key : ℕ × ℕ) (s : State ℕ View) (ws : List ℕ) (drawn budget : ℕ) → BoardKept key s → s.words ≡ ws → get_elem? ws 2 ≡ some budget → min drawn budget ≤ key.1
+closes_within key s ws drawn budget k e e2 =
+    let w : k.best ∷ k.drawn ∷ key.1 ∷ [] ≡ ws = sym k.words ∙ e in
+    let p2 : some key.1 ≡ some budget = ap (λ (l : List ℕ). get_elem? l 2) w ∙ e2 in
+    let d2 : key.1 ≡ budget = cc in
+    omega (arith, d2)

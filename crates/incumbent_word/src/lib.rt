@@ -167,6 +167,7 @@ impl Board {
         ensures from { (result.best ≡ self.start) ⊎ (result.best ≡ owner.view.offered) }
         ensures once { (ticket : ℕ) → times ticket owner.view.tickets ≡ once_below ticket result.drawn }
         ensures count { result.drawn ≡ length owner.view.tickets }
+        ensures within { result.drawn ≤ self.budget }
         ensures over { 0 < owner.view.over → result.drawn ≡ self.budget }
     {
         let Board { table } = self;

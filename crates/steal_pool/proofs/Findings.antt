@@ -1,9 +1,10 @@
 -- Where a search ends, and what its journals prove.
-use Rattle.std.proofs.Common.{◌≡◌, inl, inr, ℕ, ◌<◌, ◌≤◌, Bool, true, List, [], ◌∷◌, length, map, refl, sym, subst, ap, ◌∙◌, append-nil, arith}
+use Rattle.std.proofs.Common.{◌≡◌, ◌⊎◌, inl, inr, ℕ, ◌+◌, ◌<◌, ◌≤◌, min, Bool, true, List, [], ◌∷◌, length, map, Option, Some, None, refl, sym, subst, ap, ◌∙◌, append-nil, arith}
 use Rattle.zero_one_rows.specs.declared.program.Row.{Row}
 use Rattle.zero_one_rows.specs.Variables.{Voyage}
 use Rattle.zero_one_rows.specs.Rows.{whole}
 use Rattle.program_rows.specs.Counted.{base_rows}
+use Rattle.proof_trees.specs.Boxes.{Box}
 use Rattle.proof_trees.specs.Trees.{Entry, Pending, root}
 use Rattle.certificate.specs.declared.journals.Node.{Node}
 use Rattle.certificate.specs.declared.journals.Entry.{Entry as Line}
@@ -12,23 +13,52 @@ use Rattle.search_machine.specs.Journals.{Path, Placed, all_nodes, nothing_done,
 use Rattle.search_machine.specs.Machine.{Handled, at_its_path, begins}
 use Rattle.search_machine.specs.Outcomes as outcomes
 use Rattle.search_machine.specs.Outcomes.{path_of, EachHandled, Searched}
-use Rattle.search_machine.specs.Searching.{Searching}
+use Rattle.search_machine.specs.Searching.{IsPaid, Searching}
 use Rattle.search_machine.specs.Along.{is_root, HoldsAlong, Begins, IsOfNode}
 use Rattle.search_machine.proofs.Weights.{every_more, every_in}
 use Rattle.search_machine.proofs.EndedEntries.{allowed_lesser}
-use Rattle.search_machine.proofs.Searching.{searching_ends}
 use Rattle.search_machine.proofs.Along.{hold_more}
 use Rattle.node_ledger.specs.Gathered.{placed, placed_entries, nodes_of, AreWhole}
 use Rattle.node_work.specs.Work.{node_of}
 use Rattle.steal_pool.specs.declared.found.Found.{Found}
-use Rattle.steal_pool.specs.Found.{IsWorked, IsFound}
+use Rattle.incumbent_word.specs.declared.view.View.{View}
+use Rattle.incumbent_word.specs.Rule.{none_yet, fresh, seen_at, after_split, joined}
+use Rattle.steal_pool.specs.Found.{IsWorked, EachWorked, HasBest, IsFound}
 use Rattle.steal_pool.specs.declared.opens.Open.{Open}
 use Rattle.steal_pool.specs.Opens.{path_at, node_at}
-use Rattle.steal_pool.specs.UnderWay.{Course, IsUnderWay, waiting_of, found_of}
+use Rattle.steal_pool.specs.UnderWay.{Course, AllowedFrom, HasOffered, IsUnderWay, waiting_of, found_of}
 
 length_map : {A B : Type 0} (f : A → B) (xs : List A) → length (map f xs) ≡ length xs
 length_map f [] = refl
 length_map f (x ∷ xs) = omega (arith, length_map f xs)
+
+-- what the owner knows after it took in the one seat
+abbrev pub knows_all : ℕ → ℕ → ℕ → View → View
+knows_all start budget found v = joined (after_split (seen_at (fresh start budget) found)) v
+
+-- the best value is the start or what was offered least
+pub record IsBest (start best : ℕ) (w : View) : Type 0 where
+  pub most : best ≤ start
+  pub seen : best ≤ w.seen
+  pub offered : best ≤ w.offered
+  pub from : (best ≡ start) ⊎ (best ≡ w.offered)
+
+pub closes_best : (start best begun : ℕ) (v w : View) → w ≡ v → begun ≡ start → (best ≤ begun) × (best ≤ w.seen) × (best ≤ w.offered) → (best ≡ begun) ⊎ (best ≡ w.offered) → IsBest start best v
+closes_best start best begun v w is same low from = subst (IsBest start best) is (record {
+  most = omega (arith, low.0, same);
+  seen = low.1;
+  offered = low.2;
+  from = elim from [ inl e ↦ inl (e ∙ same) | inr e ↦ inr e ];
+})
+
+-- where a ticket was over, each ticket below the budget was drawn, for a record
+pub used_up : (start budget found records drawn most : ℕ) (v w : View) → w ≡ knows_all start budget found v → records + 0 ≡ length v.tickets → (records ≡ budget) ⊎ (0 < v.over) → drawn ≡ length w.tickets → (0 < w.over → drawn ≡ most) → most ≡ budget → records ≡ budget
+used_up start budget found records drawn most v w is counted (inl e) count over same = e
+used_up start budget found records drawn most v w is counted (inr more) count over same =
+    let tickets : length w.tickets ≡ length v.tickets = ap (λ (x : View). length x.tickets) is in
+    let overs : w.over ≡ 0 + v.over = ap (λ (x : View). x.over) is in
+    let all : drawn ≡ most = over (omega (arith, overs, more)) in
+    omega (arith, counted, count, tickets, all, same)
 
 module _ (m : Voyage) where
   paths_there : (here : Node) (opens : List Open) → map path_of (map (node_of m) (map (node_at here) opens)) ≡ map (path_at here.path) opens
@@ -38,23 +68,43 @@ module _ (m : Voyage) where
   same_length : (entries : List (Handled Row)) (journal : List Line) → map at_its_path entries ≡ map (placed (number_of m)) journal → length journal ≡ length entries
   same_length entries journal is = omega (arith, ap length is, length_map at_its_path entries, length_map (placed (number_of m)) journal)
 
-  pub ends_found : (start budget : ℕ) (c : Course) → IsUnderWay m c [] → c.start ≡ start → length c.journal ≤ budget → (0 < length c.opens → length c.journal ≡ budget) → IsFound m start budget (found_of c)
-  ends_found start budget c w is few full =
-      let many : length c.journal ≡ length w.entries = same_length w.entries c.journal w.journal_of in
+  -- ## The best value in the end
+
+  best_there : (entries : List (Handled Row)) (start best offered : ℕ) (o : Option Box) → start ≤ none_yet → HasOffered m entries start offered o → best ≤ start → best ≤ min none_yet offered → (best ≡ start) ⊎ (best ≡ min none_yet offered)
+      → HasBest m start best o × ((best ≡ start) ⊎ IsPaid same_row (whole m) (base_rows m) entries best)
+  best_there entries start best offered None top h most low from =
+      let is : best ≡ start = elim from [ inl e ↦ e | inr e ↦ omega (arith, h, e, most, top) ] in
+      (is, inl is)
+  best_there entries start best offered (Some b) top h most low from =
+      let less : offered < start = h.0.3 in
+      let is : offered ≡ best = elim from [ inl e ↦ absurd (omega (arith, e, low, less)) | inr e ↦ omega (arith, e, less, top) ] in
+      (subst (λ (x : ℕ). HasBest m start x (Some b)) is h.0, inr (subst (IsPaid same_row (whole m) (base_rows m) entries) is h.1))
+
+  pub ends_found : (start budget best found : ℕ) (c : Course) (v : View) → start ≤ none_yet → IsUnderWay m v 0 c [] → c.start ≡ start → IsBest start best (knows_all start budget found v) → length c.journal ≤ budget
+      → (0 < length c.opens → length c.journal ≡ budget) → IsFound m start budget (found_of best c)
+  ends_found start budget best found c v top w is b few full =
+      let many : length c.journal ≡ length w.entries = same_length w.entries c.journal w.worker.journal_of in
       let opens : length (map (node_of m) (waiting_of c)) ≡ length c.opens = omega (arith, length_map (node_of m) (waiting_of c), length_map (node_at c.here) c.opens) in
-      let searching : Searching same_row (whole m) (base_rows m) w.entries (map (node_of m) (waiting_of c)) c.start c.best
-      = subst (λ (l : List Node). Searching same_row (whole m) (base_rows m) w.entries (map (node_of m) l) c.start c.best) (append-nil (waiting_of c)) w.searching in
-      subst (λ (s : ℕ). IsFound m s budget (found_of c)) is (record {
+      let searching : Searching same_row (whole m) (base_rows m) w.entries (map (node_of m) (waiting_of c)) 0 0
+      = subst (λ (l : List Node). Searching same_row (whole m) (base_rows m) w.entries (map (node_of m) l) 0 0) (append-nil (waiting_of c)) w.searching in
+      let there = best_there w.entries start best v.offered c.full top (subst (λ (s : ℕ). HasOffered m w.entries s v.offered c.full) is w.worker.offers) b.most b.offered b.from in
+      record {
         entries = w.entries;
         nodes = map (node_of m) (waiting_of c);
-        journals = w.journal_of ∙ sym (ap (map (placed (number_of m))) (append-nil c.journal));
+        journals = w.worker.journal_of ∙ sym (ap (map (placed (number_of m))) (append-nil c.journal));
         left = paths_there c.here c.opens;
-        searched = searching_ends same_row (whole m) (base_rows m) w.entries (map (node_of m) (waiting_of c)) c.start budget c.best searching (omega arith)
-            (λ some. let used : length c.journal ≡ budget = full (omega arith) in omega arith);
-        worked = w.worked;
+        searched = record {
+          nodes = searching.nodes;
+          allowed = every_more (AllowedFrom m v.seen) (AllowedFrom m best) w.entries (λ a h. (h.0, (omega (arith, h.1, b.seen)), h.2)) w.worker.allowed;
+          most = b.most;
+          from = there.1;
+          within = omega (arith, many, few);
+          used = λ some. let used : length c.journal ≡ budget = full (omega (arith, opens, some)) in omega (arith, used, many);
+        };
+        worked = subst (λ (s : ℕ). EachWorked m s w.entries) is w.worker.worked;
         handled = many;
-        full = w.full_is;
-      })
+        full = there.0;
+      }
 
   -- ## What the journals prove
 

@@ -29,6 +29,9 @@ fn branch_off(alloc: Global, way: &[bool], above: usize, value: bool) -> Result<
 fn first_records(alloc: Global, records: RecordList, count: usize) -> Result<RecordList, NoMemory>
     ensures { IfOk result (λ first. first ≡ take count records) }
 {
+    if records.len() <= count {
+        return Ok(records);
+    }
     let mut items = records.into_items();
     items.truncate(count);
     let mut first = RecordList::new(alloc);

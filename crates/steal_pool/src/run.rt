@@ -1,20 +1,23 @@
 //! A search under way.
-ghost use Rattle.std.specs.Prelude.{◌≡◌, ◌≤◌, ◌+◌, IfOk, OnOk, [], ◌∷◌, ◌++◌, length, map};
+ghost use Rattle.std.specs.Prelude.{◌≡◌, ◌≤◌, ◌<◌, ◌+◌, ◌↔◌, ℕ, IfOk, IsTrue, OnOk, [], ◌∷◌, ◌++◌, length, map};
 ghost use Rattle.stow_data.specs.Shipment.{IsCargo};
 ghost use Rattle.zero_one_rows.specs.Variables.{Voyage};
 ghost use Rattle.node_work.specs.Work.{most_rehandles};
 ghost use Rattle.search_machine.specs.Bags.{Every};
 ghost use Rattle.steal_pool.specs.Opens.{path_at, AreBeside, IsOnWay};
-ghost use Rattle.steal_pool.specs.UnderWay.{IsUnderWay, Goes, Keeps, divided_by, entry_at, found_of, halves_of};
+ghost use Rattle.steal_pool.specs.UnderWay.{IsUnderWay, Goes, Keeps, Tells, divided_by, entry_at, found_of, halves_of};
+ghost use Rattle.incumbent_word.specs.declared.view.View.{View as Views};
+ghost use Rattle.incumbent_word.specs.Rule.{none_yet};
 
 use crate::found::Found;
 use crate::opens::Open;
 use certificate::{Entry, Journal, JournalList, Node, Path, PathList, Record, RecordList};
-use node_work::{Worked, work};
+use incumbent_word::{Board, Seat};
+use node_work::{Desk, Worked};
 use std::alloc::Global;
 use std::mem;
 use stow_data::NoMemory;
-use zero_one_model::{Box01, Model};
+use zero_one_model::Box01;
 
 /// A search by one worker, under way.
 #[derive(Drop)]
@@ -27,8 +30,7 @@ pub struct Run {
     /// The open nodes. The last is taken next, so all lie beside the way to the node that was taken last.
     opens: Vec<Open>,
 
-    /// The least cost known.
-    best: u64,
+    /// The cheapest full box.
     full: Option<Box01>,
     journal: Journal,
 }
@@ -38,7 +40,7 @@ impl std::marker::Model for Run {
 
     ghost Value = { Course };
 
-    ghost view = { λ r. record { start = r.start; here = r.here; opens = r.opens.items; best = r.best; full = r.full; journal = r.journal } };
+    ghost view = { λ r. record { start = r.start; here = r.here; opens = r.opens.items; full = r.full; journal = r.journal } };
 }
 
 /// The paths of open nodes.
@@ -53,10 +55,21 @@ fn paths(alloc: Global, way: &[bool], opens: &[Open]) -> Result<PathList, NoMemo
     Ok(found)
 }
 
+// Offers the cost of a full box.
+fn tell(board: &Board, seat: &mut Seat, ended: &Worked)
+    requires { seat.old.board ≡ board.now.id }
+    ensures seat { seat.new.board ≡ seat.old.board }
+    ensures told { Tells ended.now seat.old.view seat.new.view }
+{
+    if let Worked::Full { cost, .. } = ended {
+        board.offer(seat, *cost);
+    }
+}
+
 impl Run {
     /// The search in which the root waits.
     pub fn begin(alloc: Global, start: u64) -> Result<Run, NoMemory>
-        ensures way { IfOk result (λ r. (m : Voyage) → IsUnderWay m r []) }
+        ensures way { IfOk result (λ r. (m : Voyage) (v : Views) → v.start ≡ start → v.offered ≡ none_yet → v.tickets ≡ [] → IsUnderWay m v 0 r []) }
         ensures start { IfOk result (λ r. r.start ≡ start) }
         ensures empty { IfOk result (λ r. r.journal ≡ []) }
     {
@@ -69,25 +82,32 @@ impl Run {
                 trail: RecordList::new(alloc),
             },
             opens,
-            best: start,
             full: None,
             journal: Journal::new(alloc),
         })
     }
 
-    /// Takes the node that is handled next. False where no node is open.
-    pub fn go_on(&mut self, alloc: Global) -> Result<bool, NoMemory>
-        requires { AreBeside self.old.here self.old.opens }
-        ensures { Goes result self.old self.new }
+    /// Whether no node is open.
+    pub fn is_done(&self) -> bool
+        ensures { IsTrue result ↔ (self.now.opens ≡ []) }
+    {
+        self.opens.is_empty()
+    }
+
+    /// Takes the node that is handled next.
+    pub fn go_on(&mut self, alloc: Global) -> Result<(), NoMemory>
+        requires open { 0 < length self.old.opens }
+        requires beside { AreBeside self.old.here self.old.opens }
+        ensures { OnOk result (Goes self.old self.new) }
     {
         let Some(next) = self.opens.pop() else {
-            return Ok(false);
+            unreachable!()
         };
         let path = next.path(alloc, self.here.path.as_slice())?;
         let records = mem::replace(&mut self.here.trail, RecordList::new(alloc));
         let trail = next.trail(alloc, records)?;
         self.here = Node { path, trail };
-        Ok(true)
+        Ok(())
     }
 
     /// Keeps the record that ended the node.
@@ -124,8 +144,7 @@ impl Run {
                 self.divide(alloc, &ends)?;
                 self.keep(alloc, ends)
             }
-            Worked::Full { entry, full, cost } => {
-                self.best = cost;
+            Worked::Full { entry, full, .. } => {
                 self.full = Some(full);
                 self.keep(alloc, entry)
             }
@@ -133,30 +152,42 @@ impl Run {
         }
     }
 
-    /// Handles the node that was taken.
-    pub fn handle(&mut self, alloc: Global, model: &Model) -> Result<(), NoMemory>
-        requires cargo { IsCargo model.now.cargo }
-        requires start { self.old.start ≤ most_rehandles model.now + 1 }
-        requires way { IsUnderWay model.now self.old (self.old.here ∷ []) }
-        ensures way { OnOk result (IsUnderWay model.now self.new []) }
+    /// Handles the node that was taken, for which a ticket was drawn.
+    pub fn handle(
+        &mut self,
+        alloc: Global,
+        desk: &mut Desk,
+        board: &Board,
+        seat: &mut Seat,
+    ) -> Result<(), NoMemory>
+        requires cargo { IsCargo desk.old.cargo }
+        requires start { self.old.start ≤ most_rehandles desk.old + 1 }
+        requires seat { seat.old.board ≡ board.now.id }
+        requires way { IsUnderWay desk.old seat.old.view 1 self.old (self.old.here ∷ []) }
+        ensures same { desk.new ≡ desk.old }
+        ensures seat { seat.new.board ≡ seat.old.board }
+        ensures over { seat.new.view.over ≡ seat.old.view.over }
+        ensures way { OnOk result (IsUnderWay desk.old seat.new.view 0 self.new []) }
         ensures start { OnOk result (self.new.start ≡ self.old.start) }
         ensures one { OnOk result (length self.new.journal ≡ length self.old.journal + 1) }
     {
-        let ended = work(alloc, model, &self.here, self.best);
+        let cut = board.best(seat);
+        let ended = desk.work(alloc, &self.here, cut);
+        tell(board, seat, &ended);
         self.end(alloc, ended)
     }
 
-    /// What the search found, where it ends here.
-    pub fn finish(self, alloc: Global) -> Result<Found, NoMemory>
+    /// What the search found, where it ends here with this best value.
+    pub fn finish(self, alloc: Global, best: u64) -> Result<Found, NoMemory>
         requires { AreBeside self.here self.opens }
-        ensures { IfOk result (λ f. f ≡ found_of self) }
+        ensures { IfOk result (λ f. f ≡ found_of best self) }
     {
         let handled = self.journal.len() as u64;
         let left = paths(alloc, self.here.path.as_slice(), self.opens.as_slice())?;
         let mut journals = JournalList::new(alloc);
         journals.push(self.journal)?;
         Ok(Found {
-            best: self.best,
+            best,
             full: self.full,
             journals,
             left,

@@ -1,6 +1,6 @@
 use Rattle.std.proofs.Common.{◌≡◌, ap, sym, ◌∙◌}
 use Rattle.incumbent_word.specs.Tokens.{SeatToken}
-use Rattle.incumbent_word.proofs.Seats.{closes_once, closes_from, closes_count, closes_over}
+use Rattle.incumbent_word.proofs.Seats.{closes_once, closes_from, closes_count, closes_within, closes_over}
 use Rattle.incumbent_word.proofs.Board.close.Goals as goal
 
 all_in : (a b : SeatToken) → a ≡ b → b.view.made ≡ b.view.taken → a.view.made ≡ a.view.taken
@@ -23,6 +23,11 @@ returns-clause-count c =
     let f = c.close_with-closed.ensures.values.2 in
     let all = all_in _ _ c.owner.view_is c.requires.all_joined in
     rw (← c.owner.view_is, c.min.ensures) (closes_count _ f.0 _ _ _ c.word-tickets.result c.word-budget.result f.1.0 f.1.1 c.owner.invariant.1 all f.2 c.word-tickets.ensures c.word-budget.ensures)
+
+pub returns-clause-within : goal.returns-clause-within
+returns-clause-within c =
+    let f = c.close_with-closed.ensures.values.2 in
+    rw (← c.self.view_is, c.min.ensures) (closes_within _ f.0 _ c.word-tickets.result c.word-budget.result f.1.0 f.2 c.word-budget.ensures)
 
 pub returns-clause-over : goal.returns-clause-over
 returns-clause-over c more =

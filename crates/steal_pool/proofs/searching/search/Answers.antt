@@ -1,14 +1,18 @@
-use Rattle.std.proofs.Common.{subst, sym, ◌∙◌}
+use Rattle.std.proofs.Common.{◌+◌, ◌≤◌, IfOk, subst, sym, ◌∙◌}
+use Rattle.stow_data.specs.Shipment.{IsCargo}
+use Rattle.zero_one_rows.specs.Variables.{Voyage}
+use Rattle.node_work.specs.Work.{most_rehandles}
 use Rattle.steal_pool.specs.Found.{IsFound}
-use Rattle.steal_pool.proofs.Findings.{ends_found}
-use Rattle.steal_pool.proofs.Steps.{if_ok}
 use Rattle.steal_pool.proofs.searching.search.Goals as goal
 
-pub handle_all-requires-clause-way : goal.handle_all-requires-clause-way
-handle_all-requires-clause-way g c = c.in_ok-run.ensures.way c.args.model.now
+pub search_on-requires-clause-cargo : goal.search_on-requires-clause-cargo
+search_on-requires-clause-cargo g c = subst (λ (v : Voyage). IsCargo v.cargo) (sym (c.in_ok-desk.ensures ∙ c.in_ok-tables.ensures)) c.requires.cargo
+
+pub search_on-requires-clause-nodes : goal.search_on-requires-clause-nodes
+search_on-requires-clause-nodes g c = c.requires.nodes
+
+pub search_on-requires-clause-start : goal.search_on-requires-clause-start
+search_on-requires-clause-start g c = subst (λ (v : Voyage). c.args.start ≤ most_rehandles v + 1) (sym (c.in_ok-desk.ensures ∙ c.in_ok-tables.ensures)) c.requires.start
 
 pub returns : goal.returns
-returns g c = if_ok c.finish.result _ _
-    (λ f is. subst (IsFound c.args.model.now c.args.start c.args.budget) (sym is)
-    (ends_found c.args.model.now c.args.start c.args.budget c.handle_all.new.run c.in_ok-handle_all.ensures.way (c.in_ok-handle_all.ensures.start ∙ c.in_ok-run.ensures.start)
-    c.in_ok-handle_all.ensures.within c.in_ok-handle_all.ensures.used)) c.finish.ensures
+returns g c = subst (λ (v : Voyage). IfOk c.search_on.result (IsFound v c.args.start c.args.budget)) (c.in_ok-desk.ensures ∙ c.in_ok-tables.ensures) c.search_on.ensures
