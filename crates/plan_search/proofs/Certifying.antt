@@ -15,21 +15,26 @@ use Rattle.voyage_meaning.specs.declared.moves.Move.{Move}
 use Rattle.voyage_meaning.specs.Voyage.{IsVoyage, HasCount}
 use Rattle.plan_lifts.specs.Lifted as lifts
 use Rattle.greedy_loader.specs.Calls.{DepartFrom}
+use Rattle.zero_one_rows.specs.declared.program.Row.{Row}
 use Rattle.zero_one_rows.specs.Variables.{Voyage}
 use Rattle.zero_one_rows.specs.Rows.{whole, CrossingRowsHold}
 use Rattle.proof_trees.specs.Boxes.{Box}
+use Rattle.proof_trees.specs.Trees.{Entry, Pending, root}
 use Rattle.proof_trees.proofs.Lesser.{proves_lesser}
 use Rattle.certificate.specs.declared.tree.Record.{Record}
 use Rattle.certificate.specs.Entries.{same_row, entry_of}
 use Rattle.bound_checker.specs.Entries.{ProvesBound, IsBestBound}
+use Rattle.search_machine.specs.Journals.{branches}
+use Rattle.search_machine.proofs.Along.{hold_more}
+use Rattle.node_work.specs.Work as node
 use Rattle.model_bridge.specs.Sailed.{AreSailed}
 use Rattle.solution_meaning.specs.Laws.{IsProblem, IsCostBound, IsVoyageBound, HasNoVoyage, most_lifts}
 use Rattle.plan_search.specs.declared.loaded.Counted.{Counted}
 use Rattle.plan_search.specs.declared.run.Searched.{Searched}
 use Rattle.plan_search.specs.Loaded.{IsCountOf, ArePlans}
-use Rattle.plan_search.specs.Trees.{IsSettled}
+use Rattle.plan_search.specs.Trees.{IsSettled, IsEarnest}
 use Rattle.plan_search.specs.Certified.{OutcomeHolds, ceiling, CountsVoyage, HasPlans, Certifies}
-use Rattle.plan_search.specs.Found.{ArePlansOrNone, IsCounted, IsLoaded, IsBest, IsSearched, IsSailed, AreChosen, outcome_of, rehandles_of, head_of}
+use Rattle.plan_search.specs.Found.{ArePlansOrNone, IsCounted, IsPlanned, IsLoaded, IsImproved, IsBest, IsSearched, IsSailed, AreChosen, outcome_of, rehandles_of, head_of}
 use Rattle.plan_search.proofs.AtZero.{settled_lesser}
 use Rattle.plan_search.proofs.Few.{count_few}
 
@@ -93,6 +98,14 @@ sailed_counted m b plans count s counts = record {
   cheap = let least = counts.least s.moves s.legal in let cheap = s.cheap in omega (arith, ints);
 }
 
+-- better plans than the first ones
+pub improved_by : (m : Voyage) (first c : Counted) → IsPlanned m c → c.count < first.count → IsImproved m first c
+improved_by m first c h less = record { counted = h.counted; no_worse = omega (arith, less); unplanned = λ none. absurd (h.planned none) }
+
+-- the plans of a full box
+pub sailed_planned : (m : Voyage) (b : Box) (c : Counted) → IsSailed m b c → IsPlanned m c
+sailed_planned m b c h = record { planned = h.planned; counted = h.counted }
+
 -- ## The certificate
 
 ceiling_is : (m : Voyage) (o : Option (List Plan)) (n : ℕ) → IsCountOf m o n → ceiling m (rehandles_of o n) ≡ n
@@ -141,15 +154,29 @@ spent m tree nodes budget best count bound le (inr proves) b far =
 below : (count bound : ℕ) → bound ≤ count → (bound == count) ≡ false → bound < count
 below count bound le far = grind (arith, nat_tests)
 
-module _ (m : Voyage) (rules : IsProblem m) (budget : ℕ) (first c : Counted) (s : Searched) (bound : ℕ)
-    (loaded : IsLoaded m first) (found : IsSearched m budget first.count s) (chosen : AreChosen m first s.full c)
+-- a record that is earnest against a number is earnest against each greater one
+earnest_at : (m : Voyage) (less start most : ℕ) (q : Pending Row) (e : Entry Row) → less ≤ start → node.IsEarnest m q less most e → node.IsEarnest m q start most e
+earnest_at m less start most q e le h = record {
+  quiet = h.quiet;
+  rising = h.rising;
+  short = λ closes. h.short (omega (arith, ints, le, closes));
+  spent = h.spent;
+}
+
+earnest_more : (m : Voyage) (less start : ℕ) (tree : List Record) → less ≤ start → IsEarnest m less tree → IsEarnest m start tree
+earnest_more m less start tree le h =
+    hold_more same_row (whole m) (λ top q e. branches e.end ≡ true → node.IsEarnest m q less (node.most_raises top) e) (λ top q e. branches e.end ≡ true → node.IsEarnest m q start (node.most_raises top) e)
+    (λ top q e w divides. earnest_at m less start (node.most_raises top) q e le (w divides)) true (root (whole m) ∷ []) (map (entry_of m) tree) h
+
+module _ (m : Voyage) (rules : IsProblem m) (budget : ℕ) (first begun c : Counted) (s : Searched) (bound : ℕ)
+    (loaded : IsLoaded m first) (better : IsImproved m first begun) (found : IsSearched m budget begun.count s) (chosen : AreChosen m begun s.full c)
     (best : IsBestBound m s.tree c.count bound) (costs : CrossingRowsHold m → IsCostBound m bound)
     (law : (CrossingRowsHold m → IsCostBound m bound) → IsVoyageBound m bound) (none : (CrossingRowsHold m → IsCostBound m (most_lifts m + 1)) → HasNoVoyage m) where
   low : c.count ≤ s.best
-  low = chosen_low m first.count s.best first c s.full refl found.best chosen
+  low = chosen_low m begun.count s.best begun c s.full refl found.best chosen
 
   counted : IsCounted m c
-  counted = chosen_counted m first c s.full loaded.counted chosen
+  counted = chosen_counted m begun c s.full better.counted chosen
 
   top : ceiling m (rehandles_of c.plans c.count) ≡ c.count
   top = ceiling_is m c.plans c.count counted.count
@@ -162,12 +189,12 @@ module _ (m : Voyage) (rules : IsProblem m) (budget : ℕ) (first c : Counted) (
   outcome_holds (Some plans) false is e count = record {
     spent = spent m s.tree s.nodes budget s.best c.count bound low found.ended best e;
     above = below c.count bound best.low e;
-    no_worse = omega (arith, low, best_low m first.count s.best s.full found.best);
+    no_worse = omega (arith, low, best_low m begun.count s.best s.full found.best, better.no_worse);
   }
   outcome_holds None true is e count = let reached : bound ≡ most_lifts m + 1 = eqb-true bound c.count e ∙ count in record { above_all = reached; none = no_voyage reached }
   outcome_holds None false is e count = record {
     spent = spent m s.tree s.nodes budget s.best c.count bound low found.ended best e;
-    unloaded = unplanned m first c s.full chosen is;
+    unloaded = better.unplanned (unplanned m begun c s.full chosen is);
     room = let lt = below c.count bound best.low e in omega (arith, lt, count);
   }
 
@@ -184,7 +211,7 @@ module _ (m : Voyage) (rules : IsProblem m) (budget : ℕ) (first c : Counted) (
     nodes = found.nodes;
     within = found.within;
     lean = found.lean;
-    earnest = found.earnest;
+    earnest = earnest_more m begun.count first.count s.tree better.no_worse found.earnest;
     settled = subst (λ (n : ℕ). IsSettled m s.tree n) (sym top) (settled_lesser same_row (whole m) s.best c.count low (map (entry_of m) s.tree) found.settled);
     voyage = voyage_is m c.plans c.count counted.count;
     outcome = outcome_holds c.plans (bound == c.count) refl refl counted.count;

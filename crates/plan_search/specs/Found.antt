@@ -28,11 +28,22 @@ pub record IsCounted (m : Voyage) (c : Counted) : Type 0 where
   pub plans : ArePlansOrNone m c.plans
   pub count : IsCountOf m c.plans c.count
 
+-- the same, and there are some
+pub record IsPlanned (m : Voyage) (c : Counted) : Type 0 where
+  pub planned : c.plans ≢ None
+  pub counted : IsCounted m c
+
 -- the same of the loader's plans
 pub record IsLoaded (m : Voyage) (c : Counted) : Type 0 where
   pub loads : AreLoaded m c.plans
   pub counted : IsCounted m c
   pub low : c.count ≤ most_lifts m + 1
+
+-- plans that rehandle at most as often as the first ones, and are none only where these are none
+pub record IsImproved (m : Voyage) (first c : Counted) : Type 0 where
+  pub counted : IsCounted m c
+  pub no_worse : c.count ≤ first.count
+  pub unplanned : c.plans ≡ None → first.plans ≡ None
 
 -- the box is full, breaks no base row, and costs this
 pub record IsFullAt (m : Voyage) (best : ℕ) (b : Box) : Type 0 where

@@ -15,7 +15,7 @@ use stow_data::{Cargo, NoMemory, PlanList, Ship};
 use zero_one_model::{Box01, Model};
 
 /// The plans of a full box that breaks no base row, with their rehandle count.
-fn plans_of(
+pub fn plans_of(
     alloc: Global,
     ship: &Ship,
     cargo: &Cargo,

@@ -2,6 +2,7 @@
 #![tactic(auto)]
 
 mod closing;
+mod improving;
 mod loaded;
 mod planning;
 mod run;

@@ -4,6 +4,7 @@ ghost use Rattle.solution_meaning.specs.Laws.{IsProblem};
 ghost use Rattle.plan_search.specs.Certified.{Certifies, HasPlans};
 
 use crate::closing::{bound_of, chosen_plans, head_of};
+use crate::improving::improved;
 use crate::loaded::loaded;
 use crate::run::search_tree;
 use certificate::{Head, Tree};
@@ -11,6 +12,7 @@ use solution_meaning::bounds_are_of_voyages;
 use std::alloc::Global;
 use stow_data::{Cargo, NoMemory, PlanList, Ship};
 use stow_io::Gate;
+use voyage_guess::Planner;
 use zero_one_model::Model;
 
 /// A certificate, and the plans of calls 1 to N-1 where there are some.
@@ -23,8 +25,8 @@ pub struct Planned {
 
 /// The best plans that are found of a voyage, with the certificate of a bound on the rehandles of every legal voyage.
 ///
-/// The loader's plans come first. The search then looks for better ones, at most as many nodes as the budget says, and
-/// its tree proves the bound.
+/// The loader's plans come first, then those of voyages by chance where they are better. The search looks for still better
+/// ones, at most as many nodes as the budget says, and its tree proves the bound.
 pub fn plan_voyage<G: Gate>(
     alloc: Global,
     ship: &Ship,
@@ -42,8 +44,10 @@ pub fn plan_voyage<G: Gate>(
     ensures plans { IfOk result (λ p. HasPlans model.now p.head.rehandles p.plans) }
 {
     let first = loaded(alloc, ship, cargo, model)?;
-    let found = search_tree(alloc, model, budget, first.count, gate)?;
-    let chosen = chosen_plans(alloc, ship, cargo, model, first, found.full)?;
+    let mut planner = Planner::new(alloc, model)?;
+    let begun = improved(alloc, ship, cargo, model, &mut planner, budget, first)?;
+    let found = search_tree(alloc, model, planner, budget, begun.count, gate)?;
+    let chosen = chosen_plans(alloc, ship, cargo, model, begun, found.full)?;
     let bound = bound_of(alloc, model, &found.tree, chosen.count)?;
     bounds_are_of_voyages();
     Ok(Planned {

@@ -11,6 +11,7 @@ use std::alloc::Global;
 use steal_pool::{found_journals_prove, search};
 use stow_data::NoMemory;
 use stow_io::Gate;
+use voyage_guess::Planner;
 use zero_one_model::{Box01, Model};
 use zero_one_rows::{RaiseList, Row, RowList};
 
@@ -52,6 +53,7 @@ fn one_leaf(alloc: Global) -> Result<Searched, NoMemory>
 pub fn search_tree<G: Gate>(
     alloc: Global,
     model: &Model,
+    planner: Planner,
     budget: u64,
     start: u64,
     gate: &G,
@@ -65,7 +67,7 @@ pub fn search_tree<G: Gate>(
     if start == 0 {
         return one_leaf(alloc);
     }
-    let found = search(alloc, model, budget, start, gate)?;
+    let found = search(alloc, model, planner, budget, start, gate)?;
     rows_are_listed();
     found_journals_prove();
     records_are_of_nodes::<Row>();

@@ -5,7 +5,7 @@ ghost use Rattle.zero_one_rows.specs.Variables.{variables};
 use crate::sailing::Sailor;
 use std::alloc::Global;
 use std::mem;
-use stow_data::{Cargo, NoMemory, Ship, VarNo};
+use stow_data::{NoMemory, VarNo};
 use voyage_yard::{Planned, gather_facts};
 use zero_one_model::{Box01, Model};
 
@@ -53,14 +53,9 @@ fn fix_rest(model: &Model, b: &mut Box01)
 }
 
 impl Planner {
-    /// A planner for the voyages of this ship and cargo, whose program is `model`.
-    pub fn new(
-        alloc: Global,
-        ship: &Ship,
-        cargo: &Cargo,
-        model: &Model,
-    ) -> Result<Planner, NoMemory> {
-        let facts = gather_facts(alloc, ship, cargo, model)?;
+    /// A planner for the voyages of the ship and cargo whose program is `model`.
+    pub fn new(alloc: Global, model: &Model) -> Result<Planner, NoMemory> {
+        let facts = gather_facts(alloc, model)?;
         Ok(Planner {
             sailor: Sailor::new(alloc, facts, 1)?,
             stays: Vec::new(alloc),

@@ -3,8 +3,7 @@
 use crate::facts::{Arrived, Facts, KindFacts, Lot, Mark, NO_LOT, StackFacts, bit_of, index_of};
 use std::alloc::Global;
 use stow_data::{
-    CallNo, Cargo, CoverNo, Kind, KindNo, Kinds, Name, NoMemory, PlaceNo, Ship, StackNo, VarNo,
-    kinds,
+    CallNo, CoverNo, Kind, KindNo, Kinds, Name, NoMemory, PlaceNo, Ship, StackNo, VarNo, kinds,
 };
 use zero_one_model::Model;
 use zero_one_rows::Var;
@@ -242,13 +241,9 @@ fn gather_cargo(
     enter_variables(facts, model)
 }
 
-/// What is the same in every run over this ship and cargo, whose 0-1 program is `model`.
-pub fn gather_facts(
-    alloc: Global,
-    ship: &Ship,
-    cargo: &Cargo,
-    model: &Model,
-) -> Result<Facts, NoMemory> {
+/// What is the same in every run over the ship and cargo whose 0-1 program is `model`.
+pub fn gather_facts(alloc: Global, model: &Model) -> Result<Facts, NoMemory> {
+    let (ship, cargo) = (model.ship(), model.cargo());
     let kinds = kinds(alloc, ship, cargo)?;
     let names = class_names(alloc, ship)?;
     let mut facts = no_facts(alloc, cargo.calls(), ship.covers());
