@@ -2,3 +2,9 @@ pub mod Lists
 pub mod Bags
 pub mod Steps
 pub mod Reached
+pub mod Tables
+pub mod Runs
+pub mod Sailings
+pub mod Boxed
+pub mod Begun
+pub mod Solved

@@ -1,12 +1,11 @@
 -- The plans so far, and the pairs after the last of them.
-use Rattle.std.proofs.Common.{◌≡◌, ℕ, suc, ◌≤◌, ◌<◌, ◌+◌, true, List, [], ◌∷◌, ◌++◌, length, length-append, refl, sym, ◌∙◌, ap, subst, arith}
+use Rattle.std.proofs.Common.{◌≡◌, ℕ, suc, ◌<◌, ◌+◌, true, List, [], ◌∷◌, ◌++◌, length, length-append, sym, ◌∙◌, ap, subst, arith}
 use Rattle.std.specs.Prelude.{flat_map}
 use Rattle.std.proofs.lemmas.Bool.{and_from, lt-ltb}
 use Rattle.std.proofs.lemmas.List.{append_assoc, append-nil}
 use Rattle.proof_trees.specs.Boxes.{Box}
 use Rattle.stow_data.specs.Plans.{Plan}
-use Rattle.stow_data.proofs.Distinct.{Each}
-use Rattle.zero_one_rows.specs.Variables.{Voyage, variables, calls}
+use Rattle.zero_one_rows.specs.Variables.{Voyage, calls}
 use Rattle.zero_one_rows.specs.Rows.{IsSolution, is_call}
 use Rattle.solution_meaning.specs.Laws.{IsProblem}
 use Rattle.solution_meaning.proofs.Match.{each_more}

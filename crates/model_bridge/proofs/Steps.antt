@@ -1,8 +1,7 @@
 -- What the code makes is what the law of plans asks for.
-use Rattle.std.proofs.Common.{◌≡◌, ℕ, zero, suc, ◌≤◌, ◌<◌, ◌+◌, Bool, true, false, cond, List, [], ◌∷◌, ◌++◌, length, ℤ, pos, ◌≤ℤ◌, refl, sym, ◌∙◌, ap, subst, arith, Option, Some, None, replicate}
-use Rattle.std.specs.Prelude.{filter, map, flat_map, not, ◌&&◌, ◌==◌, All, IsSome, slice_index_or, slice_set, slice_get, int_lt}
-use Rattle.std.specs.List.{range_with_len, zip}
-use Rattle.std.specs.Cmp.{signed_Decides}
+use Rattle.std.proofs.Common.{◌≡◌, ℕ, zero, suc, ◌<◌, Bool, true, false, cond, List, [], ◌∷◌, ◌++◌, length, ℤ, ◌≤ℤ◌, refl, ◌∙◌, ap, arith, Option, Some, None, replicate}
+use Rattle.std.specs.Prelude.{filter, map, flat_map, not, ◌==◌, IsSome, slice_index_or, slice_set, int_lt}
+use Rattle.std.specs.List.{zip}
 use Rattle.std.proofs.lemmas.Bool.{false≢true}
 use borrow.Author.Differences.{ints}
 use Rattle.proof_trees.specs.Program.{sum_to, where_set}
@@ -11,16 +10,14 @@ use Rattle.stow_data.specs.Plans.{Plan, no_container, held as held_in}
 use Rattle.stow_data.specs.Kinds.{kind_number}
 use Rattle.stow_data.specs.Ship.{places}
 use Rattle.stow_data.proofs.Distinct.{Each, each_from}
-use Rattle.zero_one_rows.specs.declared.program.Row.{Row}
 use Rattle.zero_one_rows.specs.Variables.{Voyage, variables, var}
 use Rattle.zero_one_rows.specs.Rows.{base, IsSolution}
 use Rattle.solution_meaning.proofs.Words.{container, kind_at}
 use Rattle.solution_meaning.proofs.Sums.{same_sum}
-use Rattle.solution_meaning.proofs.Match.{total, total_append, picked, each_append, each_more, each_picked}
+use Rattle.solution_meaning.proofs.Match.{total, total_append, picked, each_append, each_picked}
 use Rattle.solution_meaning.proofs.Members.{empties, plan_from}
 use Rattle.solution_meaning.proofs.Plans.{spot}
-use Rattle.solution_meaning.proofs.Calls.{Facts, IsPair, IsHeld, kept, freed as freed_from, gone, leaves, each_freed}
-use Rattle.solution_meaning.proofs.Sorting.{Rising}
+use Rattle.solution_meaning.proofs.Calls.{kept, freed as freed_from, gone, each_freed}
 use Rattle.solution_meaning.proofs.Walk.{IsBag, IsHeldNext, each_bag}
 use Rattle.solution_meaning.proofs.First.{arrival_pairs, with_pair, AreOnes}
 use Rattle.model_bridge.specs.Pairs.{Pairs, ones, is_one, pair_with, pair_at_arrival, listed_ones, stays, is_freed, freed, loads, loading_at, is_put, kind_of_var, each_kind, IsNextHeld, plan_of_pairs}
@@ -28,7 +25,7 @@ use Rattle.model_bridge.specs.Sailed.{IsFull, BreaksNone}
 use Rattle.model_bridge.proofs.Bags.{permuted, listed_bag, listed_picked, twice_picked, each_listed, rising_from}
 
 -- the place of each box in the list of kinds
-kind_listed : {X : Type 0} (f : X → ℕ) (xs : List X) (c : ℕ) (d : X) → c < length xs → slice_index_or (map f xs) c 0 ≡ f (slice_index_or xs c d)
+pub kind_listed : {X : Type 0} (f : X → ℕ) (xs : List X) (c : ℕ) (d : X) → c < length xs → slice_index_or (map f xs) c 0 ≡ f (slice_index_or xs c d)
 kind_listed f [] c d l = absurd (omega (arith, l))
 kind_listed f (x ∷ xs) zero d l = refl
 kind_listed f (x ∷ xs) (suc c) d l = kind_listed f xs c d (omega (arith, l))

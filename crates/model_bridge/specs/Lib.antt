@@ -1,2 +1,4 @@
 pub mod Pairs
 pub mod Sailed
+pub mod Stays
+pub mod Assigned

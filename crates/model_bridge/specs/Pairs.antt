@@ -1,5 +1,5 @@
 -- Variables that are 1, and the containers that they carry.
-use Rattle.std.specs.Prelude.{◌≡◌, ℕ, ◌<◌, Bool, true, false, not, ◌==◌, ◌&&◌, List, [], ◌∷◌, ◌++◌, Option, Some, None, cond, filter, flat_map, map, length, slice_set, slice_index_or, replicate}
+use Rattle.std.specs.Prelude.{◌≡◌, ℕ, ◌<◌, Bool, false, not, ◌==◌, ◌&&◌, List, [], ◌∷◌, ◌++◌, Option, Some, None, cond, filter, map, length, slice_set, slice_index_or, replicate}
 use Rattle.std.specs.List.{range_with_len, zip}
 use Rattle.std.specs.List.Sorted.{IsPermutation, IsNonDecreasingBy}
 use Rattle.stow_data.specs.Plans.{Plan, container_at, held as held_in}

@@ -1,5 +1,5 @@
 -- Full boxes that break no base row, and what their plans are.
-use Rattle.std.specs.Prelude.{◌≡◌, ℕ, true, false, List, length, All, IsSome, pos, ◌≤ℤ◌}
+use Rattle.std.specs.Prelude.{◌≡◌, true, false, List, length, All, IsSome, pos, ◌≤ℤ◌}
 use Rattle.stow_data.specs.Plans.{Plan}
 use Rattle.voyage_meaning.specs.declared.moves.Move.{Move}
 use Rattle.voyage_meaning.specs.Voyage.{IsLegalVoyage, voyage_count}

@@ -4,7 +4,6 @@ use Rattle.std.specs.List.Sorted.{IsNonDecreasingBy}
 use Rattle.std.proofs.lemmas.Fn.{always_returns_same}
 use Rattle.std.proofs.lemmas.List.Sorted.{IsNonDecreasingBy-from_sort}
 use Rattle.std.proofs.lemmas.Result.{IfOk-weaker}
-use Rattle.model_bridge.specs.Pairs.{kind_of_var}
 use Rattle.model_bridge.proofs.pairs.boxes_by_kind.Goals as goal
 
 pub returns-clause-order : goal.returns-clause-order

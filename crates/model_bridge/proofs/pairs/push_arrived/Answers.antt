@@ -1,12 +1,11 @@
-use Rattle.std.proofs.Common.{◌≡◌, ◌∙◌, ◌∷◌, ◌++◌, ℕ, List, [], Option, Some, None, ap, sym, arith, length, refl}
+use Rattle.std.proofs.Common.{◌≡◌, ◌∙◌, ◌∷◌, ◌++◌, ℕ, List, [], Option, Some, None, ap, sym, arith, length}
 use Rattle.std.specs.Prelude.{slice_get}
 use Rattle.std.proofs.lemmas.List.{append-nil}
-use Rattle.stow_data.specs.Ship.{places}
 use Rattle.stow_data.specs.Shipment.{Cargo}
 use Rattle.zero_one_rows.specs.declared.program.Var.{Var}
 use Rattle.zero_one_rows.proofs.Listing.{var_listed}
 use Rattle.zero_one_rows.specs.Variables.{var}
-use Rattle.model_bridge.specs.Pairs.{pair_at_arrival, pair_with}
+use Rattle.model_bridge.specs.Pairs.{pair_at_arrival}
 use Rattle.model_bridge.proofs.Lists.{pair_is, pushed}
 use Rattle.model_bridge.proofs.pairs.push_arrived.Goals as goal
 

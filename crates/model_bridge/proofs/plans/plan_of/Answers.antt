@@ -1,11 +1,11 @@
-use Rattle.std.proofs.Common.{◌≡◌, ◌∙◌, ◌<◌, ◌+◌, ◌∷◌, ◌++◌, ℕ, suc, List, [], ap, sym, subst, arith, length, length-append}
+use Rattle.std.proofs.Common.{◌≡◌, ◌<◌, ◌+◌, ◌∷◌, ◌++◌, ℕ, suc, List, [], ap, sym, subst, arith, length, length-append}
 use Rattle.std.specs.Prelude.{All}
 use Rattle.stow_data.specs.Plans.{Plan}
 use Rattle.stow_data.specs.Shipment.{Cargo}
-use Rattle.zero_one_rows.specs.Variables.{variables, calls}
+use Rattle.zero_one_rows.specs.Variables.{variables}
 use Rattle.zero_one_rows.specs.Rows.{IsSolution}
 use Rattle.solution_meaning.proofs.Calls.{IsPair}
-use Rattle.model_bridge.specs.Pairs.{Pairs, ones, listed_ones, IsNextHeld, plan_of_pairs}
+use Rattle.model_bridge.specs.Pairs.{ones, listed_ones, IsNextHeld, plan_of_pairs}
 use Rattle.model_bridge.proofs.Bags.{all_from, each_listed}
 use Rattle.model_bridge.proofs.Steps.{solves}
 use Rattle.model_bridge.proofs.Reached.{IsReached, reached_first, next_held, reached_next, sailed}

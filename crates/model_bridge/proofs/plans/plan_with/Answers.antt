@@ -1,5 +1,5 @@
-use Rattle.std.proofs.Common.{◌≡◌, ◌∙◌, ◌-◌, ◌∷◌, ℕ, List, Option, Some, ap, sym, subst, arith, length, drop, suc, ◌<◌, ◌+◌}
-use Rattle.std.specs.Prelude.{slice_set, slice_get}
+use Rattle.std.proofs.Common.{◌≡◌, ◌∙◌, ◌-◌, ◌∷◌, ℕ, Some, ap, sym, arith, length, drop, suc, ◌<◌, ◌+◌}
+use Rattle.std.specs.Prelude.{slice_set}
 use Rattle.stow_data.specs.Plans.{Plan}
 use Rattle.zero_one_rows.specs.declared.program.Var.{Var}
 use Rattle.zero_one_rows.proofs.Listing.{var_listed}
