@@ -1,7 +1,7 @@
 -- Over files that are told, the answers to an order agree.
-use Rattle.std.proofs.Common.{◌≡◌, ℕ, List, Option, Some, None, refl, sym, subst, ◌∙◌, inl, inr}
+use Rattle.std.proofs.Common.{◌≡◌, ℕ, List, Option, Some, None, refl, sym, ap, subst, ◌∙◌, inl, inr}
 use Rattle.std.specs.Prelude.{◌⊎◌, IfSome}
-use Rattle.stow_io.specs.Files.{Files}
+use Rattle.stow_io.specs.Files.{Files, put}
 use Rattle.stow_data.specs.Plans as stowed
 use Rattle.zero_one_rows.specs.Variables.{Voyage}
 use Rattle.certificate.specs.declared.tree.Head.{Head}
@@ -12,6 +12,8 @@ use Rattle.solution_meaning.specs.Laws.{HasNoVoyage}
 use Rattle.plan_search.specs.Certified.{OutcomeHolds, CountsVoyage, Certifies}
 use Rattle.program_ends.specs.declared.files.Finding.{Finding}
 use Rattle.program_ends.specs.declared.files.Finding.TheVariants as finding
+use Rattle.program_ends.specs.Writing.{with_files}
+use Rattle.program_ends.specs.declared.files.NamedFile.{NamedFile}
 use Rattle.program_ends.specs.declared.files.Work.{Work}
 use Rattle.voyage_inputs.specs.declared.answer.Answer.{Answer}
 use Rattle.voyage_inputs.specs.declared.answer.Answer.TheVariants as answer
@@ -22,7 +24,8 @@ use Rattle.stow_words.specs.declared.order.Order.{Order}
 use Rattle.stow_words.specs.declared.order.Order.TheVariants.{Plan, Check, Show, Make}
 use Rattle.stow_answers.specs.Voyages.{Sails, voyage_of}
 use Rattle.stow_answers.specs.Work.{finding_of}
-use Rattle.stow_answers.specs.Answers.{Judges, PlanWithin, PlanOf, IsAnswerTo}
+use Rattle.stow_answers.specs.Made.{behind, made_files, made_names, only_made}
+use Rattle.stow_answers.specs.Answers.{Judges, PlanWithin, PlanOf, IsPlanTo, IsMade, IsAnswerTo}
 use Rattle.stow_answers.specs.Law.{MayBothFind, MayBothAnswer, Agree}
 use Rattle.stow_answers.proofs.OneAnswer.{taken_not_turned, within_not_large, large_answers, one_check, one_show}
 
@@ -98,13 +101,10 @@ within_agree budget base v (answer.Large line) (answer.Work x) h k = tt
 within_agree budget base v (answer.Large line) (answer.Large other) h k = tt
 within_agree budget base v (answer.Work w) (answer.No line) h k = k
 within_agree budget base v (answer.Work w) (answer.Input line) h k = k
-within_agree budget base v (answer.Work w) answer.Unbuilt h k = k
 within_agree budget base v (answer.Large l) (answer.No line) h k = k
 within_agree budget base v (answer.Large l) (answer.Input line) h k = k
-within_agree budget base v (answer.Large l) answer.Unbuilt h k = k
 within_agree budget base v (answer.No line) b h k = absurd h
 within_agree budget base v (answer.Input line) b h k = absurd h
-within_agree budget base v answer.Unbuilt b h k = absurd h
 
 abbrev PlansAgree : Answer → Answer → Type 0
 PlansAgree a b = (a ≡ b) ⊎ MayBothAnswer a b
@@ -123,10 +123,44 @@ plans_judged names files budget base a b (inl h) (inr k) = absurd (taken_not_tur
 plans_judged names files budget base a b (inr h) (inl k) = absurd (taken_not_turned names files (PlanOf budget base) b a k h)
 plans_judged names files budget base a b (inr h) (inr k) = inl (turned_one names files a b h k)
 
+-- ## `make`
+
+-- files that are written before those of both change nothing of what is found
+behind_both : (front : List NamedFile) (a b : Answer) → MayBothAnswer a b → MayBothAnswer (behind front a) (behind front b)
+behind_both front (answer.Work w) (answer.Work x) h = h
+behind_both front (answer.Work w) (answer.Large line) h = tt
+behind_both front (answer.Large line) (answer.Work x) h = tt
+behind_both front (answer.Large line) (answer.Large other) h = tt
+behind_both front (answer.Work w) (answer.No line) h = absurd h
+behind_both front (answer.Work w) (answer.Input line) h = absurd h
+behind_both front (answer.Large l) (answer.No line) h = absurd h
+behind_both front (answer.Large l) (answer.Input line) h = absurd h
+behind_both front (answer.No line) b h = absurd h
+behind_both front (answer.Input line) b h = absurd h
+
+behind_agree : (front : List NamedFile) (a b : Answer) → PlansAgree a b → PlansAgree (behind front a) (behind front b)
+behind_agree front a b (inl e) = inl (ap (behind front) e)
+behind_agree front a b (inr h) = inr (behind_both front a b h)
+
+-- the two files are told, whatever the folder tells
+pub made_told : (number : ℕ) (base : List ℕ) → (files : Files) × (only_made number base ≡ Some files)
+unfolding with_files put
+made_told number base = (_, refl)
+
+made_agree : (number : ℕ) (base : List ℕ) (a b : Answer) → IsMade number base a → IsMade number base b → PlansAgree a b
+made_agree number base a b h k =
+    let told = made_told number base in
+    let names = made_names base in
+    let front = made_files number base in
+    let first = subst (λ (files : Option Files). IsPlanTo names 50 files h.planned) told.1 h.plans in
+    let second = subst (λ (files : Option Files). IsPlanTo names 50 files k.planned) told.1 k.plans in
+    subst (λ (x : Answer). PlansAgree x b) (sym h.answer_is)
+    (subst (PlansAgree (behind front h.planned)) (sym k.answer_is) (behind_agree front h.planned k.planned (plans_judged names told.0 50 base h.planned k.planned first second)))
+
 -- ## All orders
 
 pub answers_agree : (o : Order) (files : Files) (a b : Answer) → IsAnswerTo o (Some files) a → IsAnswerTo o (Some files) b → Agree o a b
 answers_agree (Plan profile bookings base arrival workers budget) files a b h k = plans_judged (names_from profile bookings base arrival) files budget base a b h k
 answers_agree (Check profile bookings base arrival) files a b h k = one_check profile bookings base arrival files a b h k
 answers_agree (Show file) files a b h k = one_show file files a b h k
-answers_agree (Make number base) files a b h k = h ∙ sym k
+answers_agree (Make number base) files a b h k = made_agree number base a b h k

@@ -5,3 +5,4 @@ pub mod WrittenFiles
 pub mod OneCheck
 pub mod OneAnswer
 pub mod Agreement
+pub mod Searched

@@ -102,13 +102,10 @@ show_one bytes (answer.Input line) (answer.Input other) h k =
     ap (λ (y : List ℕ). answer.Input y) (h.line_is ∙ ap (λ (f : BaplieFault). refusal_text (file_line f)) e ∙ sym k.line_is)
 show_one bytes (answer.Work w) (answer.No line) h k = absurd k
 show_one bytes (answer.Work w) (answer.Large line) h k = absurd k
-show_one bytes (answer.Work w) answer.Unbuilt h k = absurd k
 show_one bytes (answer.Input line) (answer.No other) h k = absurd k
 show_one bytes (answer.Input line) (answer.Large other) h k = absurd k
-show_one bytes (answer.Input line) answer.Unbuilt h k = absurd k
 show_one bytes (answer.No line) b h k = absurd h
 show_one bytes (answer.Large line) b h k = absurd h
-show_one bytes answer.Unbuilt b h k = absurd h
 
 -- ## All orders of files
 

@@ -69,13 +69,10 @@ module _ (m : Voyage) (problem : IsProblem m) (head : Head) (tree : List Record)
   judged_one (answer.No line) (answer.No other) h k = ap (λ (y : List ℕ). answer.No y) (both_no line other h k)
   judged_one (answer.Work w) (answer.Input line) h k = absurd k
   judged_one (answer.Work w) (answer.Large line) h k = absurd k
-  judged_one (answer.Work w) answer.Unbuilt h k = absurd k
   judged_one (answer.No line) (answer.Input other) h k = absurd k
   judged_one (answer.No line) (answer.Large other) h k = absurd k
-  judged_one (answer.No line) answer.Unbuilt h k = absurd k
   judged_one (answer.Input line) b h k = absurd h
   judged_one (answer.Large line) b h k = absurd h
-  judged_one answer.Unbuilt b h k = absurd h
 
 -- ## Files
 

@@ -25,6 +25,7 @@ use Rattle.stow_report.specs.Verdicts.{file_line}
 use Rattle.solution_meaning.specs.Laws.{IsProblem}
 use Rattle.stow_answers.specs.Voyages.{Sails, Overflows, voyage_of}
 use Rattle.stow_answers.specs.Checks.{ReadsCert, IsWrittenRead}
+use Rattle.stow_answers.specs.Made.{made_files, made_names, only_made, behind}
 
 -- ## Inputs
 
@@ -59,11 +60,22 @@ PlanWithin budget base v (answer.Work work) = Sails base v budget work
 PlanWithin budget base v (answer.Large line) = Overflows v budget line
 PlanWithin budget base v (answer.No line) = ⊥
 PlanWithin budget base v (answer.Input line) = ⊥
-PlanWithin budget base v answer.Unbuilt = ⊥
 
 -- the model's limits come first, then the search
 abbrev pub PlanOf : ℕ → List ℕ → BookedVoyage → Answer → Type 0
 PlanOf budget base v a = IsLarge (voyage_of v) a ⊎ (IsWithin (voyage_of v) × PlanWithin budget base v a)
+
+-- what the inputs of these files are answered, with this budget
+abbrev pub IsPlanTo : Names → ℕ → Option Files → Answer → Type 0
+IsPlanTo names budget files a = Judges names files (PlanOf budget names.base) a
+
+-- ## `make`
+
+-- what `plan` answers with a budget of 50 where the folder holds the made profile and the made bookings alone; the two are written before its own files
+pub record IsMade (number : ℕ) (base : List ℕ) (a : Answer) : Type 0 where
+  pub planned : Answer
+  pub plans : IsPlanTo (made_names base) 50 (only_made number base) planned
+  pub answer_is : a ≡ behind (made_files number base) planned
 
 -- ## `check`
 
@@ -100,7 +112,6 @@ ShowOf bytes (answer.Work work) = Lists bytes work
 ShowOf bytes (answer.Input line) = RefusesFile bytes line
 ShowOf bytes (answer.No line) = ⊥
 ShowOf bytes (answer.Large line) = ⊥
-ShowOf bytes answer.Unbuilt = ⊥
 
 pub record IsShown (file : List ℕ) (files : Option Files) (a : Answer) : Type 0 where
   pub bytes : List ℕ
@@ -109,12 +120,12 @@ pub record IsShown (file : List ℕ) (files : Option Files) (a : Answer) : Type 
 
 -- ## All orders
 
--- A made ship isn't built yet. What is said of a plan holds for any number of workers.
+-- What is said of a plan holds for any number of workers.
 abbrev pub IsAnswerTo : Order → Option Files → Answer → Type 0
-IsAnswerTo (Plan profile bookings base arrival workers budget) files a = Judges (names_from profile bookings base arrival) files (PlanOf budget base) a
+IsAnswerTo (Plan profile bookings base arrival workers budget) files a = IsPlanTo (names_from profile bookings base arrival) budget files a
 IsAnswerTo (Check profile bookings base arrival) files a = Judges (names_from profile bookings base arrival) files (CheckOf base files) a
 IsAnswerTo (Show file) files a = IsShown file files a
-IsAnswerTo (Make number base) files a = a ≡ answer.Unbuilt
+IsAnswerTo (Make number base) files a = IsMade number base a
 
 -- the certificate and the departure files are read where the inputs are accepted and their voyage is within the limits
 pub record IsWrittenOf (names : Names) (files : Option Files) (name : List ℕ) : Type 0 where
@@ -126,7 +137,7 @@ pub record IsWrittenOf (names : Names) (files : Option Files) (name : List ℕ) 
 abbrev pub IsCheckRead : Names → Option Files → List ℕ → Type 0
 IsCheckRead names files name = IsReadBy names files name ⊎ IsWrittenOf names files name
 
--- a file that is read for the order
+-- a file that is read for the order; none is for a made ship
 abbrev pub IsReadFor : Order → Option Files → List ℕ → Type 0
 IsReadFor (Plan profile bookings base arrival workers budget) files name = IsReadBy (names_from profile bookings base arrival) files name
 IsReadFor (Check profile bookings base arrival) files name = IsCheckRead (names_from profile bookings base arrival) files name

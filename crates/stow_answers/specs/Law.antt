@@ -30,7 +30,7 @@ abbrev pub Agree : Order → Answer → Answer → Type 0
 Agree (order.Plan profile bookings base arrival workers budget) a b = (a ≡ b) ⊎ MayBothAnswer a b
 Agree (order.Check profile bookings base arrival) a b = a ≡ b
 Agree (order.Show file) a b = a ≡ b
-Agree (order.Make number base) a b = a ≡ b
+Agree (order.Make number base) a b = (a ≡ b) ⊎ MayBothAnswer a b
 
 -- over files that are told, two answers to the same order agree
 abbrev pub AnswersAgree : Type 0

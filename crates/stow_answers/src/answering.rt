@@ -7,10 +7,11 @@ ghost use Rattle.voyage_inputs.specs.Named.{names_of, IsStop, IsQuiet};
 ghost use Rattle.voyage_inputs.specs.Names.{names_from};
 
 use crate::checking::check;
+use crate::making::make;
 use crate::planning::plan;
 use crate::showing::show;
 use std::alloc::Global;
-use stow_data::Word;
+use stow_data::{NoMemory, Word};
 use stow_io::{Folder, Gate};
 use stow_words::Order;
 use voyage_inputs::{Answer, Inputs, ReadStop};
@@ -48,7 +49,10 @@ pub fn answer_to<'a, F: Folder, G: Gate>(
             arrival,
         } => check(alloc, inputs_from(profile, bookings, name, arrival), folder),
         Order::Show { file } => show(alloc, file.as_str(), folder),
-        Order::Make { .. } => Ok(Answer::Unbuilt),
+        Order::Make { number, name } => match make(alloc, *number, name.as_str(), gate) {
+            Ok(answer) => Ok(answer),
+            Err(NoMemory) => Err(ReadStop::NoMemory),
+        },
     }
 }
 

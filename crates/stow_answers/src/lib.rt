@@ -5,6 +5,7 @@ mod answering;
 mod checking;
 mod departures;
 mod law;
+mod making;
 mod planning;
 mod refusing;
 mod showing;

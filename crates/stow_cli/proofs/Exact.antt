@@ -34,7 +34,6 @@ exact_order order status.Undecided before now run fault files a told quiet h = i
 exact_order order status.No before now run fault files a told quiet h = inl (alike order before.files files (answer.No run.line) a status.No told run.answered h refl)
 exact_order order status.Input before now run fault files a told quiet h = inl (alike order before.files files (answer.Input run.line) a status.Input told run.answered h refl)
 exact_order order status.Large before now run fault files a told quiet h = inl (alike order before.files files (answer.Large run.line) a status.Large told run.answered h refl)
-exact_order order status.Unbuilt before now run fault files a told quiet h = inl (alike order before.files files answer.Unbuilt a status.Unbuilt told run.0 h refl)
 exact_order order status.Fault before now run fault files a told quiet h = absurd (quiet (fault refl))
 exact_order order status.Memory before now run fault files a told quiet h = inr refl
 exact_order order status.Words before now run fault files a told quiet h = absurd run
@@ -50,7 +49,6 @@ exact_words why status.Undecided before now run = absurd run
 exact_words why status.Input before now run = absurd run
 exact_words why status.Fault before now run = absurd run
 exact_words why status.Large before now run = absurd run
-exact_words why status.Unbuilt before now run = absurd run
 
 pub exact : (wanted : Result Order WordsNo) (s : Status) (before now : Outside) → IsRun wanted s before now → (s ≡ status.Fault → HasRisen before now) → IsExact wanted s before now
 exact (Ok order) s before now run fault = exact_order order s before now run fault

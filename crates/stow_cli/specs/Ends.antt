@@ -69,7 +69,6 @@ Follows order status.Input before now = IsLine order answer.Input before now (λ
 Follows order status.Large before now = IsLine order answer.Large before now (λ line. Prints line before now)
 Follows order status.Fault before now = IsDone order status.Fault before now ⊎ (IsUnread order before now ⊎ IsLine order answer.No before now (λ line. IsCut line before now))
 Follows order status.Memory before now = IsDone order status.Memory before now ⊎ OnlyPrints (codes "memory\n") before now
-Follows order status.Unbuilt before now = IsAnswerTo order before.files answer.Unbuilt × OnlyPrints (codes "unbuilt\n") before now
 Follows _ _ _ _ = ⊥
 
 -- the line of words that are refused
@@ -109,7 +108,6 @@ status_of (answer.Work work) = found_status work.finding
 status_of (answer.No line) = status.No
 status_of (answer.Input line) = status.Input
 status_of (answer.Large line) = status.Large
-status_of answer.Unbuilt = status.Unbuilt
 
 -- the status of an answer to the order that agrees with this one
 pub record EndsAlike (order : Order) (s : Status) (a : Answer) : Type 0 where

@@ -15,6 +15,8 @@ mod arrival_tests;
 #[cfg(test)]
 mod file_tests;
 #[cfg(test)]
+mod make_tests;
+#[cfg(test)]
 mod plan_tests;
 #[cfg(test)]
 mod refusal_tests;

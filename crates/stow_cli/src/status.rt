@@ -25,8 +25,6 @@ pub enum Status {
     Memory,
     /// A limit is passed.
     Large,
-    /// What the words ask for isn't built yet.
-    Unbuilt,
 }
 
 impl Status {
@@ -45,7 +43,6 @@ impl Status {
             Status::Fault => 7,
             Status::Memory => 8,
             Status::Large => 9,
-            Status::Unbuilt => 10,
         }
     }
 }

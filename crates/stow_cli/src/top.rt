@@ -2,7 +2,8 @@
 ghost use Rattle.std.specs.Prelude.{◌≡◌, ◌⊎◌, ◌≤◌};
 ghost use Rattle.program_ends.specs.Outside.{outside, HasRisen};
 ghost use Rattle.stow_words.specs.Orders.{ordered, IsInRange};
-ghost use Rattle.stow_cli.specs.Ends.{Follows, IsRun, IsExact};
+ghost use Rattle.stow_cli.specs.Ends.{Follows, IsRun};
+ghost use Rattle.stow_cli.specs.Obeyed.{Obeys};
 ghost use Rattle.stow_cli.specs.Taken.{HasClapFault, OrdersOwn};
 
 use crate::ending::{complete, refuse, say_no};
@@ -26,14 +27,7 @@ pub fn stow<R: Threads + Wait + Sync, F: Folder, K: Sink, G: Gate + Sync>(
     out: &mut K,
     gate: &G,
 ) -> Status
-    ensures run { IsRun (ordered words.now) result (outside F.Folder K.Sink folder.old out.old) (outside F.Folder K.Sink folder.new out.new) }
-    ensures exact { IsExact (ordered words.now) result (outside F.Folder K.Sink folder.old out.old) (outside F.Folder K.Sink folder.new out.new) }
-    ensures not_taken { HasClapFault words.now result }
-    ensures own { OrdersOwn words.now result }
-    ensures fault { result ≡ Status.Fault → HasRisen (outside F.Folder K.Sink folder.old out.old) (outside F.Folder K.Sink folder.new out.new) }
-    ensures quiet { (result ≡ Status.Fault → ⊥) → F.faults folder.new ≡ F.faults folder.old }
-    ensures folder_later { F.faults folder.old ≤ F.faults folder.new }
-    ensures sink_later { K.faults out.old ≤ K.faults out.new }
+    ensures { Obeys words.now result (outside F.Folder K.Sink folder.old out.old) (outside F.Folder K.Sink folder.new out.new) }
 {
     run(alloc, words, folder, out, gate)
 }
@@ -47,14 +41,7 @@ pub fn run<F: Folder, K: Sink, G: Gate>(
     out: &mut K,
     gate: &G,
 ) -> Status
-    ensures run { IsRun (ordered words.now) result (outside F.Folder K.Sink folder.old out.old) (outside F.Folder K.Sink folder.new out.new) }
-    ensures exact { IsExact (ordered words.now) result (outside F.Folder K.Sink folder.old out.old) (outside F.Folder K.Sink folder.new out.new) }
-    ensures not_taken { HasClapFault words.now result }
-    ensures own { OrdersOwn words.now result }
-    ensures fault { result ≡ Status.Fault → HasRisen (outside F.Folder K.Sink folder.old out.old) (outside F.Folder K.Sink folder.new out.new) }
-    ensures quiet { (result ≡ Status.Fault → ⊥) → F.faults folder.new ≡ F.faults folder.old }
-    ensures folder_later { F.faults folder.old ≤ F.faults folder.new }
-    ensures sink_later { K.faults out.old ≤ K.faults out.new }
+    ensures { Obeys words.now result (outside F.Folder K.Sink folder.old out.old) (outside F.Folder K.Sink folder.new out.new) }
 {
     obey(alloc, words, folder, out, gate)
 }
@@ -106,10 +93,6 @@ fn follow<F: Folder, K: Sink, G: Gate>(
         Ok(Answer::Large(line)) => {
             say(out, line.as_slice());
             Status::Large
-        }
-        Ok(Answer::Unbuilt) => {
-            say(out, b"unbuilt\n");
-            Status::Unbuilt
         }
         Err(ReadStop::Failed(name)) => {
             say_name(out, b"fault read ", name);

@@ -33,11 +33,6 @@ fn planned<R: Abort>(rt: &R, alloc: Global, texts: &[&str]) -> Result<(), NoMemo
     run_ends(rt, alloc, texts, Status::Fine, REPORT)
 }
 
-// Words of what isn't built.
-fn unbuilt<R: Abort>(rt: &R, alloc: Global, texts: &[&str]) -> Result<(), NoMemory> {
-    run_ends(rt, alloc, texts, Status::Unbuilt, b"unbuilt\n")
-}
-
 #[test]
 fn other_words_are_refused(rt: HostRuntime) -> Result<(), Fail> {
     let alloc = rt.alloc();
@@ -197,12 +192,6 @@ fn options_stand_anywhere(rt: HostRuntime) -> Result<(), Fail> {
             "X",
         ],
     )?;
-    Ok(())
-}
-
-#[test]
-fn what_waits_for_the_search_is_unbuilt(rt: HostRuntime) -> Result<(), Fail> {
-    unbuilt(&rt, rt.alloc(), &["stow", "make", "2147483647", "X"])?;
     Ok(())
 }
 

@@ -1,4 +1,4 @@
--- The numbers of a plan are in their ranges.
+-- The numbers of a plan and of a made ship are in their ranges.
 use Rattle.std.proofs.Common.{◌≡◌, ◌≤◌, ℕ, Bool, true, false, ◌&&◌, nat_le, List, [], ◌∷◌, Option, Some, None, refl, sym, inl, inr, arith, subst, ◌∙◌}
 use Rattle.std.specs.Prelude.{codes, Result, Ok, Err, IfOk, if◌then◌else◌}
 use borrow.Author.Tests.{leb-true}
@@ -35,16 +35,16 @@ planned_in_range profile bookings base arrival None budget w b = tt
 planned_in_range profile bookings base arrival (Some n) None w b = tt
 planned_in_range profile bookings base arrival (Some n) (Some k) w b = (w.0, w.1, b.0, b.1)
 
-made_in_range : (base : Text) (o : Option ℕ) → IfOk (made base o) IsInRange
-made_in_range base None = tt
-made_in_range base (Some n) = tt
+made_in_range : (base : Text) (o : Option ℕ) → IsBetween 0 2147483647 o → IfOk (made base o) IsInRange
+made_in_range base None h = tt
+made_in_range base (Some n) h = h.1
 
 order_in_range : (v : Option Verb) (rows : List Row) → IfOk (order_of v rows) IsInRange
 order_in_range None rows = tt
 order_in_range (Some verb.Plan) rows = planned_in_range _ _ _ _ (workers_in rows) (budget_in rows) (or_between 1 1 16 (first_of (codes "workers") rows) (omega arith) (omega arith)) (or_between 1000 1 100000 (first_of (codes "budget") rows) (omega arith) (omega arith))
 order_in_range (Some verb.Check) rows = tt
 order_in_range (Some verb.Show) rows = tt
-order_in_range (Some verb.Make) rows = made_in_range _ (number_at rows)
+order_in_range (Some verb.Make) rows = made_in_range _ (number_at rows) (number_between 0 2147483647 (positional (codes "number") rows))
 
 entered_in_range : (o : Option (Text × List Row)) → IfOk (entered_order o) IsInRange
 entered_in_range None = tt

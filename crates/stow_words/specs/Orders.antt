@@ -31,12 +31,12 @@ budget_in rows = number_or 1000 1 100000 (first_of (codes "budget") rows)
 abbrev pub number_at : List Row → Option ℕ
 number_at rows = number_in 0 2147483647 (positional (codes "number") rows)
 
--- a plan's numbers are in their ranges
+-- the numbers of a plan and of a made ship are in their ranges
 abbrev pub IsInRange : Order → Type 0
 IsInRange (Plan profile bookings base arrival workers budget) = (1 ≤ workers) × (workers ≤ 16) × (1 ≤ budget) × (budget ≤ 100000)
 IsInRange (Check profile bookings base arrival) = Unit {0}
 IsInRange (Show file) = Unit {0}
-IsInRange (Make number base) = Unit {0}
+IsInRange (Make number base) = number ≤ 2147483647
 
 -- the order of a plan, where both numbers are in their ranges
 abbrev pub planned : Text → Text → Text → Option Text → Option ℕ → Option ℕ → Result Order WordsNo

@@ -13,6 +13,4 @@ pub enum Answer {
     Input(Bytes),
     /// A limit is passed: the line that says so.
     Large(Bytes),
-    /// What isn't built yet.
-    Unbuilt,
 }

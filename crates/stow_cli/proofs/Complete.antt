@@ -1,0 +1,103 @@
+-- Accepted input has an answer.
+use Rattle.std.proofs.Common.{◌≡◌, ℕ, List, Option, Some, refl, sym, ap, subst, ◌∙◌, inl, inr}
+use Rattle.std.specs.Prelude.{◌⊎◌, Result, Ok, Err}
+use Rattle.stow_io.specs.Files.{Files}
+use Rattle.program_ends.specs.Outside.{Outside, HasRisen}
+use Rattle.program_ends.specs.declared.files.NamedFile.{NamedFile}
+use Rattle.program_ends.specs.declared.files.Finding.TheVariants as finding
+use Rattle.program_ends.specs.declared.files.Work.{Work}
+use Rattle.stow_words.specs.declared.order.Order.{Order}
+use Rattle.stow_words.specs.declared.order.Order.TheVariants.{Plan, Check, Show, Make}
+use Rattle.stow_words.specs.declared.order.WordsNo.{WordsNo}
+use Rattle.voyage_inputs.specs.Names.{names_from}
+use Rattle.voyage_inputs.specs.declared.answer.Answer.{Answer}
+use Rattle.voyage_inputs.specs.declared.answer.Answer.TheVariants as answer
+use Rattle.voyage_inputs.specs.declared.voyage.BookedVoyage.{BookedVoyage}
+use Rattle.stow_answers.specs.Answers.{IsAnswerTo, PlanWithin}
+use Rattle.stow_answers.specs.Made.{behind, made_files, made_names, only_made}
+use Rattle.stow_answers.specs.Voyages.{Overflows}
+use Rattle.stow_answers.proofs.Searched.{list_is_fine, made_searched, searched, yes_is_fine}
+use Rattle.stow_cli.specs.declared.status.Status.{Status}
+use Rattle.stow_cli.specs.declared.status.Status.TheVariants as status
+use Rattle.stow_cli.specs.Ends.{EndsAlike, Follows, IsExact, IsRun, found_status, status_of}
+use Rattle.stow_cli.specs.Complete.{AreGood, EndsOrder, EndsSearch, IsComplete, IsFine}
+
+-- ## `plan` and `make`
+
+-- what a search is answered: work, or the line of a certificate that is too long
+abbrev IsSearched : BookedVoyage → ℕ → Answer → Type 0
+IsSearched v budget (answer.Work work) = Unit {0}
+IsSearched v budget (answer.Large line) = Overflows v budget line
+IsSearched v budget (answer.No line) = ⊥
+IsSearched v budget (answer.Input line) = ⊥
+
+of_within : (budget : ℕ) (base : List ℕ) (v : BookedVoyage) (a : Answer) → PlanWithin budget base v a → IsSearched v budget a
+of_within budget base v (answer.Work work) h = tt
+of_within budget base v (answer.Large line) h = h
+of_within budget base v (answer.No line) h = h
+of_within budget base v (answer.Input line) h = h
+
+of_behind : (budget : ℕ) (v : BookedVoyage) (front : List NamedFile) (a : Answer) → IsSearched v budget a → IsSearched v budget (behind front a)
+of_behind budget v front (answer.Work work) h = tt
+of_behind budget v front (answer.Large line) h = h
+of_behind budget v front (answer.No line) h = h
+of_behind budget v front (answer.Input line) h = h
+
+abbrev AnswersSearch : Order → Option Files → BookedVoyage → ℕ → Type 0
+AnswersSearch order files v budget = (a : Answer) → IsAnswerTo order files a → IsSearched v budget a
+
+-- an order whose answers are those of a search ends as one
+ends_search : (order : Order) (v : BookedVoyage) (budget : ℕ) (s : Status) (before now : Outside) → AnswersSearch order before.files v budget → Follows order s before now → (s ≡ status.Fault → ⊥) → EndsSearch v budget s before now
+ends_search order v budget status.Fine before now h run quiet = tt
+ends_search order v budget status.Gap before now h run quiet = tt
+ends_search order v budget status.NoPlan before now h run quiet = tt
+ends_search order v budget status.Undecided before now h run quiet = tt
+ends_search order v budget status.Memory before now h run quiet = tt
+ends_search order v budget status.Large before now h run quiet = (run.line, h (answer.Large run.line) run.answered, run.printed)
+ends_search order v budget status.Input before now h run quiet = h (answer.Input run.line) run.answered
+ends_search order v budget status.No before now h run quiet = h (answer.No run.line) run.answered
+ends_search order v budget status.Words before now h run quiet = run
+ends_search order v budget status.Fault before now h run quiet = quiet refl
+
+plan_searches : (profile bookings base : List ℕ) (arrival : Option (List ℕ)) (workers budget : ℕ) (files : Files) (v : BookedVoyage) → AreGood (names_from profile bookings base arrival) (Some files) v → AnswersSearch (Plan profile bookings base arrival workers budget) (Some files) v budget
+plan_searches profile bookings base arrival workers budget files v good a h = of_within budget base v a (searched (names_from profile bookings base arrival) files budget v a good.inputs_are good.within h)
+
+make_searches : (number : ℕ) (base : List ℕ) (files : Option Files) (v : BookedVoyage) → AreGood (made_names base) (only_made number base) v → AnswersSearch (Make number base) files v 50
+make_searches number base files v good a h =
+    let within = made_searched number base v h.planned good.inputs_are good.within h.plans in
+    subst (IsSearched v 50) (sym h.answer_is) (of_behind 50 v (made_files number base) h.planned (of_within 50 base v h.planned within))
+
+-- ## `check` and `show`
+
+fine_alike : (order : Order) (s : Status) (work : Work) → work.finding ≡ finding.Fine → (e : EndsAlike order s (answer.Work work)) → e.answer ≡ answer.Work work → s ≡ status.Fine
+fine_alike order s work fine e same = e.status_is ∙ ap status_of same ∙ ap found_status fine
+
+fine_check : (profile bookings base : List ℕ) (arrival : Option (List ℕ)) (s : Status) (files : Files) (work : Work) → IsAnswerTo (Check profile bookings base arrival) (Some files) (answer.Work work) → EndsAlike (Check profile bookings base arrival) s (answer.Work work) ⊎ (s ≡ status.Memory) → IsFine s
+fine_check profile bookings base arrival s files work h (inr m) = inr m
+fine_check profile bookings base arrival s files work h (inl e) = inl (fine_alike (Check profile bookings base arrival) s work (yes_is_fine profile bookings base arrival (Some files) work h) e e.agrees)
+
+fine_show : (file : List ℕ) (s : Status) (files : Files) (work : Work) → IsAnswerTo (Show file) (Some files) (answer.Work work) → EndsAlike (Show file) s (answer.Work work) ⊎ (s ≡ status.Memory) → IsFine s
+fine_show file s files work h (inr m) = inr m
+fine_show file s files work h (inl e) = inl (fine_alike (Show file) s work (list_is_fine file (Some files) work h) e e.agrees)
+
+-- ## All orders
+
+not_fault : (s : Status) (before now : Outside) → (s ≡ status.Fault → HasRisen before now) → (HasRisen before now → ⊥) → s ≡ status.Fault → ⊥
+not_fault s before now fault quiet e = quiet (fault e)
+
+ends_order : (order : Order) (s : Status) (before now : Outside) → Follows order s before now → IsExact (Ok order) s before now → (s ≡ status.Fault → HasRisen before now) → (HasRisen before now → ⊥) → EndsOrder order s before now
+ends_order (Plan profile bookings base arrival workers budget) s before now run exact fault quiet = λ files v told good.
+    let order = Plan profile bookings base arrival workers budget in
+    let answers = subst (λ (fs : Option Files). AnswersSearch order fs v budget) (sym told) (plan_searches profile bookings base arrival workers budget files v good) in
+    ends_search order v budget s before now answers run (not_fault s before now fault quiet)
+ends_order (Make number base) s before now run exact fault quiet = λ v good. ends_search (Make number base) v 50 s before now (make_searches number base before.files v good) run (not_fault s before now fault quiet)
+ends_order (Check profile bookings base arrival) s before now run exact fault quiet = λ files work told h.
+    let answered = subst (λ (fs : Option Files). IsAnswerTo (Check profile bookings base arrival) fs (answer.Work work)) (sym told) h in
+    fine_check profile bookings base arrival s files work h (exact files (answer.Work work) told quiet answered)
+ends_order (Show file) s before now run exact fault quiet = λ files work told h.
+    let answered = subst (λ (fs : Option Files). IsAnswerTo (Show file) fs (answer.Work work)) (sym told) h in
+    fine_show file s files work h (exact files (answer.Work work) told quiet answered)
+
+pub complete : (wanted : Result Order WordsNo) (s : Status) (before now : Outside) → IsRun wanted s before now → IsExact wanted s before now → (s ≡ status.Fault → HasRisen before now) → IsComplete wanted s before now
+complete (Err why) s before now run exact fault = tt
+complete (Ok order) s before now run exact fault = ends_order order s before now run exact fault

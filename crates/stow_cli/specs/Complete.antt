@@ -1,0 +1,50 @@
+-- Accepted input has an answer: how a run ends that no fault stops.
+use Rattle.std.specs.Prelude.{◌≡◌, ◌⊎◌, ℕ, List, Option, Some, Result, Ok, Err}
+use Rattle.stow_io.specs.Files.{Files}
+use Rattle.zero_one_model.specs.Building.{IsWithin}
+use Rattle.program_ends.specs.Ends.{Prints}
+use Rattle.program_ends.specs.Outside.{Outside, HasRisen}
+use Rattle.program_ends.specs.declared.files.Work.{Work}
+use Rattle.stow_words.specs.declared.order.Order.{Order}
+use Rattle.stow_words.specs.declared.order.Order.TheVariants.{Plan, Check, Show, Make}
+use Rattle.stow_words.specs.declared.order.WordsNo.{WordsNo}
+use Rattle.voyage_inputs.specs.Names.{Names, names_from}
+use Rattle.voyage_inputs.specs.Inputs.{AreInputs}
+use Rattle.voyage_inputs.specs.declared.answer.Answer.TheVariants as answer
+use Rattle.voyage_inputs.specs.declared.voyage.BookedVoyage.{BookedVoyage}
+use Rattle.stow_answers.specs.Answers.{IsAnswerTo}
+use Rattle.stow_answers.specs.Made.{made_names, only_made}
+use Rattle.stow_answers.specs.Voyages.{Overflows, voyage_of}
+use Rattle.stow_cli.specs.declared.status.Status.{Status}
+use Rattle.stow_cli.specs.declared.status.Status.TheVariants as status
+
+-- the inputs are accepted, and their 0-1 program is within its limits
+pub record AreGood (names : Names) (files : Option Files) (v : BookedVoyage) : Type 0 where
+  pub inputs_are : AreInputs names files v
+  pub within : IsWithin (voyage_of v)
+
+-- a search for plans ends with what it found, or with a certificate that is too long, as the printed line says, or for want of memory
+abbrev pub EndsSearch : BookedVoyage → ℕ → Status → Outside → Outside → Type 0
+EndsSearch v budget status.Fine before now = Unit {0}
+EndsSearch v budget status.Gap before now = Unit {0}
+EndsSearch v budget status.NoPlan before now = Unit {0}
+EndsSearch v budget status.Undecided before now = Unit {0}
+EndsSearch v budget status.Memory before now = Unit {0}
+EndsSearch v budget status.Large before now = (line : List ℕ) × Overflows v budget line × Prints line before now
+EndsSearch v budget _ before now = ⊥
+
+-- all is as it was asked for, or memory was wanting
+abbrev pub IsFine : Status → Type 0
+IsFine s = (s ≡ status.Fine) ⊎ (s ≡ status.Memory)
+
+-- Good inputs of `plan` are searched, and so are those that `make` makes, whatever the folder tells. Files that `check` has a yes for have that, and a bay plan is listed
+abbrev pub EndsOrder : Order → Status → Outside → Outside → Type 0
+EndsOrder (Plan profile bookings base arrival workers budget) s before now = (files : Files) (v : BookedVoyage) → before.files ≡ Some files → AreGood (names_from profile bookings base arrival) (Some files) v → EndsSearch v budget s before now
+EndsOrder (Make number base) s before now = (v : BookedVoyage) → AreGood (made_names base) (only_made number base) v → EndsSearch v 50 s before now
+EndsOrder (Check profile bookings base arrival) s before now = (files : Files) (work : Work) → before.files ≡ Some files → IsAnswerTo (Check profile bookings base arrival) (Some files) (answer.Work work) → IsFine s
+EndsOrder (Show file) s before now = (files : Files) (work : Work) → before.files ≡ Some files → IsAnswerTo (Show file) (Some files) (answer.Work work) → IsFine s
+
+-- where neither count of faults rose, an order ends so
+abbrev pub IsComplete : Result Order WordsNo → Status → Outside → Outside → Type 0
+IsComplete (Err why) s before now = Unit {0}
+IsComplete (Ok order) s before now = (HasRisen before now → ⊥) → EndsOrder order s before now
