@@ -10,6 +10,3 @@ pub use causes::{Cause, Prior};
 pub use law::{message_or_fault, nothing_left_out};
 pub use parts::{CellGroup, Facts, GroupList, Message};
 pub use texts::{cell_text, digit, length_of_type, read_cell_text, read_count, read_weight};
-
-#[cfg(test)]
-mod tests;

@@ -11,6 +11,3 @@ mod roles;
 pub use baplie_model::{Cause, CellGroup, Facts, GroupList, Message};
 pub use faults::BaplieFault;
 pub use reading::read_baplie;
-
-#[cfg(test)]
-mod tests;

@@ -6,6 +6,3 @@ mod writing;
 
 pub use law::read_is_whole;
 pub use writing::write_baplie;
-
-#[cfg(test)]
-mod tests;

@@ -20,6 +20,3 @@ pub use law::{drawn_once, nothing_breaks_out};
 pub use legend::add_ports;
 pub use page::index_page;
 pub use sheets::Sheet;
-
-#[cfg(test)]
-mod tests;

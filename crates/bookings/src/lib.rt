@@ -15,6 +15,3 @@ pub use cargo::cargo_of;
 pub use faults::BookingFault;
 pub use reader::read_bookings;
 pub use shipment::{Booking, BookingList, Bookings};
-
-#[cfg(test)]
-mod bookings_tests;

@@ -17,6 +17,3 @@ pub use faults::SegFault;
 pub use reading::{each_text, one_reading, read_interchange, reads_back};
 pub use segments::{Segment, SegmentList};
 pub use writing::{write_segment, written_determines};
-
-#[cfg(test)]
-mod tests;

@@ -18,6 +18,3 @@ mod stacks;
 pub use faults::{ProfileFault, ProfileKey};
 pub use laws::shared_cells_are_named;
 pub use profile_text::read_profile;
-
-#[cfg(test)]
-mod tests;

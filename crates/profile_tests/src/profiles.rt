@@ -1,5 +1,5 @@
 //! Whole profiles, and one text for each fault.
-use crate::{ProfileFault, ProfileKey, read_profile};
+use ship_profile::{ProfileFault, ProfileKey, read_profile};
 use std::alloc::Global;
 use std::process::Abort;
 use std::test::Fail;

@@ -1,5 +1,5 @@
 //! Texts of other hands, as they are read and written again.
-use crate::{SegFault, read_interchange, write_segment};
+use edifact_segments::{SegFault, read_interchange, write_segment};
 use std::alloc::Global;
 use std::test::Fail;
 use stow_data::Bytes;

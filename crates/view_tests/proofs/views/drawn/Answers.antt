@@ -1,7 +1,7 @@
 use Rattle.std.proofs.Common.{rules, [], ◌∷◌}
 use Rattle.std.proofs.lemmas.List.Elements.{All-nil, All-cons}
 use Rattle.stow_report.specs.Listings.{IsCell}
-use Rattle.bay_views.proofs.tests.drawn.Goals as goal
+use Rattle.view_tests.proofs.views.drawn.Goals as goal
 
 pub picture-requires : goal.picture-requires
 picture-requires c = record {

@@ -1,5 +1,5 @@
 //! Bay plans as they are sent (SMDG BAPLIE 2.2).
-use crate::{BaplieFault, Cause, Facts, Message, read_baplie};
+use baplie_read::{BaplieFault, Cause, Facts, Message, read_baplie};
 use edifact_segments::SegFault;
 use std::alloc::Global;
 use std::process::Abort;

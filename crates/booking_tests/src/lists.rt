@@ -1,8 +1,5 @@
 //! Bookings that are read whole, and a text for each reason why bookings are refused.
-use crate::booking_keys::BookingKey;
-use crate::faults::BookingFault;
-use crate::reader::read_bookings;
-use crate::shipment::{Booking, Bookings};
+use bookings::{Booking, BookingFault, BookingKey, Bookings, read_bookings};
 use std::alloc::Global;
 use std::process::Abort;
 use std::test::Fail;

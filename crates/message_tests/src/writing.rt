@@ -1,6 +1,6 @@
 //! Bay plans as they are written (SMDG BAPLIE 2.2).
-use crate::{read_is_whole, write_baplie};
 use baplie_read::read_baplie;
+use baplie_write::{read_is_whole, write_baplie};
 use std::alloc::Global;
 use std::test::Fail;
 use stow_data::Bytes;

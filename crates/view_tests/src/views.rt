@@ -2,8 +2,8 @@
 ghost use Rattle.std.specs.Prelude.{◌<◌};
 ghost use Rattle.stow_report.specs.Listings.{IsCell};
 
-use crate::{add_ports, escape, escape_text, index_page, picture};
 use baplie_model::{CellGroup, Facts};
+use bay_views::{add_ports, escape, escape_text, index_page, picture};
 use edifact_segments::SegmentList;
 use std::alloc::Global;
 use std::test::Fail;

@@ -1,5 +1,5 @@
 use Rattle.std.proofs.Common.{arith}
-use Rattle.baplie_write.proofs.tests.rewritten.Goals as goal
+use Rattle.message_tests.proofs.writing.rewritten.Goals as goal
 
 pub write_baplie-requires : goal.write_baplie-requires
 write_baplie-requires c =

@@ -1,0 +1,12 @@
+//! Tests of segments and of bay plan messages as they are read and written. They stand in a crate of their own since a crate with tests is
+//! proved twice.
+#![tactic(auto)]
+
+#[cfg(test)]
+mod model_texts;
+#[cfg(test)]
+mod reading;
+#[cfg(test)]
+mod segments;
+#[cfg(test)]
+mod writing;
