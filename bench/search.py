@@ -7,8 +7,8 @@ INSTANCES is a folder with `instances.py`, which makes the ships (`instances.py 
 COUNT FOLDER` writes them), and perhaps `cbc.csv`, with what CBC found on some of them (group, number, calls, containers,
 variables, first plan, status, best, bound, seconds).
 
-For each group the table has the sums of rehandles of the loader's first plan (the search with a budget of one node), of the search, and of
-CBC where it was run on all the ships; how many optima the search proved, and CBC; and the slowest run, in seconds.
+Ships that `plan` refuses are left out. For each group the table has the sums of rehandles of the loader's first plan (the search with a budget of one node), of the search, and of
+CBC where it was run on all the ships; how many optima the search proved, and CBC; and the slowest run, in a processor's seconds.
 
 --numbers FIRST COUNT   the ships of each group (0 6 where it is missing)
 --budget N              the nodes of each search (1000 where it is missing)
@@ -22,7 +22,6 @@ import csv
 import os
 import subprocess
 import tempfile
-import time
 
 ROOT = os.path.dirname(os.path.dirname(os.path.realpath(__file__)))
 PROGRAM = f"{ROOT}/crates/stow_main/out/stow_main"
@@ -31,15 +30,23 @@ HEAD = ["group", "ships", "first plan", "search", "CBC", "proved", "CBC proved",
 
 
 def run(folder, ship, budget):
-    """Plans one ship; answers the report's words by name, and the seconds that it took."""
-    begun = time.perf_counter()
+    """Plans one ship; answers the report's words by name, and the processor's seconds that it took. None where the ship is refused."""
     words = [PROGRAM, "plan", f"{ship}.ship.toml", f"{ship}.cargo.toml", f"{ship}-{budget}", "--budget", str(budget)]
-    done = subprocess.run(words, cwd=folder, stdout=subprocess.PIPE, text=True, check=False)
-    took = time.perf_counter() - begun
-    said = dict(line.split(" ", 1) for line in done.stdout.splitlines() if " " in line)
+    with subprocess.Popen(words, cwd=folder, stdout=subprocess.PIPE, text=True) as child:
+        text = child.stdout.read()
+        _, status, used = os.wait4(child.pid, 0)
+        child.returncode = os.waitstatus_to_exitcode(status)
+    said = dict(line.split(" ", 1) for line in text.splitlines() if " " in line)
+    if child.returncode == 6:
+        return None
     if "outcome" not in said:
-        raise SystemExit(f"{ship}: status {done.returncode}: {done.stdout}")
-    return said, took
+        raise SystemExit(f"{ship}: status {child.returncode}: {text}")
+    return said, used.ru_utime + used.ru_stime
+
+
+def rehandles(said):
+    """The rehandles of a report, 0 where there is no plan."""
+    return 0 if said["rehandles"] == "none" else int(said["rehandles"])
 
 
 def known(folder):
@@ -64,18 +71,20 @@ def measured(args, group, cbc, folder):
     maker = f"{args.instances}/instances.py"
     first, count = args.numbers
     subprocess.run(["python3", maker, group, str(first), str(count), folder], check=True)
-    ships = [f"{group}-{number}" for number in range(first, first + count)]
+    numbers = range(first, first + count)
     with concurrent.futures.ThreadPoolExecutor(args.at_once) as pool:
-        firsts = list(pool.map(lambda ship: run(folder, ship, 1)[0], ships))
-        found = list(pool.map(lambda ship: run(folder, ship, args.budget), ships))
-    rows = [cbc.get((group, number)) for number in range(first, first + count)]
+        begun = list(pool.map(lambda number: run(folder, f"{group}-{number}", 1), numbers))
+        numbers = [number for number, it in zip(numbers, begun) if it]
+        found = list(pool.map(lambda number: run(folder, f"{group}-{number}", args.budget), numbers))
+    firsts = [it[0] for it in begun if it]
+    rows = [cbc.get((group, number)) for number in numbers]
     best = [cbc_of(row) if row else None for row in rows]
     whole = all(best) and all(it[0] is not None for it in best)
     return [
         group,
-        str(count),
-        str(sum(int(said.get("rehandles", 0)) for said in firsts)),
-        str(sum(int(said.get("rehandles", 0)) for said, _ in found)),
+        str(len(numbers)),
+        str(sum(rehandles(said) for said in firsts)),
+        str(sum(rehandles(said) for said, _ in found)),
         f"{sum(it[0] for it in best):.0f}" if whole else "",
         str(sum(said["outcome"] in ("optimal", "no-plan") for said, _ in found)),
         str(sum(it[1] for it in best)) if all(best) else "",

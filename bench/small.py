@@ -14,6 +14,8 @@ ROWS = [
     ('on-one-another', [], 0, 'outcome optimal\nrehandles 1\nbound 1\nnodes 1\n'),
     # Two under two, in one stack.
     ('two-on-two', [], 0, 'outcome optimal\nrehandles 2\nbound 2\n'),
+    # Three, and five that leave later, in two stacks of four.
+    ('three-and-five', [], 0, 'outcome optimal\nrehandles 1\nbound 1\nnodes 1\n'),
     # A chain of three pairs of calls, in two stacks.
     ('three-in-turn', [], 0, 'outcome optimal\nrehandles 1\nbound 1\nnodes 1\n'),
     # No multipliers lift the bound of the first node, and no other may be handled.
@@ -26,6 +28,12 @@ ROWS = [
     ('under-a-cover', [], 0, 'outcome optimal\nrehandles 1\nbound 1\n'),
     # The stack carries one of the two.
     ('too-heavy', [], 4, 'outcome no-plan\nrehandles none\nbound 3\nnodes 1\n'),
+    # Each of the two has a stack of its own.
+    ('heavy-in-two', [], 0, 'outcome optimal\nrehandles 0\nbound 0\nnodes 1\n'),
+    # The stack carries both, to the kilogram.
+    ('just-light-enough', [], 0, 'outcome optimal\nrehandles 0\nbound 0\nnodes 1\n'),
+    # Five lots in sixteen stacks, none on one that leaves earlier.
+    ('sixteen-stacks', [], 0, 'outcome optimal\nrehandles 0\nbound 0\nnodes 1\n'),
     # The two may not stand in one stack.
     ('kept-apart', [], 4, 'outcome no-plan\nrehandles none\nbound 3\nnodes 3\n'),
     # The same, and one node is too few to tell.

@@ -47,6 +47,19 @@ row = 1
 tiers = [2, 4]
 lengths = "40"
 limit_kg = 60000
+[[stack]]
+bay = 2
+row = 2
+tiers = [82]
+lengths = "20/40"
+limit_kg = 60000
+plugs = [82]
+[[stack]]
+bay = 6
+row = 3
+tiers = [82]
+lengths = "40"
+limit_kg = 60000
 '''
 
 LOADED_CARGO = '''vessel = "V"

@@ -1,9 +1,11 @@
 #!/usr/bin/env bash
-# Times `stow check` of the built program, with its peak memory, on two certificates whose trees divide each variable by number,
-# so that each half of value 1 is a leaf:
-#   feeder: sixteen stacks of six tiers, six calls, 120 containers: 4,609 records over 2,304 variables;
+# Times `stow check` of the built program, with its peak memory, on certificates whose trees divide each variable by number:
+#   feeder: sixteen stacks of six tiers, six calls, 120 containers: 4,609 records over 2,304 variables, each half of value 1 a leaf;
+#   deep:   a ship of one kind that sails twelve calls: 100,321 records over 50,160 variables, and 1,003,185 over 125,400;
+#           each half of value 1 is a leaf, or is divided again by the next two variables;
 #   made:   the ship of `stow make 1`, with steps and raises by rows of five families: 64 MB.
-# Aims: the feeder in at most 1 s, the made ship in at most 10 s and 1 GiB.
+# Aims: the feeder in at most 1 s, the deep trees linear in their records, the made ship in at most 10 s and 1 GiB. Beside each stands
+# the time with a certificate of one record, in which all but the tree is read and built.
 set -eu
 root=$(cd "$(dirname "$(readlink -f "${BASH_SOURCE[0]}")")/.." && pwd)
 "$root/bin/stow" check >/dev/null || true   # builds the program where sources changed
@@ -11,7 +13,7 @@ program=$root/crates/stow_main/out/stow_main
 folder=$(mktemp -d)
 trap 'rm -rf "$folder"' EXIT
 cd "$folder"
-"$program" make 1 made >/dev/null
+"$program" make 1 made >/dev/null || rm -f made.*
 python3 - "$program" <<'PY'
 import os, random, re, subprocess, sys, time
 program = sys.argv[1]
@@ -42,11 +44,37 @@ def variables(kinds, places, plugs):
     return [(put, kind, lifted, place) for put in range(1, 6) for kind, (dest, reefer, first) in enumerate(kinds) if first <= put
             for lifted in range(put + 1, dest + 1) for place in range(places) if not reefer or place in plugs]
 
+def head(nodes):
+    return f"stow-cert 1\noutcome undecided\nrehandles none\nbound 0\nnodes {nodes}\n"
+
+def divided(variable):
+    return "b {} {} {} {}\n".format(*variable)
+
 def write(name, variables, branch, leaf):
     with open(name + ".cert", "w") as file:
-        file.write(f"stow-cert 1\noutcome gap\nrehandles 1\nbound 0\nnodes {2 * len(variables) + 1}\n")
-        for put, kind, lifted, place in variables:
-            file.write(f"n 0\n{branch()}b {put} {kind} {lifted} {place}\nn 0\n{leaf()}l\n")
+        file.write(head(2 * len(variables) + 1))
+        for variable in variables:
+            file.write(f"n 0\n{branch()}{divided(variable)}n 0\n{leaf()}l\n")
+        file.write("n 0\nl\nend\n")
+
+def deep(stacks):
+    text = 'name = "DEEP"\n'
+    for stack in range(stacks):
+        text += f'\n[[stack]]\nbay = {2 + 4 * (stack // 20)}\nrow = {stack % 20}\ntiers = [2, 4, 6, 8, 10]\nlengths = "40"\nlimit_kg = 600000\n'
+    open("deep.profile.toml", "w").write(text)
+    ports = ", ".join(f'"P{chr(65 + call) * 4}"' for call in range(12))
+    open("deep.bookings.toml", "w").write(f'vessel = "DEEP"\nvoyage = "1"\ndate = "2601010000"\nrotation = [{ports}]\n\n[[container]]\nid = "BENU0000001"\nfrom = 1\nto = 12\ntype = "42G1"\nkg = 20000\n')
+    return [(put, 0, lifted, place) for put in range(1, 12) for lifted in range(put + 1, 13) for place in range(5 * stacks)]
+
+def write_wide(name, variables):
+    """Each half of value 1 is divided again by the next two variables."""
+    some = variables[: len(variables) - 2]
+    with open(name + ".cert", "w") as file:
+        file.write(head(8 * len(some) + 1))
+        for at, variable in enumerate(some):
+            first, second = divided(variables[at + 1]), divided(variables[at + 2])
+            half = f"n 0\n{second}n 0\nl\nn 0\nl\n"
+            file.write(f"n 0\n{divided(variable)}n 0\n{first}{half}{half}")
         file.write("n 0\nl\nend\n")
 
 r = random.Random(1)
@@ -61,7 +89,7 @@ def raised(number):
     rows = [row() for _ in range(number)]
     return "".join(f"r 7 {it}\nr -7 {it}\n" for it in rows)
 
-def measure(name):
+def timed(name):
     runs, peak = [], 0
     for _ in range(3):
         begin = time.perf_counter()
@@ -70,13 +98,25 @@ def measure(name):
         _, status, usage = os.wait4(child.pid, 0)
         runs.append(time.perf_counter() - begin)
         peak = max(peak, usage.ru_maxrss)
-    print(f"{name}: {os.path.getsize(name + '.cert')} bytes, status {os.waitstatus_to_exitcode(status)}, {' '.join(said.split())}; least {min(runs):.2f} s of 3, peak {peak / 1024:.0f} MB")
+    return min(runs), peak, os.waitstatus_to_exitcode(status), " ".join(said.split())
+
+def measure(name):
+    took, peak, status, said = timed(name)
+    size = os.path.getsize(name + ".cert")
+    with open(name + ".cert", "w") as file:
+        file.write(head(1) + "n 0\nl\nend\n")
+    print(f"{name}: {size} bytes, status {status}, {said}; least {took:.2f} s of 3, with one record {timed(name)[0]:.2f} s, peak {peak / 1024:.0f} MB", flush=True)
 
 feeder()
 write("feeder", variables(kinds("feeder"), 96, ()), lambda: "", lambda: "")
 measure("feeder")
-made = variables(kinds("made"), 96, {3 * stack for stack in range(16, 32)})
-each = 64_000_000 // (len(made) * 60)
-write("made", made, lambda: raised(each), lambda: "".join(f"s {row()}\n" for _ in range(2 * each)) + raised(each))
-measure("made")
+write("deep", deep(152), lambda: "", lambda: "")
+measure("deep")
+write_wide("deep", deep(380))
+measure("deep")
+if os.path.exists("made.profile.toml"):
+    made = variables(kinds("made"), 96, {3 * stack for stack in range(16, 32)})
+    each = 64_000_000 // (len(made) * 60)
+    write("made", made, lambda: raised(each), lambda: "".join(f"s {row()}\n" for _ in range(2 * each)) + raised(each))
+    measure("made")
 PY
