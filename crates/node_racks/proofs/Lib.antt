@@ -1,0 +1,4 @@
+pub mod Backs
+pub mod Dealing
+pub mod Keeps
+pub mod Parts

@@ -1,0 +1,17 @@
+use Rattle.std.proofs.Common.{◌≡◌, ◌<◌, ◌+◌, ℕ, length}
+use Rattle.certificate.specs.declared.journals.Node.{Node}
+use Rattle.search_machine.specs.Bags.{weigh, Every}
+use Rattle.node_racks.specs.Racks.{stolen_weight}
+use Rattle.node_racks.specs.Rounds.{Each, Fits, IsHeld, deques, own_put, own_took}
+use Rattle.node_racks.proofs.closing.absorb_all.Given as goal
+
+abbrev pub invariant-loop-tokens : goal.invariant-loop-tokens
+invariant-loop-tokens g l = record {
+  low : 0 < l.held;
+  held : Every (IsHeld l.held) l.owns.items;
+  parts : l.held + length l.tokens-iterator.rest.items ≡ 1024;
+  same : deques l.owns.items ≡ deques l.fn.dealt.owns.items;
+  fit : Every (λ row. Each Fits (deques l.fn.dealt.owns.items) row.items) l.tokens-iterator.rest.items;
+  bag : (h : Node → ℕ) → (own_put h l.owns.items ≡ own_put h l.fn.dealt.owns.items)
+      × (own_took h l.owns.items + weigh (λ row. stolen_weight h row.items) l.tokens-iterator.rest.items ≡ own_took h l.fn.dealt.owns.items + weigh (λ row. stolen_weight h row.items) l.fn.dealt.rows.items);
+}

@@ -1,0 +1,12 @@
+use Rattle.std.proofs.Common.{◌≡◌, ◌++◌, length, map}
+use Rattle.node_racks.specs.Racks.{count_from, number_of}
+use Rattle.node_racks.specs.Rounds.{own_of, row_of}
+use Rattle.node_racks.proofs.opening.passes_of.Given as goal
+
+abbrev pub invariant-loop-own : goal.invariant-loop-own
+invariant-loop-own g l = record {
+  owns : map own_of l.passes.items ++ l.own-iterator.rest.items ≡ l.fn.dealt.owns.items;
+  rows : map row_of l.passes.items ++ map (λ row. row.items) l.rows.rest.items ≡ map (λ row. row.items) l.fn.dealt.rows.items;
+  numbers : map number_of l.passes.items ≡ count_from 0 (length l.passes.items);
+  left : length l.rows.rest.items ≡ length l.own-iterator.rest.items;
+}

@@ -1,0 +1,3 @@
+pub mod Bags
+pub mod Racks
+pub mod Rounds
