@@ -31,7 +31,7 @@ pub record IsUndecided (m : Voyage) (budget : ℕ) (loaded : Option (List Plan))
   pub unloaded : loaded ≡ None
   pub room : bound ≤ most_lifts m
 
--- what each outcome says, where the loader finds these plans and the search goes down from this number
+-- what each outcome says, where the loader finds these plans, and the start is the number of their rehandles
 abbrev pub OutcomeHolds : Voyage → ℕ → Option (List Plan) → ℕ → Outcome → Option ℕ → ℕ → ℕ → Type 0
 OutcomeHolds m budget loaded start Optimal (Some rehandles) bound nodes = bound ≡ rehandles
 OutcomeHolds m budget loaded start Gap (Some rehandles) bound nodes = IsGap budget start rehandles bound nodes
@@ -62,7 +62,7 @@ HasPlans m (Some rehandles) None = ⊥
 
 -- A certificate of a head and a tree, for a budget of nodes.
 pub record Certifies (m : Voyage) (budget : ℕ) (head : Head) (tree : List Record) : Type 0 where
-  -- what the loader's rule finds, and from which number the search goes down
+  -- what the loader's rule finds, and how often that rehandles; where it finds nothing, one above the greatest of least lifts
   pub loaded : Option (List Plan)
   pub loads : AreLoaded m loaded
   pub start : ℕ
