@@ -5,10 +5,10 @@
     bench/gate.py --watch [--into FILE] [NAME..]
 
 NAME is a crate as crates.txt has it; with none, all crates are measured. Every figure is user and system time of a run of `rt`
-with one job and from nothing, as the gate proves: `rt check`, `rt check --test`, `rt must-fail --anew`. All is done on copies in a
-temporary folder, so no out/ of the checkout is read or changed; the libraries below a crate are built first, and aren't counted.
-The table is sorted by the whole cost of a crate; below it stand the sums and the chain of crates whose proofs, one after the
-other, take longest.
+with one job and from nothing, as the gate proves: `rt check`, `rt check --test`, `rt must-fail` (with `--anew`, which kits
+that keep nothing pass over). All is done on copies in a temporary folder, so no out/ of the checkout is read or changed; the
+libraries below a crate are built first, and aren't counted. The table is sorted by the whole cost of a crate; below it stand the
+sums and the chain of crates whose proofs, one after the other, take longest.
 
 --watch       runs the gate itself, `rt ci` (with names, `rt ci NAME..`), and takes the figures from its processes as it goes, looking
               twice a second: nothing is proved twice for the measure. What an earlier run on this machine kept isn't measured
