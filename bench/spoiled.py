@@ -3,12 +3,14 @@
 
 usage: bench/spoiled.py PROGRAM JUDGE [CHANGES]
 
-PROGRAM is the built program `stow`. JUDGE is a command (one word, split at spaces) that is run with PROFILE BOOKINGS OUT and
-`--arrival FILE` where there is one, and prints `count N` for departure files that are a legal file set whose least rehandles are N.
-Three file sets are planned in a folder of their own: a port that is called twice, an example with dangerous goods, and a ship that
-comes in loaded. CHANGES (10,000) changes are made, each to one departure file or to the certificate: one byte, one segment or line, or
-one number. Each answer has to be a `no`, a fault, or a yes whose departure files the judge counts as printed, with a bound that isn't
-above the rehandles. It prints how often each came, and the first change that got another answer.
+PROGRAM is the built program `stow`. JUDGE is a command (one word, split at spaces) that is run with `check` and the words behind it, and
+prints what another checker says of the same files. Six file sets are planned in folders of their own: a port that is called twice, an
+example with dangerous goods, a ship that comes in loaded, and three whose certificates have branches: two that may not stand in one
+stack, so that there is no plan; a search over a short and a long stack; and the same voyage with one node, whose certificate is then
+written anew with a branch on each variable. CHANGES (10,000) changes are made, each to one departure file or to the certificate: one
+byte, one segment or line, or one number. Each answer has to be a `no`, a fault, or a yes that the judge prints too, word for word; no
+run may end by a signal, take more than 10 s, or more than 1 GiB. It prints how often each answer came, and the longest run and the
+greatest memory; or the first change that got another answer.
 """
 import collections
 import os
@@ -18,6 +20,7 @@ import shutil
 import subprocess
 import sys
 import tempfile
+import time
 
 ROOT = os.path.dirname(os.path.dirname(os.path.abspath(__file__)))
 
@@ -95,9 +98,47 @@ def lay_loaded(folder):
     return ["--arrival", "plan.edi"]
 
 
+def lay_small(name):
+    def lay(folder):
+        for file in ("ship.toml", "cargo.toml"):
+            shutil.copy(os.path.join(example("small"), name, file), folder)
+        return []
+
+    return lay
+
+
+def divided(folder):
+    """A certificate of the short and the long stack with a branch on each of its variables, each half of value 1 a leaf."""
+    # Kinds go from call 1 to 3 and from 2 to 4, over four places; variables by put, kind, lifted call and place.
+    trips = [(1, 0, 2), (1, 0, 3), (2, 0, 3), (2, 1, 3), (2, 1, 4), (3, 1, 4)]
+    branches = [f"n 0\nb {put} {kind} {lifted} {place}\nn 0\nl\n" for put, kind, lifted in trips for place in range(4)]
+    with open(os.path.join(folder, "X.cert"), "w") as file:
+        file.write(f"stow-cert 1\noutcome gap\nrehandles 2\nbound 0\nnodes {2 * len(branches) + 1}\n{''.join(branches)}n 0\nl\nend\n")
+
+
+# the folder's name, what lays its inputs, further words of the plan, its status, and what is done with the certificate
+SETS = [
+    ("twice", lay_twice, [], 0, None),
+    ("dangerous", lay_dangerous, [], 0, None),
+    ("loaded", lay_loaded, [], 0, None),
+    ("kept-apart", lay_small("kept-apart"), [], 4, None),
+    ("searched", lay_small("long-and-short"), [], 0, None),
+    ("divided", lay_small("long-and-short"), ["--budget", "1"], 3, divided),
+]
+
+# What a run may take.
+MOST_SECONDS = 10
+MOST_BYTES = 1 << 30
+
+
 def run(words, folder):
-    done = subprocess.run(words, cwd=folder, stdout=subprocess.PIPE, stdin=subprocess.DEVNULL)
-    return done.returncode, done.stdout.decode("latin-1")
+    """How a run ended, what it printed, and the seconds and bytes that it took."""
+    begin = time.perf_counter()
+    child = subprocess.Popen(words, cwd=folder, stdout=subprocess.PIPE, stdin=subprocess.DEVNULL)
+    printed = child.stdout.read()
+    _, status, usage = os.wait4(child.pid, 0)
+    child.returncode = os.waitstatus_to_exitcode(status)
+    return child.returncode, printed.decode("latin-1"), time.perf_counter() - begin, usage.ru_maxrss * 1024
 
 
 def change_byte(chance, text):
@@ -148,38 +189,44 @@ def change(chance, name, text):
     return change_number(chance, text)
 
 
-def judge_yes(judge, words, folder, printed):
-    """Why a yes is wrong, or nothing."""
-    lines = printed.split("\n")
-    if len(lines) != 4 or lines[0] != "check yes" or lines[3] != "":
-        return "the report has another form"
-    rehandles, bound = lines[1].split(" ")[1], lines[2].split(" ")[1]
-    if rehandles == "none":
-        return "there is a legal voyage"
-    _, said = run(judge + words, folder)
-    if said != f"count {rehandles}\n":
-        return f"the judge says {said!r}"
-    if int(bound) > int(rehandles):
-        return "the bound is above the rehandles"
-    return None
+def laid(top, program, judge):
+    """The file sets: each with its folder, the words of its check, and the files that are spoiled."""
+    sets = []
+    for name, lay, more, wanted, then in SETS:
+        folder = os.path.join(top, name)
+        os.mkdir(folder)
+        words = ["ship.toml", "cargo.toml", "X"] + lay(folder)
+        status, printed, _, _ = run([program, "plan"] + words + more, folder)
+        assert status == wanted, (name, status, printed)
+        if then is not None:
+            then(folder)
+        status, printed, _, _ = run([program, "check"] + words, folder)
+        assert status == 0 and run(judge + ["check"] + words, folder)[1] == printed, (name, status, printed)
+        sets.append((folder, words, sorted(file for file in os.listdir(folder) if file.startswith("X"))))
+    return sets
+
+
+def wrong_of(status, printed, seconds, size, judged):
+    """Why an answer is wrong, or nothing."""
+    if seconds > MOST_SECONDS or size > MOST_BYTES:
+        return f"it took {seconds:.1f} s and {size} bytes"
+    if status == 0:
+        said = judged()
+        return None if said == printed else f"yes, and the judge says {said!r}"
+    if status == 1 and re.fullmatch(r"check no (cert|edifact|baplie|plan|bound|numbers) [0-9].*\n", printed, re.S):
+        return None
+    if status == 7 and printed.startswith("fault read "):
+        return None
+    return f"status {status}, {printed!r}"
 
 
 def main():
     program, judge = os.path.abspath(sys.argv[1]), sys.argv[2].split(" ")
     changes = int(sys.argv[3]) if len(sys.argv) > 3 else 10000
     chance = random.Random(1)
-    tally = collections.Counter()
+    tally, longest, greatest = collections.Counter(), 0, 0
     with tempfile.TemporaryDirectory() as top:
-        sets = []
-        for lay in (lay_twice, lay_dangerous, lay_loaded):
-            folder = os.path.join(top, lay.__name__)
-            os.mkdir(folder)
-            words = ["ship.toml", "cargo.toml", "X"] + lay(folder)
-            status, printed = run([program, "plan"] + words, folder)
-            assert status == 0, (lay.__name__, status, printed)
-            status, printed = run([program, "check"] + words, folder)
-            assert status == 0 and judge_yes(judge, words, folder, printed) is None, (lay.__name__, status, printed)
-            sets.append((folder, words, sorted(name for name in os.listdir(folder) if name.startswith("X"))))
+        sets = laid(top, program, judge)
         for number in range(changes):
             folder, words, names = chance.choice(sets)
             name = chance.choice(names)
@@ -189,25 +236,20 @@ def main():
             spoiled = change(chance, name, text)
             with open(path, "wb") as file:
                 file.write(spoiled)
-            status, printed = run([program, "check"] + words, folder)
-            wrong = None
-            if status == 0:
-                wrong = judge_yes(judge, words, folder, printed)
-                tally["yes" if spoiled != text else "yes, nothing changed"] += 1
-            elif status == 1 and re.fullmatch(r"check no (cert|edifact|baplie|plan|bound|numbers) [0-9].*\n", printed, re.S):
-                tally[" ".join(printed.split(" ")[:3])] += 1
-            elif status == 7 and printed.startswith("fault read "):
-                tally["fault read"] += 1
-            else:
-                wrong = f"status {status}, {printed!r}"
+            status, printed, seconds, size = run([program, "check"] + words, folder)
+            longest, greatest = max(longest, seconds), max(greatest, size)
+            wrong = wrong_of(status, printed, seconds, size, lambda: run(judge + ["check"] + words, folder)[1])
             if wrong:
                 print(f"change {number}, {name} of {os.path.basename(folder)}: {wrong}")
                 print(spoiled.decode("latin-1"))
                 sys.exit(1)
+            answer = "yes" if status == 0 else " ".join(printed.split(" ")[:3 if status == 1 else 2])
+            tally[answer if spoiled != text else "yes, nothing changed"] += 1
             with open(path, "wb") as file:
                 file.write(text)
     for answer, count in sorted(tally.items()):
         print(f"{count:6} {answer}")
+    print(f"longest {longest:.2f} s, greatest {greatest / (1 << 20):.0f} MB")
 
 
 main()

@@ -3,9 +3,10 @@
 #   feeder: sixteen stacks of six tiers, six calls, 120 containers: 4,609 records over 2,304 variables, each half of value 1 a leaf;
 #   deep:   a ship of one kind that sails twelve calls: 100,321 records over 50,160 variables, and 1,003,185 over 125,400;
 #           each half of value 1 is a leaf, or is divided again by the next two variables;
-#   made:   the ship of `stow make 1`, with steps and raises by rows of five families: 64 MB.
-# Aims: the feeder in at most 1 s, the deep trees linear in their records, the made ship in at most 10 s and 1 GiB. Beside each stands
-# the time with a certificate of one record, in which all but the tree is read and built.
+#   made:   the ship of `stow make 1`, with steps and raises by rows of five families: 64 MB, or as many as the first word says.
+# Aims: the feeder in at most 1 s, the deep trees linear in their records, the made ship in at most 10 s and 1 GiB with 64 MB, and with
+# 512 MB (the most that is read) in at most 8 times the certificate's memory. Beside each stands the time with a certificate of one
+# record, in which all but the tree is read and built. Each run has a stack of 1 MiB.
 set -eu
 root=$(cd "$(dirname "$(readlink -f "${BASH_SOURCE[0]}")")/.." && pwd)
 "$root/bin/stow" check >/dev/null || true   # builds the program where sources changed
@@ -14,9 +15,9 @@ folder=$(mktemp -d)
 trap 'rm -rf "$folder"' EXIT
 cd "$folder"
 "$program" make 1 made >/dev/null || rm -f made.*
-python3 - "$program" <<'PY'
-import os, random, re, subprocess, sys, time
-program = sys.argv[1]
+python3 - "$program" "${1:-64}" <<'PY'
+import os, random, re, resource, subprocess, sys, time
+program, megabytes = sys.argv[1], int(sys.argv[2])
 
 def feeder():
     text = 'name = "FEEDER"\n'
@@ -93,7 +94,8 @@ def timed(name):
     runs, peak = [], 0
     for _ in range(3):
         begin = time.perf_counter()
-        child = subprocess.Popen([program, "check", name + ".profile.toml", name + ".bookings.toml", name], stdout=subprocess.PIPE, text=True)
+        child = subprocess.Popen([program, "check", name + ".profile.toml", name + ".bookings.toml", name], stdout=subprocess.PIPE, text=True,
+                                 preexec_fn=lambda: resource.setrlimit(resource.RLIMIT_STACK, (1 << 20, 1 << 20)))
         said = child.stdout.read()
         _, status, usage = os.wait4(child.pid, 0)
         runs.append(time.perf_counter() - begin)
@@ -105,7 +107,7 @@ def measure(name):
     size = os.path.getsize(name + ".cert")
     with open(name + ".cert", "w") as file:
         file.write(head(1) + "n 0\nl\nend\n")
-    print(f"{name}: {size} bytes, status {status}, {said}; least {took:.2f} s of 3, with one record {timed(name)[0]:.2f} s, peak {peak / 1024:.0f} MB", flush=True)
+    print(f"{name}: {size} bytes, status {status}, {said}; least {took:.2f} s of 3, with one record {timed(name)[0]:.2f} s, peak {peak / 1024:.0f} MB, {1024 * peak / size:.1f} times the certificate", flush=True)
 
 feeder()
 write("feeder", variables(kinds("feeder"), 96, ()), lambda: "", lambda: "")
@@ -116,7 +118,7 @@ write_wide("deep", deep(380))
 measure("deep")
 if os.path.exists("made.profile.toml"):
     made = variables(kinds("made"), 96, {3 * stack for stack in range(16, 32)})
-    each = 64_000_000 // (len(made) * 60)
+    each = megabytes * 1_000_000 // (len(made) * 60)
     write("made", made, lambda: raised(each), lambda: "".join(f"s {row()}\n" for _ in range(2 * each)) + raised(each))
     measure("made")
 PY

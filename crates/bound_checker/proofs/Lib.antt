@@ -13,3 +13,4 @@ pub mod Numbered
 pub mod Walks
 pub mod Following
 pub mod FewRecords
+mod Named

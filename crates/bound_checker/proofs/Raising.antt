@@ -32,11 +32,21 @@ module _ (m : Voyage) (b : Box) (ms : Multipliers Row) (s : Sums) (carries : Car
   value_here = value_is m b ms s.costs carries.priced
 
   -- one multiplier is changed
-  pub carries_more : (r : Row) (n : ℕ) (s' : Sums) → ((q : Row) → amount_of same_row s'.amounts q ≡ cond (same_row r q) n (amount_of same_row s.amounts q)) → Priced m b (with_amount same_row ms r n) s'.costs → Carries m b (with_amount same_row ms r n) s'
-  carries_more r n s' amounts priced = record {
+  pub carries_more : (r : Row) (n : ℕ) (s' : Sums) → ((q : Row) → amount_of same_row s'.amounts q ≡ cond (same_row r q) n (amount_of same_row s.amounts q)) → Priced m b (with_amount same_row ms r n) s'.costs → s'.rows ≡ s.rows → Carries m b (with_amount same_row ms r n) s'
+  carries_more r n s' amounts priced rows = record {
     whole = carries.whole;
     amounts = λ q. amounts q ∙ ap (λ (k : ℕ). cond (same_row r q) n k) (carries.amounts q) ∙ sym (amount_with ms r q n);
     priced = priced;
+    rows = rows ∙ carries.rows;
+  }
+
+  -- the rows that are kept are as they were
+  pub carries_kept : (s' : Sums) → s'.amounts ≡ s.amounts → s'.costs ≡ s.costs → s'.rows ≡ s.rows → Carries m b ms s'
+  carries_kept s' amounts costs rows = record {
+    whole = carries.whole;
+    amounts = λ q. ap (λ (es : Multipliers Row). amount_of same_row es q) amounts ∙ carries.amounts q;
+    priced = subst (Priced m b ms) (sym costs) carries.priced;
+    rows = rows ∙ carries.rows;
   }
 
   -- the sums are those of other multipliers that are alike
@@ -50,6 +60,7 @@ module _ (m : Voyage) (b : Box) (ms : Multipliers Row) (s : Sums) (carries : Car
       reduced = λ v lt. carries.priced.reduced v lt ∙ ap (λ (z : ℤ). pos 16 *ℤ (whole m).cost v -ℤ z) (sym (dot_alike m (λ r. (whole m).coef r v) ns ms small carries.priced.small same));
       small = small;
     };
+    rows = carries.rows;
   }
 
   -- no multipliers are left
@@ -89,11 +100,12 @@ module _ (m : Voyage) (b : Box) (ms : Multipliers Row) (s t : Sums) (r : Row) (a
       by false e = refl
 
   -- a row that had none
-  pub out_none : t.costs ≡ s.costs → a ≡ 0 → Carries m b ms t
-  out_none costs none = record {
+  pub out_none : t.costs ≡ s.costs → t.rows ≡ s.rows → a ≡ 0 → Carries m b ms t
+  out_none costs rows none = record {
     whole = carries.whole;
     amounts = λ q. same_cond q none ∙ carries.amounts q;
     priced = subst (Priced m b ms) (sym costs) carries.priced;
+    rows = rows ∙ carries.rows;
   }
 
   -- what the row's multiplier becomes
@@ -101,8 +113,8 @@ module _ (m : Voyage) (b : Box) (ms : Multipliers Row) (s t : Sums) (r : Row) (a
   out_sum z sum = ap (λ (n : ℕ). pos n +ℤ z) (sym (carries.amounts r) ∙ was) ∙ sum
 
   -- a row that had one
-  pub out_some : (u : Sums) → u.amounts ≡ t.amounts → Priced m b (with_amount same_row ms r 0) u.costs → Carries m b (with_amount same_row ms r 0) u
-  out_some u amounts priced = carries_more m b ms s carries r 0 u (λ q. ap (λ (es : Multipliers Row). amount_of same_row es q) amounts ∙ rest q) priced
+  pub out_some : (u : Sums) → u.amounts ≡ t.amounts → Priced m b (with_amount same_row ms r 0) u.costs → u.rows ≡ s.rows → Carries m b (with_amount same_row ms r 0) u
+  out_some u amounts priced rows = carries_more m b ms s carries r 0 u (λ q. ap (λ (es : Multipliers Row). amount_of same_row es q) amounts ∙ rest q) priced rows
 
 -- ## Answers
 

@@ -3,4 +3,5 @@ pub mod Faults
 pub mod Sums
 pub mod Waits
 pub mod Prices
+pub mod Named
 pub mod Walks

@@ -3,7 +3,9 @@
 
 mod amounts;
 mod check;
+mod forcing;
 mod laws;
+mod named_rows;
 mod priced_box;
 mod prices;
 mod steps;

@@ -30,8 +30,8 @@ pub struct Change {
 
 /// Multipliers with what their rows add up to, and what was changed, in order.
 #[derive(Drop)]
-pub struct Prices {
-    pub sums: Sums,
+pub struct Prices<'a> {
+    pub sums: Sums<'a>,
     pub changes: Vec<Change>,
 }
 
@@ -44,9 +44,9 @@ fn turned(amount: u64) -> i64
     -(amount as i64)
 }
 
-impl Prices {
+impl<'a> Prices<'a> {
     /// No multipliers, and no changes.
-    pub fn none(alloc: Global, model: &Model, b: &Box01) -> Result<Prices, NoMemory>
+    pub fn none(alloc: Global, model: &'a Model<'a>, b: &Box01) -> Result<Prices<'a>, NoMemory>
         requires { length b.now ≡ length (variables model.now) }
         ensures carries { IfOk result (λ p. Carries model.now b.now [] p.sums) }
         ensures changes { IfOk result (λ p. p.changes.items ≡ []) }

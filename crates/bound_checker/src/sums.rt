@@ -11,6 +11,7 @@ ghost use Rattle.dual_bound.specs.Costs.{Priced, PricedSome};
 ghost use Rattle.bound_checker.specs.Sums.{Carries, CarriesSome};
 
 use crate::amounts::Amounts;
+use crate::named_rows::NamedRows;
 use dual_bound::{Costs, list_row, terms_of};
 use std::alloc::Global;
 use stow_data::NoMemory;
@@ -20,11 +21,12 @@ use zero_one_rows::Row;
 /// The greatest multiplier.
 const MOST: u64 = 1 << 40;
 
-/// Multipliers, looked up by row, with the reduced costs and the dual value that they give a box.
+/// Multipliers, looked up by row, with the reduced costs and the dual value that they give a box, and the rows that were named.
 #[derive(Drop)]
-pub struct Sums {
+pub struct Sums<'a> {
     pub amounts: Amounts,
     pub costs: Costs,
+    pub rows: NamedRows<'a>,
 }
 
 // How much a multiplier changes.
@@ -50,15 +52,16 @@ pub fn changed(old: u64, by: i64) -> Option<u64>
     }
 }
 
-impl Sums {
+impl<'a> Sums<'a> {
     /// Those of a box without multipliers.
-    pub fn none(alloc: Global, model: &Model, b: &Box01) -> Result<Sums, NoMemory>
+    pub fn none(alloc: Global, model: &'a Model<'a>, b: &Box01) -> Result<Sums<'a>, NoMemory>
         requires { length b.now ≡ length (variables model.now) }
         ensures { IfOk result (λ s. Carries model.now b.now [] s) }
     {
         Ok(Sums {
             amounts: Amounts::none(alloc),
             costs: Costs::start(alloc, model, b)?,
+            rows: NamedRows::none(alloc, model),
         })
     }
 
@@ -74,11 +77,18 @@ impl Sums {
         requires row { (whole model.now).has row.now ≡ true }
         requires by { unsigned_abs by ≤ 2 ^ 40 }
         requires whole { length b.now ≡ length (variables model.now) }
+        requires rows { self.old.rows ≡ model.now }
         requires priced { PricedSome model.now b.now self.old.costs }
+        ensures rows { self.new.rows ≡ self.old.rows }
         ensures amounts { OnOk result (self.new.amounts ≡ self.old.amounts) }
         ensures priced { (ms : Multipliers Rows) (n : ℕ) → Priced model.now b.now ms self.old.costs → pos (amount_of same_row ms row.now) +ℤ by ≡ pos n → n ≤ 2 ^ 40
             → OnOk result (Priced model.now b.now (with_amount same_row ms row.now n) self.new.costs) }
     {
+        let place = self.rows.place(alloc, row)?;
+        if let Some(listed) = self.rows.at(place, row) {
+            self.costs.add_row(model, b, listed, by);
+            return Ok(());
+        }
         let terms = terms_of(alloc, model, row)?;
         let listed = list_row(model, row, terms.as_slice());
         self.costs.add_row(model, b, listed, by);

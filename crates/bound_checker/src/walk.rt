@@ -34,13 +34,13 @@ pub struct Frame {
 
 /// The box in hand with its multipliers, and what leads back to those that wait.
 #[derive(Drop)]
-pub struct Walk {
+pub struct Walk<'a> {
     pub b: Box01,
     pub undo: UndoList,
 
     /// The box whose dual value is kept: the one in hand, but for the time of a record's steps.
     pub priced: Box01,
-    pub prices: Prices,
+    pub prices: Prices<'a>,
     pub frames: Vec<Frame>,
 
     /// No box is left.
@@ -103,9 +103,9 @@ fn past(undo: &UndoList, mark: usize) -> &[VarNo]
     &undo.as_slice()[mark..]
 }
 
-impl Walk {
+impl<'a> Walk<'a> {
     /// At the root: all variables are free, and no row has a multiplier.
-    pub fn start(alloc: Global, model: &Model) -> Result<Walk, NoMemory>
+    pub fn start(alloc: Global, model: &'a Model<'a>) -> Result<Walk<'a>, NoMemory>
         ensures { IfOk result (λ w. IsAt model.now w (root (whole model.now) ∷ [])) }
     {
         let priced = Box01::free(alloc, model)?;
@@ -254,7 +254,8 @@ impl Walk {
         ensures refused { IfErr result (λ f. f ≢ BoundNo.NoMemory → step_fault (whole model.now) node steps.now ≡ Some f) }
     {
         let mark = self.undo.len();
-        tighten_all(alloc, model, &mut self.b, &mut self.undo, steps, node)?;
+        let rows = &mut self.prices.sums.rows;
+        tighten_all(alloc, model, rows, &mut self.b, &mut self.undo, steps, node)?;
         let fixed = past(&self.undo, mark);
         follow(
             model,

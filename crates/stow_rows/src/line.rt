@@ -38,6 +38,8 @@ pub enum Order<'a> {
     Lay(&'a str),
     /// The program is run on these words.
     Run(&'a str),
+    /// The program is run without any words, even its own name.
+    Bare,
     /// The program is run on words once for each length of a file's text, cut so.
     Cuts(Cuts<'a>),
     /// The last run ended with this status.
@@ -124,6 +126,7 @@ fn order_of<'a>(word: &str, rest: &'a str) -> Option<Order<'a>> {
         "text" => Some(Order::Text(rest)),
         "lay" => Some(Order::Lay(rest)),
         "run" => Some(Order::Run(rest)),
+        "bare" => Some(Order::Bare),
         "cuts" => Some(Order::Cuts(cuts_of(rest)?)),
         "status" => Some(Order::Status(rest.parse().ok()?)),
         "prints" => Some(Order::Prints),

@@ -93,10 +93,13 @@ impl<'a> Stage<'a> {
     }
 
     /// The one call of `stow`.
-    fn ended<R: Threads + Wait + Sync>(&mut self, rt: &R, words: &str) -> Result<Ended, NoMemory> {
-        let words = words_of(self.alloc, words)?;
+    fn ended<R: Threads + Wait + Sync>(
+        &mut self,
+        rt: &R,
+        words: &WordList,
+    ) -> Result<Ended, NoMemory> {
         let mut out = MemSink::new(self.alloc, ROOM, numbers_of(self.alloc, self.mute)?)?;
-        let status = stow(rt, self.alloc, &words, &mut self.folder, &mut out, &NoGate);
+        let status = stow(rt, self.alloc, words, &mut self.folder, &mut out, &NoGate);
         Ok(Ended {
             status: status.number(),
             out,
@@ -105,7 +108,15 @@ impl<'a> Stage<'a> {
 
     /// Runs the program on the words.
     pub fn run<R: Threads + Wait + Sync>(&mut self, rt: &R, words: &str) -> Result<(), NoMemory> {
-        self.last = Some(self.ended(rt, words)?);
+        let words = words_of(self.alloc, words)?;
+        self.last = Some(self.ended(rt, &words)?);
+        Ok(())
+    }
+
+    /// Runs the program without any words, even its own name.
+    pub fn run_bare<R: Threads + Wait + Sync>(&mut self, rt: &R) -> Result<(), NoMemory> {
+        let words = WordList::new(self.alloc);
+        self.last = Some(self.ended(rt, &words)?);
         Ok(())
     }
 
@@ -119,10 +130,11 @@ impl<'a> Stage<'a> {
         let Some(text) = texts.file(cuts.name) else {
             return Ok(Some(Differs::NoText));
         };
+        let words = words_of(self.alloc, cuts.words)?;
         self.last = None;
         for most in cuts.from..=cuts.to {
             self.lay(cuts.name, cut(text.as_slice(), most))?;
-            let ended = self.ended(rt, cuts.words)?;
+            let ended = self.ended(rt, &words)?;
             if !self.ended_so(&ended) {
                 self.last = Some(ended);
                 return Ok(Some(Differs::Cut(most)));

@@ -1,6 +1,6 @@
 //! A table of cases: its lines, one after the other, and what was found to differ.
 use crate::draft::Draft;
-use crate::line::{Line, Order, Piece, line_of};
+use crate::line::{Cuts, Line, Order, Piece, line_of};
 use crate::stage::{Differs, Stage};
 use std::alloc::Global;
 use std::mem;
@@ -173,35 +173,65 @@ impl<'a> Table<'a> {
         }
     }
 
-    /// A new case, over an empty folder whose calls with these numbers fail.
+    /// A new case, over an empty folder none of whose calls fails.
     fn begin(&mut self, title: &'a str) -> Result<(), NoMemory> {
         self.title = title;
         self.counts.cases = self.counts.cases.saturating_add(1);
-        self.stage = Stage::new(self.alloc, "")?;
+        self.fail("")
+    }
+
+    /// The case's folder is empty, and its calls with these numbers fail.
+    fn fail(&mut self, numbers: &str) -> Result<(), NoMemory> {
+        self.stage = Stage::new(self.alloc, numbers)?;
         Ok(())
+    }
+
+    /// Looks at what a line says of the last run or of the folder.
+    fn see(&mut self, order: Order<'a>) -> Result<(), NoMemory> {
+        let (at, differs) = match order {
+            Order::Status(number) => ("the run", self.stage.status(number)),
+            Order::Stands(name) => (name, self.stage.stands(name)),
+            Order::Absent(name) => (name, self.stage.absent(name)),
+            _ => return Ok(()),
+        };
+        self.look(at, differs)
+    }
+
+    /// Begins the text that a line asks for.
+    fn aim(&mut self, order: Order<'a>) {
+        self.target = match order {
+            Order::Text(name) => Target::Text(name),
+            Order::Lay(name) => Target::File(name),
+            Order::Prints => Target::Prints,
+            Order::Holds(name) => Target::Holds(name),
+            Order::Ends(name) => Target::Ends(name),
+            _ => Target::Nothing,
+        };
+    }
+
+    fn cut<R: Threads + Wait + Sync>(&mut self, rt: &R, cuts: Cuts<'a>) -> Result<(), NoMemory> {
+        let differs = self.stage.cuts(rt, &self.texts, cuts)?;
+        self.look(cuts.name, differs)
     }
 
     /// Does what a line orders.
     fn obey<R: Threads + Wait + Sync>(&mut self, rt: &R, order: Order<'a>) -> Result<(), NoMemory> {
         match order {
-            Order::Case(title) => return self.begin(title),
-            Order::Fail(numbers) => self.stage = Stage::new(self.alloc, numbers)?,
-            Order::Mute(numbers) => self.stage.mute(numbers),
-            Order::Text(name) => self.target = Target::Text(name),
-            Order::Lay(name) => self.target = Target::File(name),
-            Order::Prints => self.target = Target::Prints,
-            Order::Holds(name) => self.target = Target::Holds(name),
-            Order::Ends(name) => self.target = Target::Ends(name),
-            Order::Run(words) => return self.stage.run(rt, words),
-            Order::Cuts(cuts) => {
-                let differs = self.stage.cuts(rt, &self.texts, cuts)?;
-                return self.look(cuts.name, differs);
+            Order::Case(title) => self.begin(title),
+            Order::Fail(numbers) => self.fail(numbers),
+            Order::Mute(numbers) => {
+                self.stage.mute(numbers);
+                Ok(())
             }
-            Order::Status(number) => return self.look("", self.stage.status(number)),
-            Order::Stands(name) => return self.look(name, self.stage.stands(name)),
-            Order::Absent(name) => return self.look(name, self.stage.absent(name)),
+            Order::Run(words) => self.stage.run(rt, words),
+            Order::Bare => self.stage.run_bare(rt),
+            Order::Cuts(cuts) => self.cut(rt, cuts),
+            Order::Status(_) | Order::Stands(_) | Order::Absent(_) => self.see(order),
+            _ => {
+                self.aim(order);
+                Ok(())
+            }
         }
-        Ok(())
     }
 
     /// Takes one line.

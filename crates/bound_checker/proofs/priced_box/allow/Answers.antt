@@ -16,5 +16,6 @@ returns-in-Some-clause-carries c = λ ms h.
     record {
       whole = ap (λ (b : Box). length b) there ∙ length-set c.args.b.now c.args.x c.args.allowed ∙ h.whole;
       amounts = h.amounts;
+      rows = h.rows;
       priced = subst (λ (b : Box). Priced c.args.model.now b ms c.allow.new.self) (sym there) (c.allow.ensures ms h.priced);
     }

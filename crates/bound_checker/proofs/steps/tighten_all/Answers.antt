@@ -1,4 +1,4 @@
-use Rattle.std.proofs.Common.{rules, arith, ◌≡◌, ◌≢◌, List, length, Some, ◌∙◌, ap, sym, Err}
+use Rattle.std.proofs.Common.{rules, arith, ◌≡◌, ◌≢◌, List, length, Some, ◌∙◌, ap, sym, refl, Err}
 use Rattle.zero_one_rows.specs.declared.program.Row.{Row}
 use Rattle.zero_one_rows.specs.Rows.{whole}
 use Rattle.proof_trees.specs.Boxes.{Box, tightened}
@@ -14,6 +14,7 @@ use Rattle.bound_checker.proofs.steps.tighten_all.Goals as goal
 
 pub loop-row-init : goal.loop-row-init
 loop-row-init c = record {
+  rows = refl;
   len = c.requires.whole;
   faultless = search rules;
   tightened = search rules;
@@ -25,6 +26,7 @@ loop-row-preserved c =
     let i = c.loop-row.invariant in
     let e = c.in_ok-tighten_one.ensures in
     record {
+      rows = e.rows ∙ i.rows;
       len = sym (freed_length c.tighten_one.new.b e.noted.0) ∙ ap (λ (b : Box). length b) e.noted.2.back ∙ i.len;
       faultless = none_more (whole c.args.model.now) c.args.node c.args.steps.now c.loop-row.row-index c.row-item.result c.loop-row-test.true c.row-item.is i.faultless e.has;
       tightened = box_more (whole c.args.model.now) c.args.node c.args.steps.now c.loop-row.row-index c.row-item.result c.loop-row-test.true c.row-item.is c.args.b.now c.loop-row.b c.tighten_one.new.b i.tightened e.tight;

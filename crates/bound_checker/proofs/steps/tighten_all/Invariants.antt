@@ -8,6 +8,7 @@ use Rattle.bound_checker.proofs.steps.tighten_all.Given as goal
 
 abbrev pub invariant-loop-row : goal.invariant-loop-row
 invariant-loop-row l = record {
+  rows : l.rows ≡ l.fn.rows;
   len : length l.b ≡ length (variables l.model);
   faultless : step_fault (whole l.model) l.node (take l.row-index l.steps) ≡ None;
   tightened : l.b ≡ tightened (whole l.model) l.fn.b (take l.row-index l.steps);

@@ -1,0 +1,13 @@
+use Rattle.std.proofs.Common.{◌≡◌, ◌≤◌, ◌*◌, ◌^◌, length, map}
+use Rattle.std.specs.Int.RustNames.{unsigned_abs}
+use Rattle.proof_trees.specs.Boxes.{at, greatest}
+use Rattle.zero_one_rows.specs.Variables.{variables}
+use Rattle.zero_one_rows.specs.Rows.{whole}
+use Rattle.dual_bound.proofs.Summing.{sum_of_first}
+use Rattle.bound_checker.proofs.forcing.most_of.Given as goal
+
+abbrev pub invariant-loop-term : goal.invariant-loop-term
+invariant-loop-term l = record {
+  value : l.total ≡ sum_of_first (length (variables l.model)) (λ v. greatest (at l.b v) ((whole l.model).coef l.row v)) (map (λ t. t.var) l.terms) l.term-index;
+  size : unsigned_abs l.total ≤ l.term-index * 2 ^ 17;
+}

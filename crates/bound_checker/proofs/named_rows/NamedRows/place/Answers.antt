@@ -1,0 +1,10 @@
+use Rattle.std.proofs.Common.{rules, ◌≡◌, List, [], ◌∷◌, ◌++◌}
+use Rattle.bound_checker.specs.declared.named_rows.NamedRow.{NamedRow}
+use Rattle.bound_checker.specs.Named.{IsNamed}
+use Rattle.bound_checker.proofs.Named.{one_more}
+use Rattle.bound_checker.proofs.named_rows.NamedRows.place.Goals as goal
+
+pub invariant_of-self-2 : goal.invariant_of-self-2
+invariant_of-self-2 c =
+    let e : c.push.new.self ≡ c.self.inside.rows ++ c.in_ok-named.named ∷ [] = search rules in
+    one_more (IsNamed c.self.inside.model.now) c.self.inside.rows c.push.new.self c.in_ok-named.named c.self.invariant c.in_ok-named.ensures e

@@ -1,0 +1,123 @@
+//! The rows that a tree's lines name, with their right sides and terms, kept for the next line that names them.
+ghost use Rattle.std.specs.Prelude.{◌≡◌, true, IfOk, IfSome};
+ghost use Rattle.zero_one_rows.specs.Variables.{Voyage};
+ghost use Rattle.zero_one_rows.specs.Rows.{whole};
+ghost use Rattle.dual_bound.specs.Costs.{IsListed};
+ghost use Rattle.bound_checker.specs.Named.{IsNamed};
+
+use crate::amounts::copy_of;
+use dual_bound::{Listed, Term, list_row, terms_of};
+use std::alloc::Global;
+use std::collections::BTreeMap;
+use stow_data::{NoMemory, Seq};
+use zero_one_model::Model;
+use zero_one_rows::Row;
+
+/// The most terms that are kept: 2^24, which are 128 MiB.
+const MOST_TERMS: usize = 1 << 24;
+
+/// A row with its right side and its terms.
+#[derive(Drop)]
+pub struct NamedRow {
+    row: Row,
+    right: i64,
+    terms: Seq<Term>,
+}
+
+/// The rows that were named so far, as many as there is room for. Contracts see the voyage.
+#[derive(Drop)]
+pub struct NamedRows<'a> {
+    model: &'a Model<'a>,
+    rows: Seq<NamedRow>,
+    places: BTreeMap<Row, usize>,
+    room: usize,
+}
+
+impl<'a> std::marker::Model for NamedRows<'a> {
+    ghost use Rattle.std.specs.Prelude.{All};
+    ghost use Rattle.zero_one_rows.specs.Variables.{Voyage};
+    ghost use Rattle.bound_checker.specs.Named.{IsNamed};
+
+    ghost Value = { Voyage };
+
+    ghost view = { λ n. n.model.now };
+
+    ghost invariant = { λ n. All (IsNamed n.model.now) n.rows };
+}
+
+// A row with its right side and its terms.
+fn named_row(alloc: Global, model: &Model, row: &Row) -> Result<NamedRow, NoMemory>
+    requires { (whole model.now).has row.now ≡ true }
+    ensures { IfOk result (IsNamed model.now) }
+{
+    let terms = terms_of(alloc, model, row)?;
+    let right = list_row(model, row, terms.as_slice()).right;
+    Ok(NamedRow {
+        row: copy_of(row)?,
+        right,
+        terms,
+    })
+}
+
+impl NamedRow {
+    // The same with a row's own name, where it is this one.
+    fn listed<'r>(&'r self, row: &'r Row) -> Option<Listed<'r>>
+        ensures row { IfSome result (λ l. l.row.now ≡ row.now) }
+        ensures listed { (m : Voyage) → IsNamed m self.now → IfSome result (λ l. IsListed m row.now l.right l.terms.now) }
+    {
+        if self.row != *row {
+            return None;
+        }
+        Some(Listed {
+            row,
+            right: self.right,
+            terms: self.terms.as_slice(),
+        })
+    }
+}
+
+impl<'a> NamedRows<'a> {
+    /// None so far.
+    pub fn none(alloc: Global, model: &'a Model<'a>) -> NamedRows<'a>
+        ensures { result ≡ model.now }
+    {
+        NamedRows {
+            model,
+            rows: Seq::new(alloc),
+            places: BTreeMap::new(alloc),
+            room: MOST_TERMS,
+        }
+    }
+
+    /// Where a row stands, which is kept where there is room.
+    pub fn place(&mut self, alloc: Global, row: &Row) -> Result<Option<usize>, NoMemory>
+        requires { (whole self.old).has row.now ≡ true }
+        ensures { self.new ≡ self.old }
+    {
+        if let Some(place) = self.places.get(row) {
+            return Ok(Some(*place));
+        }
+        if self.room == 0 {
+            return Ok(None);
+        }
+        let named = named_row(alloc, self.model, row)?;
+        let (place, count) = (self.rows.len(), named.terms.len());
+        self.places.insert(copy_of(row)?, place)?;
+        self.rows.push(named)?;
+        self.room = self.room.saturating_sub(count);
+        Ok(Some(place))
+    }
+
+    /// The row at its place, where it stands there.
+    pub fn at<'r>(&'r self, place: Option<usize>, row: &'r Row) -> Option<Listed<'r>>
+        ensures row { IfSome result (λ l. l.row.now ≡ row.now) }
+        ensures listed { IfSome result (λ l. IsListed self.now row.now l.right l.terms.now) }
+    {
+        let place = place?;
+        if place < self.rows.len() {
+            self.rows.at(place).listed(row)
+        } else {
+            None
+        }
+    }
+}
