@@ -66,12 +66,7 @@ fn slack_of(model: &Model, b: &Box01, listed: Listed) -> i128
 
 #[tactic(auto, using(std::proofs::lemmas::Option::get_or_from_slice_get, partial_plan::proofs::Walking::not_stepped, partial_plan::proofs::Freeing::noted_none))]
 // Fixes a term's variable where its row with this slack forces it, and notes it.
-fn note_one(
-    b: &mut Box01,
-    undo: &mut UndoList,
-    slack: i128,
-    term: Term,
-) -> Result<(), NoMemory>
+fn note_one(b: &mut Box01, undo: &mut UndoList, slack: i128, term: Term) -> Result<(), NoMemory>
     requires { term.var < length b.old }
     ensures stepped { OnOk result (b.new ≡ stepped slack b.old term.var term.coef) }
     ensures noted { (xs : List ℕ) × (undo.new ≡ undo.old ++ xs) × Fixes b.old b.new xs }

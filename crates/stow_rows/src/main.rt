@@ -40,7 +40,8 @@ fn told_of<R: Files + Threads + Wait + Sync, K: Sink>(
 
 fn line_of(alloc: Global, name: &str, counts: Counts) -> Result<String, NoMemory> {
     let line = format!(in alloc;
-        "{name}: {} cases, {} looks, {} differ\n", counts.cases, counts.looks, counts.differ
+        "{name}: {} cases, {} looks, {} differ\n",
+        counts.cases, counts.looks, counts.differ
     )?;
     Ok(line)
 }

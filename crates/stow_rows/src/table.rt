@@ -107,7 +107,9 @@ impl<'a> Table<'a> {
             Differs::Absent => self.tell(format!(in alloc; "{at} is absent")?.as_str()),
             Differs::Stands => self.tell(format!(in alloc; "{at} stands")?.as_str()),
             Differs::Status(found) => self.tell(format!(in alloc; "status {found}")?.as_str()),
-            Differs::Cut(most) => self.tell(format!(in alloc; "cut {most} ends otherwise")?.as_str()),
+            Differs::Cut(most) => self.tell(format!(in alloc;
+                "cut {most} ends otherwise"
+            )?.as_str()),
             Differs::Text(found) => {
                 self.tell(format!(in alloc; "{at} is")?.as_str())?;
                 self.told.extend(found.as_slice())
