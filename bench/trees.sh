@@ -118,7 +118,7 @@ write_wide("deep", deep(380))
 measure("deep")
 if os.path.exists("made.profile.toml"):
     made = variables(kinds("made"), 96, {3 * stack for stack in range(16, 32)})
-    each = megabytes * 1_000_000 // (len(made) * 60)
+    each = megabytes * 1_000_000 // (len(made) * 93)
     write("made", made, lambda: raised(each), lambda: "".join(f"s {row()}\n" for _ in range(2 * each)) + raised(each))
     measure("made")
 PY

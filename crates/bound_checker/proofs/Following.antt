@@ -1,10 +1,10 @@
 -- A box that goes to another, variable by variable.
-use Rattle.std.proofs.Common.{◌≡◌, ◌≢◌, ℕ, zero, suc, ◌+◌, ◌<◌, ◌⊎◌, inl, inr, Bool, List, [], ◌∷◌, ◌++◌, Option, None, length, set, get_or, take, drop, arith, refl, sym, ◌∙◌, ap, subst}
+use Rattle.std.proofs.Common.{◌≡◌, ◌≢◌, ℕ, zero, suc, ◌+◌, ◌<◌, ◌⊎◌, inl, inr, Bool, List, [], ◌∷◌, ◌++◌, Option, None, length, set, get_or, take, drop, refl, sym, ◌∙◌, ap, subst}
 use Rattle.std.proofs.lemmas.Bool.Decides.{eqb_tells}
 use Rattle.std.proofs.lemmas.List.{get_or-set_same, get_or-set_other, take_more, drop_more, ext_get_or}
 use Rattle.proof_trees.specs.Boxes.{Box, at}
 use Rattle.partial_plan.specs.Fixing.{freed}
-use Rattle.partial_plan.proofs.Freeing.{freed_append, freed_length}
+use Rattle.partial_plan.proofs.Freeing.{freed_append}
 
 abbrev Among : List ℕ → ℕ → Type 0
 Among [] v = ⊥

@@ -1,15 +1,15 @@
 -- What a changed multiplier leaves of the sums.
-use Rattle.std.proofs.Common.{◌≡◌, ℕ, ◌<◌, ◌≤◌, ◌^◌, Bool, true, false, cond, length, List, [], ◌∷◌, Option, Some, None, Result, Ok, Err, ℤ, pos, ◌+ℤ◌, ◌-ℤ◌, ◌*ℤ◌, arith, refl, sym, ◌∙◌, ap, subst}
+use Rattle.std.proofs.Common.{◌≡◌, ℕ, ◌<◌, ◌≤◌, ◌^◌, Bool, true, false, cond, List, [], ◌∷◌, Option, Some, None, Result, Ok, Err, ℤ, pos, ◌+ℤ◌, ◌-ℤ◌, ◌*ℤ◌, arith, refl, sym, ◌∙◌, ap, subst}
 use Rattle.std.specs.Option.{option_map, ok_or}
 use Rattle.zero_one_rows.specs.declared.program.Row.{Row}
-use Rattle.zero_one_rows.specs.Variables.{Voyage, variables}
+use Rattle.zero_one_rows.specs.Variables.{Voyage}
 use Rattle.zero_one_rows.specs.Rows.{whole}
-use Rattle.proof_trees.specs.Boxes.{Box, at}
-use Rattle.proof_trees.specs.Multipliers.{Multipliers, amount_of, with_amount, raised, least, weighed_rhs, worth}
+use Rattle.proof_trees.specs.Boxes.{Box}
+use Rattle.proof_trees.specs.Multipliers.{Multipliers, amount_of, with_amount, raised, worth}
 use Rattle.certificate.specs.declared.refusals.BoundNo.{BoundNo}
 use Rattle.certificate.specs.declared.refusals.BoundNo.TheVariants.{Multiplier, StepRow, NoMemory}
 use Rattle.dual_bound.specs.Adding.{in_range}
-use Rattle.dual_bound.specs.Costs.{AreSmall, Priced, parts}
+use Rattle.dual_bound.specs.Costs.{AreSmall, Priced}
 use Rattle.dual_bound.proofs.Multiplied.{changed_is}
 use Rattle.dual_bound.proofs.Pricing.{value_is}
 use Rattle.bound_checker.specs.declared.sums.Sums.{Sums}

@@ -1,8 +1,7 @@
-use Rattle.std.proofs.Common.{rules, arith, SFits, w64, ◌≡◌, ◌<◌, ◌≤◌, ◌^◌, length, map, List, ℕ, ℤ, ◌∙◌, ap, sym}
+use Rattle.std.proofs.Common.{rules, arith, SFits, w64, ◌≡◌, ◌<◌, length, map, List, ℕ, ℤ, ◌∙◌, ap, sym}
 use Rattle.std.specs.Prelude.{nat_eq}
 use Rattle.std.specs.List.{list_any}
 use Rattle.std.specs.Int.{w128}
-use Rattle.std.specs.Int.RustNames.{unsigned_abs}
 use Rattle.std.proofs.lemmas.Int.{to_z-of_z}
 use Rattle.proof_trees.specs.Program.{sum_to, where_set}
 use Rattle.proof_trees.specs.Boxes.{at, greatest}

@@ -1,4 +1,4 @@
-use Rattle.std.proofs.Common.{arith, ◌≡◌, ◌<◌, ◌∙◌, ap, sym, subst, length, get_or, ℕ}
+use Rattle.std.proofs.Common.{arith, ◌≡◌, ◌<◌, ◌∙◌, ap, length, get_or}
 use Rattle.std.proofs.lemmas.List.{length-set, take_all}
 use Rattle.proof_trees.specs.Boxes.{Box}
 use Rattle.partial_plan.specs.Fixing.{freed}

@@ -1,4 +1,4 @@
-use Rattle.std.proofs.Common.{rules, arith, SFits, ◌≡◌, ◌≤ℤ◌}
+use Rattle.std.proofs.Common.{rules, arith, SFits, ◌≤ℤ◌}
 use Rattle.std.specs.Int.{w128}
 use Rattle.std.proofs.lemmas.Int.{to_z-of_z}
 use borrow.Author.Differences.{ints}

@@ -1,6 +1,5 @@
-use Rattle.std.proofs.Common.{◌≡◌, sym, subst, IfSome}
+use Rattle.std.proofs.Common.{◌≡◌, subst}
 use Rattle.zero_one_rows.specs.Variables.{Voyage}
-use Rattle.dual_bound.specs.Costs.{IsListed}
 use Rattle.bound_checker.specs.Named.{IsNamed}
 use Rattle.bound_checker.proofs.Named.{each_is}
 use Rattle.bound_checker.proofs.named_rows.NamedRows.at.Goals as goal

@@ -1,5 +1,4 @@
-use Rattle.std.proofs.Common.{rules, ◌≡◌, List, [], ◌∷◌, ◌++◌}
-use Rattle.bound_checker.specs.declared.named_rows.NamedRow.{NamedRow}
+use Rattle.std.proofs.Common.{rules, ◌≡◌, [], ◌∷◌, ◌++◌}
 use Rattle.bound_checker.specs.Named.{IsNamed}
 use Rattle.bound_checker.proofs.Named.{one_more}
 use Rattle.bound_checker.proofs.named_rows.NamedRows.place.Goals as goal

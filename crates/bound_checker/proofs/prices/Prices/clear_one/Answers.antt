@@ -1,4 +1,4 @@
-use Rattle.std.proofs.Common.{rules, arith, SFits, w64, ◌≡◌, ◌≤◌, ◌∙◌, refl, sym, [], ◌∷◌, ◌++◌, length}
+use Rattle.std.proofs.Common.{rules, arith, SFits, w64, ◌≡◌, ◌∙◌, refl, sym, [], ◌∷◌, ◌++◌}
 use Rattle.std.proofs.lemmas.Int.{to_z-of_z}
 use Rattle.zero_one_rows.specs.Variables.{Voyage}
 use Rattle.proof_trees.specs.Boxes.{Box}

@@ -1,4 +1,4 @@
-use Rattle.std.proofs.Common.{rules, ◌≡◌, ◌<◌, ◌∙◌, ap, refl, sym, subst, set, List, length, ◌++◌, ◌∷◌, [], None, Some}
+use Rattle.std.proofs.Common.{rules, ◌≡◌, ◌<◌, ◌∙◌, ap, refl, sym, subst, set, length, ◌++◌, ◌∷◌, [], None, Some}
 use Rattle.std.proofs.lemmas.Option.{slice_get_within}
 use Rattle.proof_trees.specs.Boxes.{Box}
 use Rattle.bound_checker.specs.Sums.{Carries}

@@ -1,4 +1,4 @@
-use Rattle.std.proofs.Common.{◌≡◌, ◌≤◌, ℕ, ◌∙◌, ap, sym, subst, false, All, Some, None, Option, Bool, List, ◌++◌, ◌∷◌, [], length, take}
+use Rattle.std.proofs.Common.{◌≤◌, ℕ, ◌∙◌, ap, sym, subst, false, All, Some, None, Option, Bool, List, ◌++◌, ◌∷◌, [], length, take}
 use Rattle.std.proofs.lemmas.Option.{slice_get-get_or}
 use Rattle.proof_trees.specs.Boxes.{Box, fixed}
 use Rattle.bound_checker.specs.Waits.{Before, IsSound}

@@ -1,5 +1,4 @@
-use Rattle.std.proofs.Common.{rules, ◌≡◌, ◌<◌, ◌∙◌, ap, refl, sym, subst, ℕ, List, All, ◌++◌, length, drop}
-use Rattle.std.proofs.Math.Seq.{drop-append_seam}
+use Rattle.std.proofs.Common.{◌<◌, ◌∙◌, ap, refl, sym, subst, ℕ, List, All, length}
 use Rattle.proof_trees.specs.Boxes.{Box}
 use Rattle.partial_plan.specs.Fixing.{freed}
 use Rattle.bound_checker.specs.Sums.{Carries}
