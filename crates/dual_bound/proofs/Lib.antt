@@ -13,4 +13,5 @@ pub mod Climbing
 pub mod PairKeys
 pub mod PairSums
 pub mod Offering
+pub mod Scoring
 pub mod BaseFlat

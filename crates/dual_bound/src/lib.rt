@@ -7,6 +7,7 @@ mod costs;
 mod gauge;
 mod multipliers;
 mod offers;
+mod packing;
 mod pairs;
 mod plain_value;
 mod raising;

@@ -14,6 +14,7 @@ use crate::changing::add_amount;
 use crate::costs::Costs;
 use crate::multipliers::{MOST, Multipliers, copy_of};
 use crate::offers::choose_crossing;
+use crate::packing::{Wish, wishes};
 use crate::sizes::signed;
 use crate::table::RowTable;
 use crate::terms::{Listed, Term, list_row, terms_of};
@@ -21,6 +22,9 @@ use std::alloc::Global;
 use stow_data::{NoMemory, Seq};
 use zero_one_model::{Box01, Model};
 use zero_one_rows::{Raise, RaiseList, Row};
+
+/// Where fewer raises are allowed, it costs too much to look how they are best made together.
+const MANY: u32 = 1_000;
 
 /// How raising ends.
 #[derive(Clone, Copy, Debug, PartialEq, Eq)]
@@ -334,6 +338,85 @@ fn find(
     find_listed(alloc, model, table, b, m, costs, from)
 }
 
+// The same row, raised by this amount, if that is less and gains too.
+fn limited(
+    model: &Model,
+    b: &Box01,
+    m: &Multipliers,
+    costs: &Costs,
+    rising: Rising,
+    amount: u64,
+) -> Rising
+    requires whole { length b.now ≡ length (variables model.now) }
+    requires priced { Priced model.now b.now m.now costs.now }
+    requires rises { Rises model.now b.now m.now rising }
+    ensures { Rises model.now b.now m.now result }
+{
+    if amount == 0 || amount >= rising.more {
+        return rising;
+    }
+    let listed = Listed {
+        row: &rising.row,
+        right: rising.right,
+        terms: rising.terms.as_slice(),
+    };
+    if costs.gain(model, b, listed, amount) <= 0 {
+        return rising;
+    }
+    Rising {
+        more: amount,
+        ..rising
+    }
+}
+
+// What is wished for, where it brings something.
+fn granted(
+    alloc: Global,
+    model: &Model,
+    table: &RowTable,
+    b: &Box01,
+    m: &Multipliers,
+    costs: &Costs,
+    wish: Option<&Wish>,
+) -> Result<Option<Rising>, NoMemory>
+    requires table { table.now ≡ model.now }
+    requires whole { length b.now ≡ length (variables model.now) }
+    requires priced { Priced model.now b.now m.now costs.now }
+    ensures { IfOk result (λ o. IfSome o (λ c. Rises model.now b.now m.now c)) }
+{
+    let Some(wish) = wish else {
+        return Ok(None);
+    };
+    let row = copy_of(&wish.row)?;
+    let Some(rising) = look_at(alloc, model, table, b, m, costs, Some(row))? else {
+        return Ok(None);
+    };
+    Ok(Some(limited(model, b, m, costs, rising, wish.amount)))
+}
+
+// A row that can be raised with gain: the one that is wished for, or else one that is found.
+fn next(
+    alloc: Global,
+    model: &Model,
+    table: &RowTable,
+    b: &Box01,
+    m: &Multipliers,
+    costs: &Costs,
+    from: u64,
+    wish: Option<&Wish>,
+) -> Result<Option<Rising>, NoMemory>
+    requires table { table.now ≡ model.now }
+    requires whole { length b.now ≡ length (variables model.now) }
+    requires priced { Priced model.now b.now m.now costs.now }
+    ensures none { result ≡ Ok None → IsStuck model.now b.now m.now }
+    ensures some { IfOk result (λ o. IfSome o (λ c. Rises model.now b.now m.now c)) }
+{
+    if let Some(rising) = granted(alloc, model, table, b, m, costs, wish)? {
+        return Ok(Some(rising));
+    }
+    find(alloc, model, table, b, m, costs, from)
+}
+
 // Makes one raise, and appends it. After want of memory nothing is changed.
 fn step(
     model: &Model,
@@ -407,6 +490,7 @@ fn turn(
     costs: &mut Costs,
     cut: u64,
     from: &mut u64,
+    wish: Option<&Wish>,
     raises: &mut RaiseList,
 ) -> Option<Raised>
     requires table { table.now ≡ model.now }
@@ -422,7 +506,7 @@ fn turn(
     if costs.closes(model, b, m, cut) {
         return Some(Raised::Reached);
     }
-    let Ok(found) = find(alloc, model, table, b, m, costs, *from) else {
+    let Ok(found) = next(alloc, model, table, b, m, costs, *from, wish) else {
         return Some(Raised::NoMemory);
     };
     let Some(rising) = found else {
@@ -433,6 +517,28 @@ fn turn(
     }
     *from = rising.number;
     None
+}
+
+// The raises that are tried first: where no row has a multiplier and many raises are allowed, a packing.
+fn first_wishes(
+    alloc: Global,
+    model: &Model,
+    table: &RowTable,
+    m: &Multipliers,
+    most: u32,
+) -> Vec<Wish> {
+    if m.len() > 0 || most < MANY {
+        return Vec::new(alloc);
+    }
+    let Some(pairs) = table.pairs() else {
+        return Vec::new(alloc);
+    };
+    let last = model.cargo().calls() as usize;
+    let _vars = model.vars();
+    match wishes(alloc, pairs, last) {
+        Ok(wishes) => wishes,
+        Err(NoMemory) => Vec::new(alloc),
+    }
 }
 
 /// Raises multipliers whose costs are kept.
@@ -455,9 +561,13 @@ pub fn raise_kept(
     ensures ends { Ends model.now b.now m.new cut result }
     ensures spent { result ≡ Raised.Spent → length raises.new ≡ length raises.old + most }
 {
+    let wishes = first_wishes(alloc, model, table, m, most);
     let mut from = 0;
-    for _ in 0..most {
-        if let Some(end) = turn(alloc, model, table, b, m, costs, cut, &mut from, raises) {
+    for made in 0..most {
+        let wish = wishes.get(made as usize);
+        if let Some(end) = turn(
+            alloc, model, table, b, m, costs, cut, &mut from, wish, raises,
+        ) {
             return end;
         }
     }

@@ -3,9 +3,9 @@ use Rattle.dual_bound.specs.Costs.{Priced}
 use Rattle.dual_bound.specs.Raising.{Raises}
 use Rattle.dual_bound.proofs.raising.raise_kept.Given as goal
 
-abbrev pub invariant-loop : goal.invariant-loop
-invariant-loop l = record {
+abbrev pub invariant-loop-made : goal.invariant-loop-made
+invariant-loop-made l = record {
   priced : Priced l.model l.b l.m l.costs;
-  raised : Raises l.model l.b l.counter l.fn.m l.m l.fn.raises l.raises;
-  number : length l.raises ≡ length l.fn.raises + l.counter;
+  raised : Raises l.model l.b l.made l.fn.m l.m l.fn.raises l.raises;
+  number : length l.raises ≡ length l.fn.raises + l.made;
 }

@@ -1,0 +1,20 @@
+use Rattle.std.proofs.Common.{rules, arith, SFits, w64, pos, ◌<ℤ◌}
+use Rattle.std.specs.Int.{w128}
+use Rattle.std.proofs.lemmas.Int.{to_z-of_z}
+use Rattle.zero_one_rows.specs.Rows.{whole}
+use Rattle.proof_trees.specs.Multipliers.{worth}
+use Rattle.dual_bound.specs.Rising.{raised_by}
+use Rattle.dual_bound.proofs.Flat.{rises_by_gain, above}
+use Rattle.dual_bound.proofs.raising.limited.Goals as goal
+
+pub returns : goal.returns
+returns c =
+    let f : SFits w128 c.gain.result = search rules in
+    let side : SFits w64 c.args.rising.right = search rules in
+    let up : pos 0 <ℤ c.gain.result = above c.gain.result (simp to_z-of_z at c.if-gain-le0.false) in
+    let much : worth (whole c.args.model.now) c.args.b.now c.args.m.now <ℤ worth (whole c.args.model.now) c.args.b.now (raised_by c.args.m.now c.args.rising.row c.args.amount) = rises_by_gain c.args.model.now c.args.b.now c.args.m.now c.args.rising.row c.args.amount c.gain.result (c.gain.ensures c.args.m.now c.requires.priced) up in
+    let rises = c.requires.rises in
+    record {
+      listed = simp to_z-of_z rises.listed;
+      by = record { some = omega (arith, c.if-amount-eq0.false); low = omega (arith, rises.by.low, c.if-amount-rising.false); one = rises.by.one; much = much };
+    }
