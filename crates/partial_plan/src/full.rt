@@ -1,29 +1,42 @@
 //! What a full box costs, and whether it breaks a base row.
-ghost use Rattle.std.specs.Prelude.{◌≡◌, ◌<◌, ◌≤◌, ◌↔◌, IsTrue, length, pos};
+ghost use Rattle.std.specs.Prelude.{◌≡◌, ◌<◌, ◌≤◌, ◌↔◌, IfOk, IsTrue, length, pos, true};
 ghost use Rattle.proof_trees.specs.Program.{cost_of as cost_in, where_set};
+ghost use Rattle.proof_trees.specs.Boxes.{violated};
 ghost use Rattle.zero_one_rows.specs.Variables.{variables};
 ghost use Rattle.zero_one_rows.specs.Rows.{whole};
 ghost use Rattle.partial_plan.specs.Full.{BreaksNone, ones};
 
 use crate::base_rows::base_row;
-use crate::forcing::violates;
+use crate::slack::slack_among;
 use program_rows::rows_are_listed;
-use stow_data::VarNo;
+use std::alloc::Global;
+use stow_data::{NoMemory, VarNo};
 use zero_one_model::{Box01, Model};
+use zero_one_rows::Row;
 
-/// Whether no base row is violated in a box. It takes no memory.
-pub fn breaks_none(model: &Model, b: &Box01) -> bool
+// Whether nothing in a box meets a row: as `violates`, by a list of the row's variables, which are few of all.
+fn is_violated(alloc: Global, model: &Model, b: &Box01, r: &Row) -> Result<bool, NoMemory>
+    requires row { (whole model.now).has r.now ≡ true }
+    requires whole { length b.now ≡ length (variables model.now) }
+    ensures { IfOk result (λ answer. answer ≡ violated (whole model.now) b.now r.now) }
+{
+    let vars = model.vars_of(alloc, r)?;
+    Ok(slack_among(model, b, r, vars.as_slice()) < 0)
+}
+
+/// Whether no base row is violated in a box. It looks at each row's variables alone.
+pub fn breaks_none(alloc: Global, model: &Model, b: &Box01) -> Result<bool, NoMemory>
     requires { length b.now ≡ length (variables model.now) }
-    ensures { IsTrue result ↔ BreaksNone model.now b.now }
+    ensures { IfOk result (λ answer. IsTrue answer ↔ BreaksNone model.now b.now) }
 {
     rows_are_listed();
     for k in 0..model.base_rows() {
         let row = base_row(model, k);
-        if violates(model, b, &row) {
-            return false;
+        if is_violated(alloc, model, b, &row)? {
+            return Ok(false);
         }
     }
-    true
+    Ok(true)
 }
 
 // What a variable costs where it is at 1, and else nothing.

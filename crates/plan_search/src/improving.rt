@@ -48,7 +48,7 @@ fn guessed(
     let Some(full) = planner.full_box(alloc, model)? else {
         return Ok(None);
     };
-    if !breaks_none(model, &full) {
+    if !breaks_none(alloc, model, &full)? {
         return Ok(None);
     }
     let found = plans_of(alloc, ship, cargo, model, &full)?;
