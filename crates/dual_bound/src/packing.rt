@@ -34,8 +34,10 @@ const LIGHT: i64 = 1 << 8;
 
 const HEAVY: i64 = 1 << 36;
 
-/// The rate at first: no chain brings so much for its weights.
+/// The rate at first: no chain brings so much for its weights. Below the least one it can't fall by an eighth.
 const HIGH: i64 = 1 << 42;
+
+const LEAST: i64 = 8;
 
 /// How often chains are taken, or the rate falls.
 const TURNS: u32 = 700;
@@ -223,7 +225,12 @@ fn weighed(alloc: Global, sides: &PairSides, last: usize) -> Result<Vec<Share>, 
                 }
                 take(&mut shares, share)?;
             }
-            None => rate = rate.saturating_sub(rate / 8),
+            None => {
+                if rate < LEAST {
+                    return Ok(shares);
+                }
+                rate = rate.saturating_sub(rate / 8);
+            }
         }
     }
     Ok(shares)
@@ -361,10 +368,13 @@ fn better(a: Vec<Share>, b: Vec<Share>) -> Vec<Share> {
     }
 }
 
-// The best packing of a length: what was taken rounded down or to the nearest, or chains that bring most alone.
+// The best packing of a length: what was taken rounded down or to the nearest, or chains that bring most alone. Nothing where no chain brings anything.
 fn packed(alloc: Global, sides: &PairSides, last: usize) -> Result<Vec<Share>, NoMemory>
     requires { last ≤ 12 }
 {
+    if best_share(sides, &[0; PAIRS], 0, last).is_none() {
+        return Ok(Vec::new(alloc));
+    }
     let shares = weighed(alloc, sides, last)?;
     let half = most_taken(shares.as_slice()) / 2;
     let down = scaled(alloc, sides, last, shares.as_slice(), 0)?;
