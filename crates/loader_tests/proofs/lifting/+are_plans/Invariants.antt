@@ -1,5 +1,0 @@
-use Rattle.std.proofs.Common.{length}
-use Rattle.loader_tests.proofs.lifting.+are_plans.Given as goal
-
-abbrev pub decreases-are_plans : goal.decreases-are_plans
-decreases-are_plans l = length l.plans.now
