@@ -1,0 +1,45 @@
+//! The sums of a program's rows, and the tables that a search builds once.
+ghost use Rattle.std.specs.Prelude.{◌≡◌, IfOk};
+ghost use Rattle.zero_one_rows.specs.Variables.{variables};
+
+use crate::words::write_count;
+use dual_bound::RowTable;
+use kept_box::BaseMatrix;
+use std::alloc::Global;
+use stow_data::{Bytes, NoMemory, Seq, VarNo};
+use sum_matrix::SumMatrix;
+use zero_one_model::Model;
+use zero_one_rows::Var;
+
+/// The variables in their order.
+fn variables_of(alloc: Global, model: &Model) -> Result<Seq<Var>, NoMemory>
+    ensures { IfOk result (λ vars. vars ≡ variables model.now) }
+{
+    let mut vars = Seq::new(alloc);
+    for v in 0..model.vars() {
+        vars.push(model.var(VarNo(v)))?;
+    }
+    Ok(vars)
+}
+
+/// How many sums the base rows share, and how many variables they hold together.
+pub fn write_sums(alloc: Global, model: &Model, out: &mut Bytes) -> Result<(), NoMemory> {
+    let vars = variables_of(alloc, model)?;
+    let matrix = SumMatrix::build(alloc, model.ship(), model.cargo(), vars.as_slice())?;
+    let mut entries: u64 = 0;
+    for v in 0..vars.len() {
+        entries = entries.saturating_add(matrix.sums_of(v).len() as u64);
+    }
+    write_count(out, b"entries", entries)
+}
+
+/// Builds what a search builds once.
+pub fn write_tables<'a>(
+    alloc: Global,
+    model: &'a Model<'a>,
+    out: &mut Bytes,
+) -> Result<(), NoMemory> {
+    let matrix = BaseMatrix::build(alloc, model)?;
+    let _rows = RowTable::build(alloc, model);
+    write_count(out, b"tables of", u64::from(matrix.model().vars()))
+}
