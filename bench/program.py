@@ -5,11 +5,12 @@ usage: bench/program.py compare PROBE JUDGE CASES
        bench/program.py measure PROBE [SHIP CARGO]..
 
 PROBE is the built program `program_probe`. JUDGE is a command (one word, split at spaces) that is run with `sizes`, `variables`, `rows` or
-`loaded`, a profile, bookings and a bay plan at arrival (`-` where there is none), and prints of a program of its own making what the
-probe prints: the sizes, each variable with its cost, each row with its right side and its terms, and for the loader's plans the departures,
-what is lifted, the ones of their full box and its cost. CASES is a folder of folders with `profile.toml`, `cargo.toml` and, where the ship
-comes in loaded, `arrival.edi`. The terms of a row may stand in any order. What the probe prints besides, the moves and the plans of the full
-box, has to be finished at each call and to rehandle as often as the box costs. It prints how much was compared, and what differs.
+`loaded`, a profile, bookings and a bay plan at arrival (`-` where there is none), and prints of a program of its own making what the probe
+prints: the sizes, each variable with its cost and its number of rows, each row with its right side and its terms, and for the loader's plans
+the departures, what is lifted, what a lift of each place by itself meets, the ones of their full box, and its cost. CASES is a folder of
+folders with `profile.toml`, `cargo.toml` and, where the ship comes in loaded, `arrival.edi`. The terms of a row and the moves of a call may
+stand in any order; the moves have to finish each call, and the plans of the full box to rehandle as often as it costs. It prints how much was
+compared, and what differs.
 
 `measure` makes ships of growing size, and prints for each, and for each pair of files that is named, the variables and rows, and the seconds
 of the processor and the greatest memory of the whole run of `sizes` (the inputs are read and the program is built), of `sums` (the sums of its
@@ -55,7 +56,7 @@ def loaded_of(text):
         wrong.append('a call isn\'t finished')
     if told[-1].split()[1] != told[cost].split()[1]:
         wrong.append('the plans of the box don\'t rehandle as often as it costs')
-    return told[:cost + 1], wrong
+    return told[:cost + 1] + [line for line in lines if line.startswith('alone')], wrong
 
 
 def differences(probe, judge, folder):
@@ -69,8 +70,7 @@ def differences(probe, judge, folder):
             mine, theirs = rows_of(mine), rows_of(theirs)
             rows = len(mine)
         elif order == 'loaded':
-            mine, wrong = loaded_of(mine)
-            theirs = theirs.splitlines()
+            (mine, wrong), (theirs, _) = loaded_of(mine), loaded_of(theirs)
             found += wrong
         if mine != theirs:
             found.append(order)
