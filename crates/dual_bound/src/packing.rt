@@ -29,14 +29,16 @@ const UNIT: i64 = 1 << 16;
 /// A rate counts in such parts.
 const PARTS: i64 = 1 << 24;
 
-/// The weight of a pair at first, and that with which no more is taken.
+/// The weight of a pair at first.
 const LIGHT: i64 = 1 << 8;
 
+/// The weight of a pair with which no more is taken.
 const HEAVY: i64 = 1 << 36;
 
-/// The rate at first: no chain brings so much for its weights. Below the least one it can't fall by an eighth.
+/// The rate at first: no chain brings so much for its weights.
 const HIGH: i64 = 1 << 42;
 
+/// Below this rate it can't fall by an eighth.
 const LEAST: i64 = 8;
 
 /// How often chains are taken, or the rate falls.
