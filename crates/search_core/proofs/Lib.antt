@@ -1,4 +1,6 @@
-mod Grown
-mod Named
-mod Renamed
+pub mod Grown
+pub mod Earlier
+pub mod Named
+pub mod Renamed
+pub mod Standing
 mod Workers

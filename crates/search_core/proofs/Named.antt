@@ -53,7 +53,7 @@ length_end [] x = refl
 length_end (y ∷ xs) x = omega (arith, length_end xs x)
 
 module _ {D : Type 0} where
-  own : (c : StateOver NodeKey D) (i : ℕ) → KeysStand c → WorkerIn (length c.ended) (worker c i)
+  pub own : (c : StateOver NodeKey D) (i : ℕ) → KeysStand c → WorkerIn (length c.ended) (worker c i)
   own c i stand = worker_in (length c.ended) c.workers i stand.workers
 
   set : (c : StateOver NodeKey D) (i : ℕ) (w : Worker NodeKey) → KeysStand c → WorkerIn (length c.ended) w → KeysStand (with_worker c i w)

@@ -134,7 +134,7 @@ module _ {N M G H : Type 0} (f : N → M) (hs : List H) where
     ),
   )
 
-  no_worker : (c : StateOver N G) (i : ℕ) → NoSuchWorker c i → NoSuchWorker (renamed c) i
+  pub no_worker : (c : StateOver N G) (i : ℕ) → NoSuchWorker c i → NoSuchWorker (renamed c) i
   no_worker c i le = let most : length c.workers ≤ i = le in omega (arith, most, map_length (worker_as f) c.workers)
 
   not_free : (c : StateOver N G) (i : ℕ) → (HandFree c i → ⊥) → HandFree (renamed c) i → ⊥

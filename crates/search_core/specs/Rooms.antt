@@ -4,6 +4,9 @@ use Rattle.std.specs.Vec.{vec_len, vec_capacity}
 use Rattle.std.specs.Global.{Global}
 use Rattle.search_machine.specs.Bags.{Every}
 use Rattle.search_machine.specs.Machine.{Worker, StateOver, worker, with_worker, IsWorker}
+use Rattle.search_machine.specs.Refusals.{NoSuchWorker, HandIsEmpty, Holding}
+use Rattle.search_machine.specs.declared.refused.Refused.{Refused}
+use Rattle.search_machine.specs.declared.refused.Refused.TheVariants.{NoWorker, HandEmpty, NoTicket}
 use Rattle.search_core.specs.declared.node_keys.NodeKey.{NodeKey}
 use Rattle.search_core.specs.declared.node_keys.NodeKey.TheVariants.{Half}
 
@@ -50,3 +53,10 @@ SplitsHand c i n done first second d = IsWorker c i × ((worker c i).hand ≡ So
 -- the node in hand is ended, and its halves wait to be pushed, the one with value 1 first
 abbrev pub HalvesHand : {D : Type 0} → StateOver NodeKey D → ℕ → NodeKey → D → StateOver NodeKey D → Type 0
 HalvesHand c i n done d = SplitsHand c i n done (Half (length c.ended) true) (Half (length c.ended) false) d
+
+-- the worker has no node in its hand that has a ticket, for this cause
+abbrev pub LacksTicket : {N D : Type 0} → StateOver N D → ℕ → Refused → Type 0
+LacksTicket c i NoWorker = NoSuchWorker c i
+LacksTicket c i HandEmpty = HandIsEmpty c i
+LacksTicket {N} c i NoTicket = (n : N) × Holding c i n false
+LacksTicket c i r = ⊥

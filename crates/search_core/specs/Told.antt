@@ -1,29 +1,14 @@
 -- The machine's nodes and records, as they stand behind the keys of nodes.
-use Rattle.std.specs.Prelude.{ℕ, ◌<◌, ℤ, List, [], ◌∷◌, ◌++◌, map, length, slice_index_or, Option, Some, None, option_map}
-use Rattle.proof_trees.specs.Trees as trees
+use Rattle.std.specs.Prelude.{ℕ, suc, ◌<◌, List, [], ◌∷◌, ◌++◌, map, length, slice_index_or, Option, Some, None, option_map}
+use Rattle.proof_trees.specs.Trees.{Entry}
 use Rattle.search_machine.specs.Bags.{Every}
 use Rattle.search_machine.specs.Journals.{nothing_done}
 use Rattle.search_machine.specs.Machine.{Node, Worker, State, StateOver, Handled, root_node, half_node, handled}
 use Rattle.search_core.specs.declared.node_keys.NodeKey.{NodeKey}
 use Rattle.search_core.specs.declared.node_keys.NodeKey.TheVariants.{Root, Half}
-use Rattle.search_core.specs.declared.records.End.{End}
-use Rattle.search_core.specs.declared.records.End.TheVariants.{Leaf, Left, Branch}
-use Rattle.search_core.specs.declared.records.Raise.{Raise}
-use Rattle.search_core.specs.declared.records.Record.{Record}
 use Rattle.search_core.specs.declared.records.Done.{Done}
 
-abbrev pub end_of : End → trees.End
-end_of Leaf = trees.Leaf
-end_of Left = trees.Left
-end_of (Branch v) = trees.Branch v
-
 module _ {R : Type 0} where
-  abbrev pub raise_of : Raise R → R × ℤ
-  raise_of r = (r.row, r.amount)
-
-  abbrev pub entry_of : Record R → trees.Entry R
-  entry_of r = record { from_zero = r.from_zero; steps = r.steps; raises = map raise_of r.raises; end = end_of r.end }
-
   -- the ended node with this number
   abbrev pub ended_at : List (Handled R) → ℕ → Handled R
   ended_at hs k = slice_index_or hs k (handled root_node nothing_done)
@@ -33,12 +18,14 @@ module _ {R : Type 0} where
   node_of hs Root = root_node
   node_of hs (Half k y) = half_node (ended_at hs k).node (ended_at hs k).entry y
 
-  -- the ended nodes with their records; a key is read by those before it
-  abbrev pub told_from : List (Handled R) → List (Done R) → List (Handled R)
+-- `entry` tells what ended a node as an entry of a proof tree
+module _ {T R : Type 0} (entry : T → Entry R) where
+  -- the ended nodes with their entries; a key is read by those before it
+  abbrev pub told_from : List (Handled R) → List (Done T) → List (Handled R)
   told_from hs [] = hs
-  told_from hs (d ∷ ds) = told_from (hs ++ handled (node_of hs d.node) (entry_of d.record) ∷ []) ds
+  told_from hs (d ∷ ds) = told_from (hs ++ handled (node_of hs d.node) (entry d.entry) ∷ []) ds
 
-  abbrev pub told : List (Done R) → List (Handled R)
+  abbrev pub told : List (Done T) → List (Handled R)
   told ds = told_from [] ds
 
 -- the key names the root or a half of one of the first so many ended nodes
@@ -52,6 +39,15 @@ HandIn n (Some k) = InTable n k
 
 abbrev pub WorkerIn : ℕ → Worker NodeKey → Type 0
 WorkerIn n w = Every (InTable n) w.deque × HandIn n w.hand × Every (InTable n) w.made
+
+-- the first key names the root or a half of one of so many ended nodes, the next of one more, and so on
+abbrev pub AreEarlier : {T : Type 0} → ℕ → List (Done T) → Type 0
+AreEarlier n [] = Unit {0}
+AreEarlier n (d ∷ ds) = InTable n d.node × AreEarlier (suc n) ds
+
+-- each ended key names the root or a half of a node that was ended before
+abbrev pub NameEarlier : {T : Type 0} → List (Done T) → Type 0
+NameEarlier ds = AreEarlier 0 ds
 
 -- each key that a worker has, or that was left, names a node
 pub record KeysStand {D : Type 0} (c : StateOver NodeKey D) : Type 0 where
@@ -67,5 +63,5 @@ abbrev pub state_as : {N M G H : Type 0} → (N → M) → List H → StateOver 
 state_as f hs c = record { workers = map (worker_as f) c.workers; start = c.start; budget = c.budget; word = c.word; drawn = c.drawn; left = map f c.left; ended = hs }
 
 -- the state of the machine that keys stand for
-abbrev pub state_of : {R : Type 0} → StateOver NodeKey (Done R) → State R
-state_of c = state_as (node_of (told c.ended)) (told c.ended) c
+abbrev pub state_of : {T R : Type 0} → (T → Entry R) → StateOver NodeKey (Done T) → State R
+state_of entry c = state_as (node_of (told entry c.ended)) (told entry c.ended) c

@@ -1,14 +1,14 @@
 //! All workers, and what they share.
 ghost use Rattle.std.specs.Prelude.{◌≡◌, ℕ, ◌+◌, ◌<◌, ◌≤◌, IfOk, OnOk, OnErr, IfErr, length, replicate, map, Some, None, true, false, [], ◌∷◌, ◌++◌, IfSome};
 ghost use Rattle.search_machine.specs.Machine.{idle, begin_with, worker as holder, with_worker, IsWorker, Pushes, Pops, Steals, Loads, Draws, lesser};
-ghost use Rattle.search_machine.specs.Refusals.{RefusesPush, RefusesPop, RefusesSteal, RefusesLoad, RefusesDraw};
+ghost use Rattle.search_machine.specs.Refusals.{Holding, RefusesPush, RefusesPop, RefusesSteal, RefusesLoad, RefusesDraw};
 ghost use Rattle.search_core.specs.declared.node_keys.NodeKey.{NodeKey as Key};
 ghost use Rattle.search_core.specs.declared.node_keys.NodeKey.TheVariants.{Root, Half};
 ghost use Rattle.search_machine.specs.Bags.{Every};
-ghost use Rattle.search_core.specs.Rooms.{worker_of, EndsHand, HalvesHand};
+ghost use Rattle.search_core.specs.Rooms.{worker_of, EndsHand, HalvesHand, LacksTicket};
 
 use crate::node_keys::NodeKey;
-use crate::records::{Done, Record};
+use crate::records::Done;
 use crate::seat::Seat;
 use search_machine::Refused;
 use std::alloc::Global;
@@ -19,7 +19,7 @@ use stow_data::NoMemory;
 ///
 /// Contracts see the state of the search machine over keys, and how many events it takes at least without memory.
 #[derive(Drop)]
-pub struct Seats<R> {
+pub struct Seats<T> {
     seats: Vec<Seat>,
     start: u64,
     budget: u64,
@@ -28,16 +28,16 @@ pub struct Seats<R> {
     /// Tickets within the budget. Those past it are as many as the nodes that were left.
     drawn: u64,
     left: Vec<NodeKey>,
-    ended: Vec<Done<R>>,
+    ended: Vec<Done<T>>,
     spare: usize,
 }
 
-impl<R> Model for Seats<R> {
+impl<T> Model for Seats<T> {
     ghost use Rattle.std.specs.Prelude.{◌+◌, map, length};
     ghost use Rattle.search_core.specs.declared.records.Done.{Done as Ended};
     ghost use Rattle.search_core.specs.Rooms.{Reserved, worker_of, HasRoom};
 
-    ghost Value = { Reserved (Ended R) };
+    ghost Value = { Reserved (Ended T) };
 
     ghost view = { λ s. record { state = record { workers = map worker_of s.seats.items; start = s.start; budget = s.budget; word = s.word; drawn = s.drawn + length s.left.items; left = s.left.items; ended = s.ended.items }; spare = s.spare } };
 
@@ -69,11 +69,12 @@ fn reserve_all(seats: &mut Vec<Seat>, nodes: usize) -> Result<(), NoMemory>
 }
 
 #[tactic(auto)]
-impl<R: Drop> Seats<R> {
+impl<T: Drop> Seats<T> {
     /// So many workers, of whom the first has the root in its deque.
-    pub fn start(alloc: Global, workers: u32, start: u64, budget: u64) -> Result<Seats<R>, NoMemory>
+    pub fn start(alloc: Global, workers: u32, start: u64, budget: u64) -> Result<Seats<T>, NoMemory>
         requires { 0 < workers }
-        ensures { IfOk result (λ seats. seats.state ≡ begin_with Root workers start budget) }
+        ensures state { IfOk result (λ seats. seats.state ≡ begin_with Root workers start budget) }
+        ensures none { IfOk result (λ seats. seats.spare ≡ 0) }
     {
         let mut seats = idle_seats(alloc, workers)?;
         seats[0] = Seat::with_root(alloc)?;
@@ -94,6 +95,7 @@ impl<R: Drop> Seats<R> {
         ensures state { self.new.state ≡ self.old.state }
         ensures room { OnOk result (events ≤ self.new.spare) }
         ensures kept { self.old.spare ≤ self.new.spare }
+        ensures most { (n : ℕ) → self.old.spare ≤ n → events ≤ n → self.new.spare ≤ n }
     {
         if events <= self.spare {
             return Ok(());
@@ -159,11 +161,36 @@ impl<R: Drop> Seats<R> {
         self.seats[worker as usize].waiting()
     }
 
+    /// The node in a worker's hand, which has a ticket.
+    pub fn ticketed(&self, worker: u32) -> Result<NodeKey, Refused>
+        ensures held { IfOk result (λ n. Holding self.now.state worker n true) }
+        ensures pushed { IfOk result (λ _. (holder self.now.state worker).made ≡ []) }
+        ensures refused { IfErr result (λ cause. LacksTicket self.now.state worker cause) }
+    {
+        if worker as usize >= self.seats.len() {
+            return Err(Refused::NoWorker);
+        }
+        let Some(node) = self.hand(worker) else {
+            return Err(Refused::HandEmpty);
+        };
+        if !self.has_ticket(worker) {
+            return Err(Refused::NoTicket);
+        }
+        Ok(node)
+    }
+
     /// The ended nodes.
-    pub fn ended(&self) -> &[Done<R>]
+    pub fn ended(&self) -> &[Done<T>]
         ensures { result.now ≡ self.now.state.ended }
     {
         self.ended.as_slice()
+    }
+
+    /// The nodes that were left.
+    pub fn left(&self) -> &[NodeKey]
+        ensures { result.now ≡ self.now.state.left }
+    {
+        self.left.as_slice()
     }
 
     /// A worker moves its first child that waits to the back of its deque.
@@ -173,6 +200,7 @@ impl<R: Drop> Seats<R> {
         ensures refused { IfErr result (λ cause. RefusesPush self.old.state worker cause) }
         ensures unchanged { OnErr result (self.new ≡ self.old) }
         ensures spare { self.old.spare ≤ self.new.spare + 1 }
+        ensures most { self.new.spare ≤ self.old.spare }
     {
         let at = worker as usize;
         if at >= self.seats.len() {
@@ -253,6 +281,7 @@ impl<R: Drop> Seats<R> {
         ensures refused { IfErr result (λ cause. RefusesDraw self.old.state worker cause) }
         ensures unchanged { OnErr result (self.new ≡ self.old) }
         ensures spare { self.old.spare ≤ self.new.spare + 1 }
+        ensures most { self.new.spare ≤ self.old.spare }
     {
         let at = worker as usize;
         if at >= self.seats.len() {
@@ -276,7 +305,7 @@ impl<R: Drop> Seats<R> {
     }
 
     /// The record ends the node in a worker's hand.
-    pub fn end_hand(&mut self, worker: u32, done: Done<R>)
+    pub fn end_hand(&mut self, worker: u32, done: Done<T>)
         requires hand { IsWorker self.old.state worker × ((holder self.old.state worker).hand ≡ Some done.node) }
         requires room { 0 < self.old.spare }
         ensures done { EndsHand self.old.state worker done.node done self.new.state }
@@ -288,7 +317,7 @@ impl<R: Drop> Seats<R> {
     }
 
     /// The record ends the node in a worker's hand, whose halves wait to be pushed.
-    pub fn divide_hand(&mut self, worker: u32, done: Done<R>)
+    pub fn divide_hand(&mut self, worker: u32, done: Done<T>)
         requires hand { IsWorker self.old.state worker × ((holder self.old.state worker).hand ≡ Some done.node) }
         requires room { 0 < self.old.spare }
         ensures done { HalvesHand self.old.state worker done.node done self.new.state }
@@ -316,7 +345,7 @@ impl<R: Drop> Seats<R> {
     }
 
     /// The ended nodes, those that were left, and the best value.
-    pub fn finish(self) -> (Vec<Done<R>>, Vec<NodeKey>, u64)
+    pub fn finish(self) -> (Vec<Done<T>>, Vec<NodeKey>, u64)
         ensures ended { result.0.items ≡ self.state.ended }
         ensures left { result.1.items ≡ self.state.left }
         ensures word { result.2 ≡ self.state.word }

@@ -1,24 +1,14 @@
 //! Two workers and one root, event by event.
-use crate::{Done, End, NodeKey, Record, Refused, Seats};
+use crate::{Done, NodeKey, Refused, Seats};
 use std::alloc::Global;
 use std::test::Fail;
-use stow_data::{NoMemory, Seq, VarNo};
+use stow_data::NoMemory;
 
 /// Two workers with room for eight events.
 fn two_workers(alloc: Global, budget: u64) -> Result<Seats<u32>, NoMemory> {
     let mut seats: Seats<u32> = Seats::start(alloc, 2, 5, budget)?;
     seats.reserve(8)?;
     Ok(seats)
-}
-
-/// A record that ends so.
-fn record(alloc: Global, end: End) -> Record<u32> {
-    Record {
-        from_zero: true,
-        steps: Seq::new(alloc),
-        raises: Seq::new(alloc),
-        end,
-    }
 }
 
 #[test]
@@ -58,13 +48,12 @@ fn draw(seats: &mut Seats<u32>, worker: u32) -> Result<(), Refused> {
 }
 
 /// Divides the node in a worker's hand.
-fn divide(alloc: Global, seats: &mut Seats<u32>, worker: u32) {
+fn divide(seats: &mut Seats<u32>, worker: u32) {
     if seats.spare() == 0 || worker as usize >= seats.workers() {
         return;
     }
     if let Some(node) = seats.hand(worker) {
-        let record = record(alloc, End::Branch(VarNo(0)));
-        seats.divide_hand(worker, Done { node, record });
+        seats.divide_hand(worker, Done { node, entry: 0 });
     }
 }
 
@@ -73,7 +62,7 @@ fn run(alloc: Global) -> Result<Seats<u32>, NoMemory> {
     let mut seats = two_workers(alloc, 1)?;
     let _ = seats.pop(0);
     let _ = draw(&mut seats, 0);
-    divide(alloc, &mut seats, 0);
+    divide(&mut seats, 0);
     let _ = push(&mut seats, 0);
     let _ = push(&mut seats, 0);
     let _ = seats.steal(1, 0);

@@ -1,0 +1,5 @@
+mod Premises
+mod Keeping
+mod JudgedKeys
+mod Answering
+mod Ways

@@ -1,0 +1,5 @@
+pub mod Judging
+pub mod Events
+pub mod Cores
+pub mod Answered
+pub mod Nodes
