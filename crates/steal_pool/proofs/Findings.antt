@@ -65,12 +65,12 @@ module _ (m : Voyage) where
   paths_there here [] = refl
   paths_there here (o ∷ opens) = ap (λ (ps : List Path). path_at here.path o ∷ ps) (paths_there here opens)
 
-  same_length : (entries : List (Handled Row)) (journal : List Line) → map at_its_path entries ≡ map (placed (number_of m)) journal → length journal ≡ length entries
+  pub same_length : (entries : List (Handled Row)) (journal : List Line) → map at_its_path entries ≡ map (placed (number_of m)) journal → length journal ≡ length entries
   same_length entries journal is = omega (arith, ap length is, length_map at_its_path entries, length_map (placed (number_of m)) journal)
 
   -- ## The best value in the end
 
-  best_there : (entries : List (Handled Row)) (start best offered : ℕ) (o : Option Box) → start ≤ none_yet → HasOffered m entries start offered o → best ≤ start → best ≤ min none_yet offered → (best ≡ start) ⊎ (best ≡ min none_yet offered)
+  pub best_there : (entries : List (Handled Row)) (start best offered : ℕ) (o : Option Box) → start ≤ none_yet → HasOffered m entries start offered o → best ≤ start → best ≤ min none_yet offered → (best ≡ start) ⊎ (best ≡ min none_yet offered)
       → HasBest m start best o × ((best ≡ start) ⊎ IsPaid same_row (whole m) (base_rows m) entries best)
   best_there entries start best offered None top h most low from =
       let is : best ≡ start = elim from [ inl e ↦ e | inr e ↦ omega (arith, h, e, most, top) ] in

@@ -1,5 +1,5 @@
 mod Beside
 mod RowsTell
-mod Steps
-mod Findings
+pub mod Steps
+pub mod Findings
 mod Replaying

@@ -63,7 +63,7 @@ abbrev HasTrail : Voyage → machine.Node Row → Type 0
 HasTrail m n = IsTrail same_row (whole m) (root (whole m)) n.path n.trail
 
 module _ (m : Voyage) where
-  abbrev handled_at : Node → Record → Handled Row
+  abbrev pub handled_at : Node → Record → Handled Row
   handled_at n r = handled (node_of m n) (entry_of m r)
 
   journal_more : (entries : List (Handled Row)) (journal : List Line) (n : Node) (r : Record) → map at_its_path entries ≡ map (placed (number_of m)) journal
@@ -164,8 +164,8 @@ module _ (m : Voyage) where
   }
 
   -- what a seat has seen falls
-  looked : (start : ℕ) (v : View) (found : ℕ) (entries : List (Handled Row)) (journal : List Line) (full : Option Box) → found ≤ v.seen → IsWorker m start v 1 entries journal full → IsWorker m start (seen_at v found) 1 entries journal full
-  looked start v found entries journal full le w = record {
+  pub looked : (start : ℕ) (v : View) (found pending : ℕ) (entries : List (Handled Row)) (journal : List Line) (full : Option Box) → found ≤ v.seen → IsWorker m start v pending entries journal full → IsWorker m start (seen_at v found) pending entries journal full
+  looked start v found pending entries journal full le w = record {
     journal_of = w.journal_of;
     allowed = every_more (AllowedFrom m v.seen) (AllowedFrom m found) entries (λ a h. (h.0, (omega (arith, h.1, le)), h.2)) w.allowed;
     worked = w.worked;
@@ -175,13 +175,43 @@ module _ (m : Voyage) where
   }
 
   pub has_looked : (v : View) (c : Course) (found : ℕ) (taken : List Node) → found ≤ v.seen → IsUnderWay m v 1 c taken → IsUnderWay m (seen_at v found) 1 c taken
-  has_looked v c found taken le w = record { beside = w.beside; entries = w.entries; searching = w.searching; worker = looked c.start v found w.entries c.journal c.full le w.worker }
+  has_looked v c found taken le w = record { beside = w.beside; entries = w.entries; searching = w.searching; worker = looked c.start v found 1 w.entries c.journal c.full le w.worker }
 
   -- the box of a full leaf is one of the program's variables
-  whole_box : (v : View) (c : Course) (r : Record) (b : Box) (cut cost : ℕ) → IsUnderWay m v 1 c (c.here ∷ []) → EndsFull m (begins_at m c.here) (most_at c.here) cut r b cost → length b ≡ length (variables m)
-  whole_box v c r b cut cost w e =
-      let sound = begins_sound same_row (whole m) (base_rows m) (node_of m c.here) (taken_trail v 1 c c.here w) in
-      ap length e.box ∙ length_tightened (whole m) (begins_at m c.here).box (entry_of m r).steps sound.0
+  whole_box : (n : Node) (r : Record) (b : Box) (cut cost : ℕ) → IsNode m n → EndsFull m (begins_at m n) (most_at n) cut r b cost → length b ≡ length (variables m)
+  whole_box n r b cut cost here e =
+      let sound = begins_sound same_row (whole m) (base_rows m) (node_of m n) here in
+      ap length e.box ∙ length_tightened (whole m) (begins_at m n).box (entry_of m r).steps sound.0
+
+  -- a leaf that closes at a value that is at least what the seat has seen
+  pub leaf_recorded : (start : ℕ) (v : View) (entries : List (Handled Row)) (journal : List Line) (full : Option Box) (n : Node) (r : Record) (value : ℕ) → IsWorker m start v 1 entries journal full → v.seen ≤ value
+      → EndsClosed m (begins_at m n) (most_at n) value r → IsWorker m start v 0 (entries ++ handled_at n r ∷ []) (journal ++ entry_at n r ∷ []) full
+  leaf_recorded start v entries journal full n r value w le e = recorded start v entries journal full n r value w le e.ends.allowed (leaf_worked n r value start e)
+
+  -- a record that divides its box
+  pub branch_recorded : (start : ℕ) (v : View) (entries : List (Handled Row)) (journal : List Line) (full : Option Box) (n : Node) (r : Record) (cut : ℕ) → IsWorker m start v 1 entries journal full → v.seen ≤ cut → cut ≤ start
+      → EndsBranched m (begins_at m n) (most_at n) cut r → IsWorker m start v 0 (entries ++ handled_at n r ∷ []) (journal ++ entry_at n r ∷ []) full
+  branch_recorded start v entries journal full n r cut w le top e = recorded start v entries journal full n r cut w le e.ends.allowed
+      (record { lean = lean_there n (entry_of m r) e.ends.lean; earnest = λ is. earnest_there n (entry_of m r) cut start top e.earnest })
+
+  -- a full leaf whose cost the seat has offered, which is below all that it offered before
+  pub full_recorded : (start : ℕ) (v : View) (found : ℕ) (entries : List (Handled Row)) (journal : List Line) (full : Option Box) (n : Node) (r : Record) (b : Box) (cut cost : ℕ) → cut ≤ start → cut ≤ v.offered → found ≤ v.seen → IsNode m n
+      → IsWorker m start v 1 entries journal full → EndsFull m (begins_at m n) (most_at n) cut r b cost → IsWorker m start (offered_at v cost found) 0 (entries ++ handled_at n r ∷ []) (journal ++ entry_at n r ∷ []) (Some b)
+  full_recorded start v found entries journal full n r b cut cost top low le here w e =
+      let h : Handled Row = handled_at n r in
+      let least : min v.offered cost ≡ cost = omega (arith, e.cheaper, low) in
+      let paid : IsPaid same_row (whole m) (base_rows m) (entries ++ h ∷ []) cost =
+      (h, in_last h entries, e.closed.leaf, subst (λ (x : Box). is_full (whole m) (base_rows m) x ≡ true) e.box e.full, subst (λ (x : Box). price (whole m) x ≡ cost) e.box (sym e.price)) in
+      let best : HasBest m start cost (Some b) = (whole_box n r b cut cost here e, e.full, sym e.price, omega (arith, e.cheaper, top)) in
+      record {
+        journal_of = journal_more entries journal n r w.journal_of;
+        allowed = every_append (AllowedFrom m (min found cost)) entries (h ∷ [])
+            (every_more (AllowedFrom m v.seen) (AllowedFrom m (min found cost)) entries (λ a k. (k.0, (omega (arith, k.1, le)), k.2)) w.allowed) ((cost, omega arith, e.closed.ends.allowed), tt);
+        worked = worked_more entries n r start w.worked (leaf_worked n r cost start e.closed);
+        offers = subst (λ (o : ℕ). HasOffered m (entries ++ h ∷ []) start o (Some b)) (sym least) (best, paid);
+        counted = omega (arith, w.counted, length_more journal (entry_at n r));
+        knows = w.knows;
+      }
 
   -- ## Each end
 
@@ -197,32 +227,18 @@ module _ (m : Voyage) where
     beside = w.beside;
     entries = w.entries ++ handled_at c.here r ∷ [];
     searching = leaf_searching v c r cut w e;
-    worker = recorded c.start v w.entries c.journal c.full c.here r cut w.worker cuts.0 e.ends.allowed (leaf_worked c.here r cut c.start e);
+    worker = leaf_recorded c.start v w.entries c.journal c.full c.here r cut w.worker cuts.0 e;
   }
 
   -- the seat has offered the cost, which is below all that it offered before
   offered : (v : View) (c : Course) (cut found : ℕ) (r : Record) (b : Box) (cost : ℕ) → CutsAt v cut c.start → cut ≤ v.offered → found ≤ v.seen → IsUnderWay m v 1 c (c.here ∷ []) → EndsFull m (begins_at m c.here) (most_at c.here) cut r b cost
       → IsUnderWay m (offered_at v cost found) 0 (record c { full = Some b; journal = c.journal ++ entry_at c.here r ∷ [] }) []
-  offered v c cut found r b cost cuts low le w e =
-      let h : Handled Row = handled_at c.here r in
-      let least : min v.offered cost ≡ cost = omega (arith, e.cheaper, low) in
-      let paid : IsPaid same_row (whole m) (base_rows m) (w.entries ++ h ∷ []) cost =
-      (h, in_last h w.entries, e.closed.leaf, subst (λ (x : Box). is_full (whole m) (base_rows m) x ≡ true) e.box e.full, subst (λ (x : Box). price (whole m) x ≡ cost) e.box (sym e.price)) in
-      let best : HasBest m c.start cost (Some b) = (whole_box v c r b cut cost w e, e.full, sym e.price, omega (arith, e.cheaper, cuts.1)) in
-      record {
-        beside = w.beside;
-        entries = w.entries ++ h ∷ [];
-        searching = leaf_searching v c r cost w e.closed;
-        worker = record {
-          journal_of = journal_more w.entries c.journal c.here r w.worker.journal_of;
-          allowed = every_append (AllowedFrom m (min found cost)) w.entries (h ∷ [])
-              (every_more (AllowedFrom m v.seen) (AllowedFrom m (min found cost)) w.entries (λ a k. (k.0, (omega (arith, k.1, le)), k.2)) w.worker.allowed) ((cost, omega arith, e.closed.ends.allowed), tt);
-          worked = worked_more w.entries c.here r c.start w.worker.worked (leaf_worked c.here r cost c.start e.closed);
-          offers = subst (λ (o : ℕ). HasOffered m (w.entries ++ h ∷ []) c.start o (Some b)) (sym least) (best, paid);
-          counted = omega (arith, w.worker.counted, length_more c.journal (entry_at c.here r));
-          knows = w.worker.knows;
-        };
-      }
+  offered v c cut found r b cost cuts low le w e = record {
+    beside = w.beside;
+    entries = w.entries ++ handled_at c.here r ∷ [];
+    searching = leaf_searching v c r cost w e.closed;
+    worker = full_recorded c.start v found w.entries c.journal c.full c.here r b cut cost cuts.1 low le (taken_trail v 1 c c.here w) w.worker e;
+  }
 
   trail_length : (q : Pending Row) (path : Path) (trail : List (Entry Row)) → IsTrail same_row (whole m) q path trail → length path ≡ length trail
   trail_length q [] [] h = refl
@@ -256,8 +272,7 @@ module _ (m : Voyage) where
             (subst (Waits (w.entries ++ handled_at c.here r ∷ [])) (halves_there c r w.beside same)
             (searching_divides same_row (whole m) (base_rows m) w.entries (map (node_of m) (waiting_of c)) (node_of m c.here) (entry_of m r) 0 0 cut
             (with_taken w.entries (waiting_of c) c.here w.searching) (omega arith) e.ends.allowed e.divides));
-        worker = recorded c.start v w.entries c.journal c.full c.here r cut w.worker cuts.0 e.ends.allowed
-            (record { lean = lean_there c.here (entry_of m r) e.ends.lean; earnest = λ is. earnest_there c.here (entry_of m r) cut c.start cuts.1 e.earnest });
+        worker = branch_recorded c.start v w.entries c.journal c.full c.here r cut w.worker cuts.0 cuts.1 e;
       }
 
   -- the seat has looked, worked against what it saw, and told what it found
