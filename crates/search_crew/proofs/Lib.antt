@@ -1,0 +1,4 @@
+pub mod Weights
+pub mod Offers
+pub mod Handled
+pub mod Jobs

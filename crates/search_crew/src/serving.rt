@@ -1,0 +1,53 @@
+//! A worker's turns, one after another.
+ghost use Rattle.std.specs.Prelude.{◌≡◌, [], IfOk};
+ghost use Rattle.search_crew.specs.Jobs.{IsJob, IsServed};
+
+use crate::job::Job;
+use crate::turning::{Signs, Turned, turn};
+use incumbent_word::Board;
+use node_racks::{Rack, Wanted};
+use std::alloc::Global;
+use std::sync::Wait;
+use std::sync::atomic::Ordering;
+use std::thread;
+use stow_data::NoMemory;
+use stow_io::Gate;
+
+/// Takes turns until no node is open, no ticket is left or memory is wanting.
+pub fn serve<'a, M: Wanted, G: Gate, R: Wait>(
+    rt: &R,
+    alloc: Global,
+    rack: &Rack<M>,
+    board: &Board,
+    signs: &Signs,
+    gate: &G,
+    mut job: Job<'a, M>,
+) -> Result<Job<'a, M>, NoMemory>
+    requires job { IsJob M.meets rack.now board.now job.desk 0 [] job }
+    requires none_over { job.seat.view.over ≡ 0 }
+    ensures { IfOk result (λ served. IsServed M.meets rack.now board.now job.entry served) }
+{
+    for _ in rt.forever() {
+        if signs.stop.load(Ordering::SeqCst) {
+            return Ok(job);
+        }
+        match turn(alloc, rack, board, signs, gate, &mut job) {
+            Ok(Turned::Handled) => {}
+            Ok(Turned::Nothing) => {
+                if signs.open.load(Ordering::SeqCst) == 0 {
+                    return Ok(job);
+                }
+                thread::yield_now();
+            }
+            Ok(Turned::Spent) => {
+                signs.stop.store(true, Ordering::SeqCst);
+                return Ok(job);
+            }
+            Err(no_memory) => {
+                signs.stop.store(true, Ordering::SeqCst);
+                return Err(no_memory);
+            }
+        }
+    }
+    Ok(job)
+}
