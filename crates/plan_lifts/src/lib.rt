@@ -11,6 +11,3 @@ pub use lifting::{LiftLists, Lifted, LiftsFault, lifts};
 pub use listing::LiftList;
 pub use moving::{MoveLists, moves_of};
 pub use spreading::spread;
-
-#[cfg(test)]
-mod tests;

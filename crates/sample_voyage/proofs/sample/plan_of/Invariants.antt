@@ -1,6 +1,0 @@
-use Rattle.std.proofs.Common.{◌≡◌, length}
-use Rattle.stow_data.specs.Ship.{places}
-use Rattle.sample_voyage.proofs.sample.plan_of.Given as goal
-
-abbrev pub invariant-loop-p : goal.invariant-loop-p
-invariant-loop-p l = length l.plan ≡ length (places l.ship)
