@@ -239,7 +239,7 @@ pub fn write_asked(
     requires problem { IsProblem model.now }
 {
     let full = box_of(alloc, model, asked)?;
-    if !full.is_full() || !breaks_none(model, &full) {
+    if !full.is_full() || !breaks_none(alloc, model, &full)? {
         return out.extend(b"breaks a base row\n");
     }
     write_sailed(alloc, ship, cargo, model, &full, out)
