@@ -46,7 +46,7 @@ fn line_of(alloc: Global, name: &str, counts: Counts) -> Result<String, NoMemory
     Ok(line)
 }
 
-/// Goes through the tables that the words behind the program's own name.
+/// Goes through the tables that the words name; the first word is the program's own name.
 fn tables<R: Files + Threads + Wait + Sync, K: Sink>(
     rt: &R,
     alloc: Global,
