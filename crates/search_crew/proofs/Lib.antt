@@ -2,3 +2,6 @@ pub mod Weights
 pub mod Offers
 pub mod Handled
 pub mod Jobs
+mod Pairs
+mod Rests
+mod Ends

@@ -1,0 +1,16 @@
+use Rattle.std.proofs.Common.{◌≡◌, ◌+◌, ◌++◌, length, map}
+use Rattle.search_machine.specs.Bags.{Every}
+use Rattle.node_racks.specs.Racks.{IsPassAt, IsFresh, number_of}
+use Rattle.search_crew.specs.Ends.{IsPosted, post_number}
+use Rattle.search_crew.specs.Jobs.{IsMaker}
+use Rattle.search_crew.proofs.beginning.begin_all.Given as goal
+
+abbrev pub invariant-loop-pass : goal.invariant-loop-pass
+invariant-loop-pass g l = record {
+  maker : IsMaker g.M.Wanted.meets l.board l.tables l.owner;
+  made : l.owner.view.made + length l.pass-iterator.rest.items ≡ l.fn.owner.view.made + length l.fn.passes.items;
+  passes : Every (IsPassAt l.rack) l.pass-iterator.rest.items;
+  fresh : Every IsFresh l.pass-iterator.rest.items;
+  posts : Every (IsPosted g.M.Wanted.meets l.rack l.board l.tables) l.posts.items;
+  numbers : map post_number l.posts.items ++ map number_of l.pass-iterator.rest.items ≡ map number_of l.fn.passes.items;
+}

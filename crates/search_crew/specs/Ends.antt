@@ -1,0 +1,107 @@
+-- What all workers brought back.
+use Rattle.std.specs.Prelude.{◌≡◌, ℕ, ◌+◌, ◌<◌, ◌≤◌, Bool, true, false, List, [], ◌∷◌, Option, Some, None}
+use Rattle.stow_data.specs.Shipment.{IsCargo}
+use Rattle.zero_one_rows.specs.Variables.{Voyage}
+use Rattle.certificate.specs.declared.journals.Node.{Node}
+use Rattle.search_machine.specs.Bags.{weigh, Every}
+use Rattle.incumbent_word.specs.declared.view.View.{View}
+use Rattle.incumbent_word.specs.Rule.{none_yet}
+use Rattle.incumbent_word.specs.Tokens.{BoardToken, SeatToken}
+use Rattle.node_ledger.specs.Gathered.{entries}
+use Rattle.node_racks.specs.declared.racks.Pass.{Pass}
+use Rattle.node_racks.specs.declared.racks.Rack.{Rack}
+use Rattle.node_racks.specs.Racks.{IsPassAt, took_weight, put_weight, all_took, all_put}
+use Rattle.steal_pool.specs.declared.found.Found.{Found}
+use Rattle.search_crew.specs.declared.deeds.Deeds.{Deeds}
+use Rattle.search_crew.specs.declared.deeds.Halves.{Halves}
+use Rattle.search_crew.specs.declared.joining.AllDeeds.{AllDeeds}
+use Rattle.search_crew.specs.declared.joining.Ended.{Ended}
+use Rattle.search_crew.specs.declared.places.Back.{Back}
+use Rattle.search_crew.specs.declared.places.Post.{Post}
+use Rattle.node_work.specs.Work.{IsNode, most_rehandles}
+use Rattle.search_crew.specs.Deeds.{box_of, Weight, Flow, on_nodes, IsDone}
+use Rattle.search_crew.specs.Jobs.{Means, IsUnused, seed}
+
+-- what workers did, with all journals as one
+abbrev pub deeds_of : AllDeeds → Deeds
+deeds_of a = record { journal = entries a.journals; left = a.left; best = a.best }
+
+-- the halves of a node, in the order in which they are put
+abbrev pub halves_in : Option Halves → List Node
+halves_in None = []
+halves_in (Some b) = b.zero ∷ b.one ∷ []
+
+-- whether tickets may still be drawn
+abbrev pub IsLive : Bool → View → Type 0
+IsLive live v = (live ≡ true → v.over ≡ 0) × (live ≡ false → 0 < v.over)
+
+-- what is still to do, of all that was, and what was done
+pub record IsRest (m : Voyage) (start : ℕ) (v : View) (pending : ℕ) (all : Flow) (todo : List Node) (d : Deeds) : Type 0 where
+  pub nodes : Every (IsNode m) todo
+  pub done : IsDone m start v pending d all (λ h. weigh (on_nodes m h) todo)
+
+-- what was found, with this best value and so many tickets below the budget
+abbrev pub found_of : ℕ → ℕ → AllDeeds → Found
+found_of best drawn a = record { best = best; full = box_of a.best; journals = a.journals; left = a.left; handled = drawn }
+
+-- the owner of the board has taken in each seat that it made
+pub record IsJoined (meets : Node → Type 0) (b : BoardToken) (m : Voyage) (o : SeatToken) : Type 0 where
+  pub means : Means meets m
+  pub cargo : IsCargo m.cargo
+  pub low : b.start ≤ most_rehandles m + 1
+  pub top : b.start ≤ none_yet
+  pub board : o.board ≡ b.id
+  pub made : o.view.made ≡ o.view.taken
+  pub room : o.view.made < 65536
+
+module _ {M : Type 0} where
+  abbrev pub pass_of : Back M → Pass M
+  pass_of k = k.pass
+
+  abbrev pub post_number : Post M → ℕ
+  post_number p = p.pass.number
+
+  -- what came to the worker with this pass: the root, and the nodes that it took
+  abbrev pub came_with : Voyage → Pass M → Weight → ℕ
+  came_with m p h = seed h p.number + took_weight (on_nodes m h) p
+
+  -- what went from it: the nodes that it put, and those that its deque refused
+  abbrev pub went_with : Voyage → Pass M → List Node → Weight → ℕ
+  went_with m p aside h = put_weight (on_nodes m h) p + weigh (on_nodes m h) aside
+
+  -- what a worker of the program's search is given, before it has handled a node
+  pub record IsPosted (meets : Node → Type 0) (r : Rack M) (b : BoardToken) (m : Voyage) (p : Post M) : Type 0 where
+    pub means : Means meets m
+    pub cargo : IsCargo m.cargo
+    pub low : b.start ≤ most_rehandles m + 1
+    pub top : b.start ≤ none_yet
+    pub pass : IsPassAt r p.pass
+    pub board : p.seat.board ≡ b.id
+    pub unused : IsUnused b.start p.seat.view
+    pub aside : Every meets p.aside.items
+    pub bag : (h : Weight) → came_with m p.pass h ≡ went_with m p.pass p.aside.items h
+
+  -- what came to the workers with these passes: the root, and the nodes that they took
+  abbrev pub came_to_all : Voyage → List (Pass M) → Weight → ℕ
+  came_to_all m ps h = weigh (λ p. seed h p.number) ps + all_took (on_nodes m h) ps
+
+  -- what went from them
+  abbrev pub went_from_all : Voyage → Ended M → Weight → ℕ
+  went_from_all m e h = all_put (on_nodes m h) e.passes.items + weigh (on_nodes m h) e.aside.items
+
+  -- what a worker brought back
+  pub record IsBack (meets : Node → Type 0) (b : BoardToken) (m : Voyage) (k : Back M) : Type 0 where
+    pub aside : Every meets k.aside.items
+    pub done : IsDone m b.start k.seat.view 0 k.deeds (came_with m k.pass) (went_with m k.pass k.aside.items)
+
+  -- and what it was given is among it
+  pub record IsReturned (meets : Node → Type 0) (r : Rack M) (b : BoardToken) (m : Voyage) (p : Post M) (k : Back M) : Type 0 where
+    pub back : IsBack meets b m k
+    pub pass : IsPassAt r k.pass
+    pub number : k.pass.number ≡ p.pass.number
+    pub board : k.seat.board ≡ b.id
+
+  -- what was brought back fits what the owner of the board knows
+  pub record IsEnd (meets : Node → Type 0) (b : BoardToken) (m : Voyage) (v : View) (e : Ended M) : Type 0 where
+    pub aside : Every meets e.aside.items
+    pub done : IsDone m b.start v 0 (deeds_of e.all) (came_to_all m e.passes.items) (went_from_all m e)

@@ -1,0 +1,147 @@
+//! What is done when the threads have ended.
+ghost use Rattle.std.specs.Prelude.{◌≡◌, ◌<◌, ◌≤◌, ◌+◌, true, false, ◌++◌, ◌∷◌, [], IfOk, OnOk};
+ghost use Rattle.stow_data.specs.Shipment.{IsCargo};
+ghost use Rattle.node_work.specs.Work.{IsNode, most_rehandles};
+ghost use Rattle.search_machine.specs.Bags.{weigh, Every};
+ghost use Rattle.search_crew.specs.Deeds.{Flow, IsDone, on_nodes};
+ghost use Rattle.search_crew.specs.Ends.{IsRest, IsLive, halves_in};
+ghost use Rattle.search_crew.specs.Jobs.{IsUnused};
+
+use crate::deeds::{Deeds, Halves};
+use crate::handling::handle;
+use certificate::Node;
+use incumbent_word::{Board, Seat};
+use node_work::{Desk, Tables};
+use std::alloc::Global;
+use std::sync::Wait;
+use stow_data::NoMemory;
+use voyage_guess::Planner;
+
+/// What is still to do, and what was done.
+#[derive(Drop)]
+pub struct Rest {
+    pub todo: Vec<Node>,
+    pub deeds: Deeds,
+}
+
+impl Rest {
+    // Adds the halves of a node that was divided.
+    fn add(&mut self, halves: Option<Halves>) -> Result<(), NoMemory>
+        ensures todo { OnOk result (self.new.todo.items ≡ self.old.todo.items ++ halves_in halves) }
+        ensures deeds { self.new.deeds ≡ self.old.deeds }
+    {
+        if let Some(Halves { zero, one }) = halves {
+            self.todo.push(zero)?;
+            self.todo.push(one)?;
+        }
+        Ok(())
+    }
+
+    // Handles a node for which a ticket was drawn.
+    fn settle(
+        &mut self,
+        alloc: Global,
+        desk: &mut Desk,
+        board: &Board,
+        seat: &mut Seat,
+        node: Node,
+    ) -> Result<(), NoMemory>
+        requires cargo { IsCargo desk.old.cargo }
+        requires start { board.now.start ≤ most_rehandles desk.old + 1 }
+        requires seat { seat.old.board ≡ board.now.id }
+        requires rest { (all : Flow) × IsRest desk.old board.now.start seat.old.view 1 all (self.old.todo.items ++ node ∷ []) self.old.deeds }
+        ensures same { desk.new ≡ desk.old }
+        ensures seat { seat.new.board ≡ seat.old.board }
+        ensures over { seat.new.view.over ≡ seat.old.view.over }
+        ensures rest { OnOk result ((all : Flow) → IsRest desk.old board.now.start seat.old.view 1 all (self.old.todo.items ++ node ∷ []) self.old.deeds → IsRest desk.old board.now.start seat.new.view 0 all self.new.todo.items self.new.deeds) }
+    {
+        let halves = handle(alloc, desk, board, seat, &mut self.deeds, node)?;
+        self.add(halves)
+    }
+
+    // Draws a ticket for a node while there are any, and else leaves it.
+    fn step(
+        &mut self,
+        alloc: Global,
+        desk: &mut Desk,
+        board: &Board,
+        seat: &mut Seat,
+        node: Node,
+        live: bool,
+    ) -> Result<bool, NoMemory>
+        requires cargo { IsCargo desk.old.cargo }
+        requires start { board.now.start ≤ most_rehandles desk.old + 1 }
+        requires seat { seat.old.board ≡ board.now.id }
+        requires live { IsLive live seat.old.view }
+        requires rest { (all : Flow) × IsRest desk.old board.now.start seat.old.view 0 all (self.old.todo.items ++ node ∷ []) self.old.deeds }
+        ensures same { desk.new ≡ desk.old }
+        ensures seat { seat.new.board ≡ seat.old.board }
+        ensures live { IfOk result (λ live. IsLive live seat.new.view) }
+        ensures rest { OnOk result ((all : Flow) → IsRest desk.old board.now.start seat.old.view 0 all (self.old.todo.items ++ node ∷ []) self.old.deeds → IsRest desk.old board.now.start seat.new.view 0 all self.new.todo.items self.new.deeds) }
+    {
+        if live {
+            if board.draw(seat).is_some() {
+                self.settle(alloc, desk, board, seat, node)?;
+                return Ok(true);
+            }
+        }
+        self.deeds.left.push(node.path)?;
+        Ok(false)
+    }
+}
+
+// Handles what is to do, until nothing is.
+fn finish<R: Wait>(
+    rt: &R,
+    alloc: Global,
+    desk: &mut Desk,
+    board: &Board,
+    seat: &mut Seat,
+    todo: Vec<Node>,
+) -> Result<Deeds, NoMemory>
+    requires cargo { IsCargo desk.old.cargo }
+    requires start { board.now.start ≤ most_rehandles desk.old + 1 }
+    requires seat { seat.old.board ≡ board.now.id }
+    requires view { IsUnused board.now.start seat.old.view }
+    requires nodes { Every (IsNode desk.old) todo.items }
+    ensures seat { seat.new.board ≡ seat.old.board }
+    ensures done { IfOk result (λ deeds. IsDone desk.old board.now.start seat.new.view 0 deeds (λ h. weigh (on_nodes desk.old h) todo.items) (λ h. 0)) }
+{
+    let mut rest = Rest {
+        todo,
+        deeds: Deeds::none(alloc),
+    };
+    let mut live = true;
+    for _ in rt.forever() {
+        let Some(node) = rest.todo.pop() else {
+            return Ok(rest.deeds);
+        };
+        live = rest.step(alloc, desk, board, seat, node, live)?;
+    }
+    unreachable!()
+}
+
+/// Handles these nodes, while there are tickets, and leaves the others: on a desk of its own, by a seat that has done nothing.
+pub fn finish_all<R: Wait>(
+    rt: &R,
+    alloc: Global,
+    tables: &Tables,
+    board: &Board,
+    seat: &mut Seat,
+    todo: Vec<Node>,
+) -> Result<Deeds, NoMemory>
+    requires cargo { IsCargo tables.now.cargo }
+    requires start { board.now.start ≤ most_rehandles tables.now + 1 }
+    requires seat { seat.old.board ≡ board.now.id }
+    requires view { IsUnused board.now.start seat.old.view }
+    requires nodes { Every (IsNode tables.now) todo.items }
+    ensures seat { seat.new.board ≡ seat.old.board }
+    ensures done { IfOk result (λ deeds. IsDone tables.now board.now.start seat.new.view 0 deeds (λ h. weigh (on_nodes tables.now h) todo.items) (λ h. 0)) }
+{
+    if todo.is_empty() {
+        return Ok(Deeds::none(alloc));
+    }
+    let planner = Planner::new(alloc, tables.model())?;
+    let mut desk = Desk::fresh(alloc, tables, planner)?;
+    finish(rt, alloc, &mut desk, board, seat, todo)
+}

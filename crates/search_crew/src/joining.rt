@@ -1,0 +1,135 @@
+//! What the workers brought back, taken in.
+ghost use Rattle.std.specs.Prelude.{◌≡◌, ◌+◌, ◌++◌, ◌∷◌, [], ◌≤◌, IfOk, OnOk, length, map};
+ghost use Rattle.zero_one_rows.specs.Variables.{Voyage};
+ghost use Rattle.search_machine.specs.Bags.{Every};
+ghost use Rattle.incumbent_word.specs.Rule.{joined, none_yet};
+ghost use Rattle.search_crew.specs.Deeds.{both, no_deeds};
+ghost use Rattle.search_crew.specs.Ends.{IsBack, IsEnd, deeds_of, pass_of};
+ghost use Rattle.search_crew.specs.Jobs.{IsUnused};
+
+use crate::deeds::{Deeds, Solution, cheaper};
+use crate::places::Back;
+use certificate::{JournalList, Node, PathList};
+use incumbent_word::{Board, Owner};
+use node_racks::{Pass, Wanted};
+use std::alloc::Global;
+use stow_data::NoMemory;
+
+/// What several workers did.
+#[derive(Drop)]
+pub struct AllDeeds {
+    pub journals: JournalList,
+    pub left: PathList,
+    pub best: Option<Solution>,
+}
+
+/// What the workers brought back: their passes, the nodes that their deques refused, and what they did.
+#[derive(Drop)]
+pub struct Ended<M: Wanted> {
+    pub passes: Vec<Pass<M>>,
+    pub aside: Vec<Node>,
+    pub all: AllDeeds,
+}
+
+/// Adds nodes to a list.
+pub fn pour(to: &mut Vec<Node>, from: Vec<Node>) -> Result<(), NoMemory>
+    ensures { OnOk result (to.new.items ≡ to.old.items ++ from.items) }
+{
+    for node in from {
+        to.push(node)?;
+    }
+    Ok(())
+}
+
+// Adds paths to a list.
+fn pour_paths(to: &mut PathList, from: PathList) -> Result<(), NoMemory>
+    ensures { OnOk result (to.new ≡ to.old ++ from) }
+{
+    for path in from.into_items() {
+        to.push(path)?;
+    }
+    Ok(())
+}
+
+impl AllDeeds {
+    // Nothing yet. It takes no memory.
+    fn none(alloc: Global) -> AllDeeds
+        ensures { deeds_of result ≡ no_deeds }
+    {
+        AllDeeds {
+            journals: JournalList::new(alloc),
+            left: PathList::new(alloc),
+            best: None,
+        }
+    }
+
+    /// Adds what another worker did.
+    pub fn add(&mut self, deeds: Deeds) -> Result<(), NoMemory>
+        ensures { OnOk result (deeds_of self.new ≡ both (deeds_of self.old) deeds) }
+    {
+        let Deeds {
+            journal,
+            left,
+            best,
+        } = deeds;
+        self.journals.push(journal)?;
+        pour_paths(&mut self.left, left)?;
+        self.best = cheaper(self.best.take(), best);
+        Ok(())
+    }
+}
+
+// Takes in what a worker brought back, and its seat.
+fn take_in<M: Wanted>(
+    board: &Board,
+    owner: &mut Owner,
+    ended: &mut Ended<M>,
+    back: Back<M>,
+) -> Result<(), NoMemory>
+    requires owner { owner.old.board ≡ board.now.id }
+    requires seat { back.seat.board ≡ board.now.id }
+    requires top { board.now.start ≤ none_yet }
+    ensures owner { owner.new.board ≡ owner.old.board }
+    ensures view { owner.new.view ≡ joined owner.old.view back.seat.view }
+    ensures passes { OnOk result (ended.new.passes.items ≡ ended.old.passes.items ++ back.pass ∷ []) }
+    ensures end { OnOk result ((m : Voyage) → IsEnd M.meets board.now m owner.old.view ended.old → IsBack M.meets board.now m back → IsEnd M.meets board.now m owner.new.view ended.new) }
+{
+    let Back {
+        pass,
+        seat,
+        deeds,
+        aside,
+    } = back;
+    board.join(owner, seat);
+    ended.passes.push(pass)?;
+    pour(&mut ended.aside, aside)?;
+    ended.all.add(deeds)
+}
+
+/// Takes in what all workers brought back, and their seats.
+pub fn take_in_all<M: Wanted>(
+    alloc: Global,
+    board: &Board,
+    owner: &mut Owner,
+    backs: Vec<Back<M>>,
+) -> Result<Ended<M>, NoMemory>
+    requires owner { owner.old.board ≡ board.now.id }
+    requires seats { Every (λ back. back.seat.board ≡ board.now.id) backs.items }
+    requires top { board.now.start ≤ none_yet }
+    requires view { IsUnused board.now.start owner.old.view }
+    ensures owner { owner.new.board ≡ owner.old.board }
+    ensures made { owner.new.view.made ≡ owner.old.view.made }
+    ensures taken { OnOk result (owner.new.view.taken ≡ owner.old.view.taken + length backs.items) }
+    ensures passes { IfOk result (λ ended. ended.passes.items ≡ map pass_of backs.items) }
+    ensures end { IfOk result (λ ended. (m : Voyage) → Every (IsBack M.meets board.now m) backs.items → IsEnd M.meets board.now m owner.new.view ended) }
+{
+    let mut ended = Ended {
+        passes: Vec::new(alloc),
+        aside: Vec::new(alloc),
+        all: AllDeeds::none(alloc),
+    };
+    for back in backs {
+        take_in(board, owner, &mut ended, back)?;
+    }
+    Ok(ended)
+}

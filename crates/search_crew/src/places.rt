@@ -1,0 +1,25 @@
+//! What a worker is given, and what it brings back. Neither has a desk, which is made where the worker runs.
+
+use crate::deeds::Deeds;
+use certificate::Node;
+use incumbent_word::Seat;
+use node_racks::{Pass, Wanted};
+use voyage_guess::Planner;
+
+/// What a worker is given: its pass to the rack, its seat at the board, a planner for its desk, and the nodes that its deque refused.
+#[derive(Drop)]
+pub struct Post<M: Wanted> {
+    pub pass: Pass<M>,
+    pub seat: Seat,
+    pub planner: Planner,
+    pub aside: Vec<Node>,
+}
+
+/// What a worker brings back: its pass and its seat, what it did, and the nodes that its deque refused.
+#[derive(Drop)]
+pub struct Back<M: Wanted> {
+    pub pass: Pass<M>,
+    pub seat: Seat,
+    pub deeds: Deeds,
+    pub aside: Vec<Node>,
+}
