@@ -1,17 +1,10 @@
 -- What all workers brought back, and what was found.
-use Rattle.std.proofs.Common.{◌≡◌, ◌==◌, ◌⊎◌, inl, inr, ℕ, zero, suc, ◌+◌, ◌<◌, ◌≤◌, min, nat_lt, cond, Bool, true, false, List, [], ◌∷◌, ◌++◌, length, map, All, slice_index_or, Option, Some, None, Result, Ok, Err, IfOk, refl, sym, subst, ap, ◌∙◌, append-nil, arith}
+use Rattle.std.proofs.Common.{◌≡◌, ◌⊎◌, inl, inr, ℕ, zero, suc, ◌+◌, ◌<◌, ◌≤◌, min, List, [], ◌∷◌, ◌++◌, length, map, All, None, refl, sym, subst, ap, ◌∙◌, arith}
 use Rattle.std.proofs.lemmas.Bool.Decides.{nat_tests}
-use Rattle.std.proofs.lemmas.List.{map-append, length-append}
-use Rattle.zero_one_rows.specs.declared.program.Row.{Row}
+use Rattle.std.proofs.lemmas.List.{map-append}
 use Rattle.zero_one_rows.specs.Variables.{Voyage}
-use Rattle.zero_one_rows.specs.Rows.{whole}
-use Rattle.program_rows.specs.Counted.{base_rows}
-use Rattle.proof_trees.specs.Boxes.{Box}
 use Rattle.certificate.specs.declared.journals.Node.{Node}
-use Rattle.certificate.specs.Entries.{same_row}
 use Rattle.search_machine.specs.Bags.{weigh, Every}
-use Rattle.search_machine.specs.Journals.{Path}
-use Rattle.search_machine.specs.Machine as machine
 use Rattle.search_machine.specs.Machine.{root_node}
 use Rattle.search_machine.specs.Outcomes.{path_of}
 use Rattle.search_machine.proofs.Weights.{weigh_append, weigh_map, every_append, every_more}
@@ -23,8 +16,7 @@ use Rattle.node_racks.specs.declared.racks.Pass.{Pass}
 use Rattle.node_racks.specs.Racks.{IsPassAt, IsFresh, AreAll, number_of, count_from, took_weight, put_weight, all_took, all_put}
 use Rattle.node_racks.specs.Rounds.{Each}
 use Rattle.node_racks.proofs.Dealing.{every_at}
-use Rattle.node_work.specs.Work.{node_of, IsNode}
-use Rattle.steal_pool.specs.Found.{HasBest, IsFound}
+use Rattle.steal_pool.specs.Found.{IsFound}
 use Rattle.steal_pool.specs.UnderWay.{AllowedFrom}
 use Rattle.steal_pool.proofs.Findings.{IsBest, best_there, same_length}
 use Rattle.search_crew.specs.declared.deeds.Deeds.{Deeds}
@@ -33,7 +25,7 @@ use Rattle.search_crew.specs.declared.places.Back.{Back}
 use Rattle.search_crew.specs.declared.places.Post.{Post}
 use Rattle.search_crew.specs.declared.joining.AllDeeds.{AllDeeds}
 use Rattle.search_crew.specs.declared.joining.Ended.{Ended}
-use Rattle.search_crew.specs.Deeds.{box_of, both, no_deeds, Weight, Flow, on_nodes, IsDone}
+use Rattle.search_crew.specs.Deeds.{box_of, both, no_deeds, Weight, on_nodes, IsDone}
 use Rattle.search_crew.specs.Jobs.{seed, seed_at, IsJob, IsServed, IsMaker, IsUnused, came_to, went_from}
 use Rattle.search_crew.specs.Ends.{deeds_of, found_of, pass_of, post_number, came_with, went_with, came_to_all, went_from_all, IsPosted, IsBack, IsReturned, IsJoined, IsEnd}
 use Rattle.search_crew.proofs.Weights.{weigh_snoc}

@@ -1,5 +1,5 @@
 -- What holds at each place of two lists.
-use Rattle.std.proofs.Common.{◌≡◌, ℕ, zero, suc, ◌+◌, ◌<◌, List, [], ◌∷◌, length, map, get_or, Result, Ok, Err, IfOk, sym, subst, refl, arith}
+use Rattle.std.proofs.Common.{◌≡◌, ℕ, zero, suc, ◌<◌, List, [], ◌∷◌, length, map, get_or, Result, Ok, IfOk, subst, arith}
 use Rattle.node_racks.specs.Rounds.{Each}
 
 abbrev oks : {B E : Type 0} → List B → List (Result B E)

@@ -1,5 +1,5 @@
 -- What is still to do, as each node is handled or left.
-use Rattle.std.proofs.Common.{◌≡◌, ℕ, ◌+◌, ◌<◌, Bool, true, false, List, [], ◌∷◌, ◌++◌, length, Option, Some, None, refl, sym, subst, ap, arith}
+use Rattle.std.proofs.Common.{◌≡◌, ℕ, ◌+◌, ◌<◌, true, List, [], ◌∷◌, ◌++◌, length, Option, Some, None, refl, sym, subst, ap, arith}
 use Rattle.std.specs.Prelude.{is_some, IfSome}
 use Rattle.zero_one_rows.specs.Variables.{Voyage}
 use Rattle.certificate.specs.declared.journals.Node.{Node}
@@ -10,7 +10,7 @@ use Rattle.incumbent_word.specs.Rule.{with_ticket, one_over}
 use Rattle.node_work.specs.Work.{node_of, IsNode}
 use Rattle.search_crew.specs.declared.deeds.Deeds.{Deeds}
 use Rattle.search_crew.specs.declared.deeds.Halves.{Halves}
-use Rattle.search_crew.specs.Deeds.{halves_weight, EachHalf, Weight, Flow, on_nodes, no_deeds, IsDone}
+use Rattle.search_crew.specs.Deeds.{halves_weight, EachHalf, Flow, on_nodes, no_deeds, IsDone}
 use Rattle.search_crew.specs.Jobs.{IsUnused}
 use Rattle.search_crew.specs.Ends.{halves_in, IsRest}
 use Rattle.search_crew.proofs.Handled.{rebalanced, ticket_drawn, node_left, node_left_too, nothing_done}

@@ -10,10 +10,10 @@ ghost use Rattle.search_crew.specs.Ends.{IsEnd, IsJoined, found_of};
 ghost use Rattle.search_crew.specs.Jobs.{Means};
 
 use crate::beginning::begin_all;
+use crate::crew::{Ground, serve_all};
 use crate::deeds::Solution;
 use crate::finishing::finish_all;
 use crate::joining::{AllDeeds, Ended, pour, take_in_all};
-use crate::crew::{Ground, serve_all};
 use crate::turning::Signs;
 use incumbent_word::{Board, Owner, Totals};
 use node_racks::{Rack, Wanted};
@@ -119,7 +119,11 @@ fn search_as<M: Wanted + Send + Sync, G: Gate + Sync, R: Threads + Wait + Sync>(
     };
     let ground = Ground { rack, board, signs };
     let backs = serve_all(rt, alloc, tables, &ground, gate, posts)?;
-    let Ground { rack, board, signs: _ } = ground;
+    let Ground {
+        rack,
+        board,
+        signs: _,
+    } = ground;
     let ended = take_in_all(alloc, &board, &mut owner, backs)?;
     conclude(rt, alloc, tables, rack, board, owner, ended)
 }
@@ -167,7 +171,5 @@ pub fn search<G: Gate + Sync, R: Threads + Wait + Sync>(
         return search_alone(alloc, model, planner, budget, start, gate);
     }
     let tables = Tables::build(alloc, model)?;
-    search_together(
-        rt, alloc, &tables, planner, workers, budget, start, gate,
-    )
+    search_together(rt, alloc, &tables, planner, workers, budget, start, gate)
 }

@@ -1,4 +1,4 @@
-use Rattle.std.proofs.Common.{◌≡◌, ◌++◌, ◌∷◌, length, ap, sym, subst, arith, rules}
+use Rattle.std.proofs.Common.{◌≡◌, ◌∷◌, length, ap, sym, subst, arith, rules}
 use Rattle.search_machine.specs.Bags.{Every}
 use Rattle.search_machine.proofs.Weights.{every_append}
 use Rattle.node_racks.specs.Racks.{IsPassAt, IsFresh}

@@ -1,4 +1,3 @@
-use Rattle.std.proofs.Common.{ap, sym, ◌∙◌}
 use Rattle.steal_pool.proofs.Steps.{on_ok}
 use Rattle.search_crew.proofs.Ends.{takes_in}
 use Rattle.search_crew.proofs.joining.take_in.Goals as goal

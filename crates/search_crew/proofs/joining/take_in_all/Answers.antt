@@ -1,5 +1,4 @@
 use Rattle.std.proofs.Common.{◌≡◌, [], ◌++◌, ◌∷◌, List, length, map, refl, ap, sym, subst, ◌∙◌, arith, rules}
-use Rattle.zero_one_rows.specs.Variables.{Voyage}
 use Rattle.search_machine.specs.Bags.{Every}
 use Rattle.node_racks.specs.declared.racks.Pass.{Pass}
 use Rattle.search_crew.specs.declared.places.Back.{Back}

@@ -1,4 +1,4 @@
-use Rattle.std.proofs.Common.{◌≡◌, ℕ, ◌+◌, ◌≤◌, List, length, map, ap, sym, subst, ◌∙◌, arith}
+use Rattle.std.proofs.Common.{◌≡◌, ◌≤◌, List, length, map, ap, sym, subst, ◌∙◌, arith}
 use Rattle.search_machine.specs.Bags.{Every}
 use Rattle.incumbent_word.specs.declared.view.View.{View}
 use Rattle.node_racks.specs.declared.racks.Pass.{Pass}

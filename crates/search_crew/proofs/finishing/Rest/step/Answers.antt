@@ -1,4 +1,4 @@
-use Rattle.std.proofs.Common.{◌≡◌, true, false, ◌++◌, ◌∷◌, [], ap, sym, subst, ◌∙◌, rules}
+use Rattle.std.proofs.Common.{◌≡◌, true, ◌++◌, ◌∷◌, [], ap, sym, subst, ◌∙◌, rules}
 use Rattle.std.specs.Prelude.{is_some}
 use Rattle.incumbent_word.specs.declared.view.View.{View}
 use Rattle.incumbent_word.specs.Rule.{one_over}
@@ -22,11 +22,11 @@ returns-clause-rest c all rest =
     let left : c.push.new.self ≡ d.left ++ c.args.node.path ∷ [] = search rules in
     subst (λ (e : Deeds). IsRest c.args.desk.now c.args.board.now.start c.if-live.seat.view 0 all c.args.self.now.todo.items e) (sym (ap (λ l. record d { left = l }) left))
     (elim c.if-live.branch [
-      then-live+else-is_some w ↦
-        let view : w.draw.new.seat.view ≡ one_over c.args.seat.now.view = search rules in
-        subst (λ (v : View). IsRest c.args.desk.now c.args.board.now.start v 0 all c.args.self.now.todo.items (record d { left = d.left ++ c.args.node.path ∷ [] })) (sym (ap (λ (s : SeatToken). s.view) w.seat-is ∙ view))
-        (rest_left c.args.desk.now c.args.board.now.start c.args.seat.now.view all d c.args.self.now.todo.items c.args.node rest)
+      | then-live+else-is_some w ↦
+          let view : w.draw.new.seat.view ≡ one_over c.args.seat.now.view = search rules in
+          subst (λ (v : View). IsRest c.args.desk.now c.args.board.now.start v 0 all c.args.self.now.todo.items (record d { left = d.left ++ c.args.node.path ∷ [] })) (sym (ap (λ (s : SeatToken). s.view) w.seat-is ∙ view))
+          (rest_left c.args.desk.now c.args.board.now.start c.args.seat.now.view all d c.args.self.now.todo.items c.args.node rest)
       | else-live w ↦
-        subst (λ (v : View). IsRest c.args.desk.now c.args.board.now.start v 0 all c.args.self.now.todo.items (record d { left = d.left ++ c.args.node.path ∷ [] })) (sym (ap (λ (s : SeatToken). s.view) w.seat-is))
-        (rest_left_too c.args.desk.now c.args.board.now.start c.args.seat.now.view all d c.args.self.now.todo.items c.args.node (c.requires.live.1 w.if-live.false) rest)
+          subst (λ (v : View). IsRest c.args.desk.now c.args.board.now.start v 0 all c.args.self.now.todo.items (record d { left = d.left ++ c.args.node.path ∷ [] })) (sym (ap (λ (s : SeatToken). s.view) w.seat-is))
+          (rest_left_too c.args.desk.now c.args.board.now.start c.args.seat.now.view all d c.args.self.now.todo.items c.args.node (c.requires.live.1 w.if-live.false) rest)
     ])
