@@ -5,8 +5,6 @@
 #[cfg(test)]
 mod model_texts;
 #[cfg(test)]
-mod reading;
-#[cfg(test)]
 mod segments;
 #[cfg(test)]
 mod writing;

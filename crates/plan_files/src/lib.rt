@@ -10,6 +10,3 @@ mod moved_groups;
 pub use cell_groups::port_of;
 pub use departure_file::{departure_message, departure_text};
 pub use laws::departure_reads;
-
-#[cfg(test)]
-mod segment_tests;

@@ -10,6 +10,8 @@ use crate::run::search_tree;
 use certificate::{Head, Tree};
 use solution_meaning::bounds_are_of_voyages;
 use std::alloc::Global;
+use std::sync::Wait;
+use std::thread::Threads;
 use stow_data::{Cargo, NoMemory, PlanList, Ship};
 use stow_io::Gate;
 use voyage_guess::Planner;
@@ -26,18 +28,22 @@ pub struct Planned {
 /// The best plans that are found of a voyage, with the certificate of a bound on the rehandles of every legal voyage.
 ///
 /// The loader's plans come first, then those of voyages by chance where they are better. The search looks for still better
-/// ones, at most as many nodes as the budget says, and its tree proves the bound.
-pub fn plan_voyage<G: Gate>(
+/// ones, with 1 to 16 workers, at most as many nodes as the budget says, and its tree proves the bound.
+pub fn plan_voyage<G: Gate + Sync, R: Threads + Wait + Sync>(
+    rt: &R,
     alloc: Global,
     ship: &Ship,
     cargo: &Cargo,
     model: &Model,
+    workers: u32,
     budget: u64,
     gate: &G,
 ) -> Result<Planned, NoMemory>
     requires ship { model.now.ship ≡ ship.now }
     requires cargo { model.now.cargo ≡ cargo.now }
     requires problem { IsProblem model.now }
+    requires workers { 1 ≤ workers }
+    requires most_workers { workers ≤ 16 }
     requires nodes { 1 ≤ budget }
     requires most_nodes { budget ≤ 100000 }
     ensures certified { IfOk result (λ p. Certifies model.now budget p.head p.tree) }
@@ -46,7 +52,16 @@ pub fn plan_voyage<G: Gate>(
     let first = loaded(alloc, ship, cargo, model)?;
     let mut planner = Planner::new(alloc, model)?;
     let begun = improved(alloc, ship, cargo, model, &mut planner, budget, first)?;
-    let found = search_tree(alloc, model, planner, budget, begun.count, gate)?;
+    let found = search_tree(
+        rt,
+        alloc,
+        model,
+        planner,
+        workers,
+        budget,
+        begun.count,
+        gate,
+    )?;
     let chosen = chosen_plans(alloc, ship, cargo, model, begun, found.full)?;
     let bound = bound_of(alloc, model, &found.tree, chosen.count)?;
     bounds_are_of_voyages();

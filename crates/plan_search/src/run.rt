@@ -6,9 +6,12 @@ ghost use Rattle.plan_search.specs.Found.{IsSearched, one_leaf};
 use certificate::{End, Record, Tree};
 use node_ledger::gather;
 use program_rows::rows_are_listed;
+use search_crew::search;
 use search_machine::records_are_of_nodes;
 use std::alloc::Global;
-use steal_pool::{found_journals_prove, search};
+use std::sync::Wait;
+use std::thread::Threads;
+use steal_pool::found_journals_prove;
 use stow_data::NoMemory;
 use stow_io::Gate;
 use voyage_guess::Planner;
@@ -50,15 +53,19 @@ fn one_leaf(alloc: Global) -> Result<Searched, NoMemory>
 }
 
 /// Searches for solutions that cost less than the start. Where that is 0, there is nothing to look for.
-pub fn search_tree<G: Gate>(
+pub fn search_tree<G: Gate + Sync, R: Threads + Wait + Sync>(
+    rt: &R,
     alloc: Global,
     model: &Model,
     planner: Planner,
+    workers: u32,
     budget: u64,
     start: u64,
     gate: &G,
 ) -> Result<Searched, NoMemory>
     requires problem { IsProblem model.now }
+    requires workers { 1 ≤ workers }
+    requires most_workers { workers ≤ 16 }
     requires nodes { 1 ≤ budget }
     requires most_nodes { budget ≤ 100000 }
     requires low { start ≤ most_lifts model.now + 1 }
@@ -67,7 +74,8 @@ pub fn search_tree<G: Gate>(
     if start == 0 {
         return one_leaf(alloc);
     }
-    let found = search(alloc, model, planner, budget, start, gate)?;
+    let workers = workers as usize;
+    let found = search(rt, alloc, model, planner, workers, budget, start, gate)?;
     rows_are_listed();
     found_journals_prove();
     records_are_of_nodes::<Row>();

@@ -9,6 +9,3 @@ mod writing;
 pub use ending::{Ended, finish, say, say_name};
 pub use files::{FileList, Finding, NamedFile, Work};
 pub use given::{NoWords, given_words};
-
-#[cfg(test)]
-mod tests;

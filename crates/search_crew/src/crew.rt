@@ -13,6 +13,7 @@ use node_racks::{Rack, Wanted};
 use node_work::{Desk, Tables};
 use std::alloc::Global;
 use std::sync::Wait;
+use std::sync::atomic::Ordering;
 use std::thread;
 use std::thread::Threads;
 use stow_data::NoMemory;
@@ -27,7 +28,7 @@ pub struct Ground<M: Wanted> {
 }
 
 // Takes a worker's turns, on a desk of its own.
-fn man<M: Wanted, G: Gate, R: Wait>(
+fn take_turns<M: Wanted, G: Gate, R: Wait>(
     rt: &R,
     alloc: Global,
     tables: &Tables,
@@ -76,6 +77,25 @@ fn man<M: Wanted, G: Gate, R: Wait>(
         deeds,
         aside,
     })
+}
+
+// Takes a worker's turns. Where memory is wanting to it, it tells the others to stop: what it had is gone, so they might wait for nodes that nobody has.
+fn man<M: Wanted, G: Gate, R: Wait>(
+    rt: &R,
+    alloc: Global,
+    tables: &Tables,
+    ground: &Ground<M>,
+    gate: &G,
+    post: Post<M>,
+) -> Result<Back<M>, NoMemory>
+    requires { IsPosted M.meets ground.now.rack ground.now.board tables.now post }
+    ensures { IfOk result (IsReturned M.meets ground.now.rack ground.now.board tables.now post) }
+{
+    let back = take_turns(rt, alloc, tables, ground, gate, post);
+    if back.is_err() {
+        ground.signs.stop.store(true, Ordering::SeqCst);
+    }
+    back
 }
 
 // What the workers brought back, where all came back.

@@ -13,7 +13,7 @@ use std::thread;
 use stow_data::NoMemory;
 use stow_io::Gate;
 
-/// Takes turns until no node is open, no ticket is left or memory is wanting.
+/// Takes turns until no node is open, no ticket is left, memory is wanting or all are to stop. Where no ticket is left, all stop. Where memory is wanting, the caller is to stop the others: the nodes that the worker had are gone.
 pub fn serve<'a, M: Wanted, G: Gate, R: Wait>(
     rt: &R,
     alloc: Global,
@@ -31,21 +31,17 @@ pub fn serve<'a, M: Wanted, G: Gate, R: Wait>(
         if signs.stop.load(Ordering::SeqCst) {
             return Ok(job);
         }
-        match turn(alloc, rack, board, signs, gate, &mut job) {
-            Ok(Turned::Handled) => {}
-            Ok(Turned::Nothing) => {
+        match turn(alloc, rack, board, signs, gate, &mut job)? {
+            Turned::Handled => {}
+            Turned::Nothing => {
                 if signs.open.load(Ordering::SeqCst) == 0 {
                     return Ok(job);
                 }
                 thread::yield_now();
             }
-            Ok(Turned::Spent) => {
+            Turned::Spent => {
                 signs.stop.store(true, Ordering::SeqCst);
                 return Ok(job);
-            }
-            Err(no_memory) => {
-                signs.stop.store(true, Ordering::SeqCst);
-                return Err(no_memory);
             }
         }
     }

@@ -2,4 +2,4 @@ mod Premises
 mod Keeping
 mod JudgedKeys
 mod Answering
-mod Ways
+pub mod Ways

@@ -34,6 +34,10 @@ abbrev pub height : NodeKey → ℕ
 height Root = zero
 height (Half k y) = suc k
 
+pub height_named : (n : ℕ) (key : NodeKey) → InTable n key → height key ≤ n
+height_named n Root h = omega arith
+height_named n (Half k y) h = omega (arith, h)
+
 module _ (m : Voyage) (ended : List (Done Record)) where
   abbrev hs : List (Handled Row)
   hs = told (entry_of m) ended

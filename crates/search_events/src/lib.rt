@@ -10,4 +10,5 @@ mod nodes;
 pub use events::Event;
 pub use judging::Judge;
 pub use machine::{Core, Ended};
+pub use nodes::{Step, lead_to};
 pub use search_core::{Done, NodeKey, Refused};

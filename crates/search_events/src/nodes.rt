@@ -1,5 +1,5 @@
 //! Nodes in full, as their keys tell them.
-ghost use Rattle.std.specs.Prelude.{◌≡◌, ◌<◌, length, slice_get, Some, All, IfOk, map};
+ghost use Rattle.std.specs.Prelude.{◌≡◌, ◌<◌, ◌≤◌, length, slice_get, Some, All, IfOk, map, vec_capacity};
 ghost use Rattle.zero_one_rows.specs.Variables.{Voyage};
 ghost use Rattle.certificate.specs.Entries.{entry_of};
 ghost use Rattle.search_machine.specs.Bags.{Every};
@@ -37,6 +37,24 @@ fn ended_node(ended: &[Done<Record>], entry: usize) -> NodeKey
     ended[entry].node
 }
 
+/// Leads from the root to a node: the list becomes the branches on the way, the root's first. It takes no memory: the list has room for the ended nodes.
+pub fn lead_to(way: &mut Vec<Step>, ended: &[Done<Record>], node: NodeKey)
+    requires room { length ended.now ≤ vec_capacity way.old }
+    requires earlier { NameEarlier ended.now }
+    requires named { InTable (length ended.now) node }
+    ensures way { (m : Voyage) → node_at m ended.now node ≡ along m ended.now way.new.items }
+    ensures inside { All (λ s. s.entry < length ended.now) way.new.items }
+    ensures room { vec_capacity way.new ≡ vec_capacity way.old }
+{
+    way.clear();
+    let mut here = node;
+    while let NodeKey::Half { entry, value } = here {
+        way.push_reserved(Step { entry, value });
+        here = ended_node(ended, entry);
+    }
+    way.reverse();
+}
+
 // The branches on the way to a node, the root's first.
 fn way_to(alloc: Global, ended: &[Done<Record>], node: NodeKey) -> Result<Vec<Step>, NoMemory>
     requires earlier { NameEarlier ended.now }
@@ -44,13 +62,8 @@ fn way_to(alloc: Global, ended: &[Done<Record>], node: NodeKey) -> Result<Vec<St
     ensures way { IfOk result (λ way. (m : Voyage) → node_at m ended.now node ≡ along m ended.now way.items) }
     ensures inside { IfOk result (λ way. All (λ s. s.entry < length ended.now) way.items) }
 {
-    let mut way = Vec::new(alloc);
-    let mut here = node;
-    while let NodeKey::Half { entry, value } = here {
-        way.push(Step { entry, value })?;
-        here = ended_node(ended, entry);
-    }
-    way.reverse();
+    let mut way = Vec::with_capacity(alloc, ended.len())?;
+    lead_to(&mut way, ended, node);
     Ok(way)
 }
 

@@ -11,13 +11,16 @@ use crate::making::make;
 use crate::planning::plan;
 use crate::showing::show;
 use std::alloc::Global;
+use std::sync::Wait;
+use std::thread::Threads;
 use stow_data::{NoMemory, Word};
 use stow_io::{Folder, Gate};
 use stow_words::Order;
 use voyage_inputs::{Answer, Inputs, ReadStop};
 
 /// What an order is answered. Nothing is written. A search for plans comes to the gate before each of its nodes.
-pub fn answer_to<'a, F: Folder, G: Gate>(
+pub fn answer_to<'a, F: Folder, G: Gate + Sync, R: Threads + Wait + Sync>(
+    rt: &R,
     alloc: Global,
     order: &'a Order,
     folder: &mut F,
@@ -36,11 +39,11 @@ pub fn answer_to<'a, F: Folder, G: Gate>(
             bookings,
             name,
             arrival,
+            workers,
             budget,
-            ..
         } => {
             let inputs = inputs_from(profile, bookings, name, arrival);
-            plan(alloc, inputs, *budget, folder, gate)
+            plan(rt, alloc, inputs, *workers, *budget, folder, gate)
         }
         Order::Check {
             profile,
@@ -49,7 +52,7 @@ pub fn answer_to<'a, F: Folder, G: Gate>(
             arrival,
         } => check(alloc, inputs_from(profile, bookings, name, arrival), folder),
         Order::Show { file } => show(alloc, file.as_str(), folder),
-        Order::Make { number, name } => match make(alloc, *number, name.as_str(), gate) {
+        Order::Make { number, name } => match make(rt, alloc, *number, name.as_str(), gate) {
             Ok(answer) => Ok(answer),
             Err(NoMemory) => Err(ReadStop::NoMemory),
         },

@@ -8,6 +8,8 @@ ghost use Rattle.voyage_inputs.specs.Names.{names_from};
 use crate::planning::plan;
 use program_ends::{FileList, NamedFile, Work};
 use std::alloc::Global;
+use std::sync::Wait;
+use std::thread::Threads;
 use stow_data::{NoMemory, Word};
 use stow_gen::{make_bookings, make_profile};
 use stow_io::{Folder, Gate, SureFolder};
@@ -16,6 +18,9 @@ use voyage_inputs::{Answer, Inputs};
 /// How many nodes a search for the plans of a made ship may have.
 const BUDGET: u64 = 50;
 
+/// How many workers search for them.
+const WORKERS: u32 = 1;
+
 /// The two files of a made ship, under their names.
 #[derive(Drop)]
 pub struct Made {
@@ -23,14 +28,20 @@ pub struct Made {
     pub bookings: NamedFile,
 }
 
-/// What `plan` answers with a budget of 50 nodes over the made profile and the made bookings of a number below 2^31.
-/// The two are written before the plan's own files. No file is read.
-pub fn make<G: Gate>(alloc: Global, number: u32, base: &str, gate: &G) -> Result<Answer, NoMemory>
+/// What `plan` answers with one worker and a budget of 50 nodes over the made profile and the made bookings of a number
+/// below 2^31. The two are written before the plan's own files. No file is read.
+pub fn make<G: Gate + Sync, R: Threads + Wait + Sync>(
+    rt: &R,
+    alloc: Global,
+    number: u32,
+    base: &str,
+    gate: &G,
+) -> Result<Answer, NoMemory>
     requires { number ≤ 2147483647 }
     ensures { IfOk result (IsMade number base.now) }
 {
     let made = made_of(alloc, number, base)?;
-    let planned = plan_made(alloc, base, &made, gate)?;
+    let planned = plan_made(rt, alloc, base, &made, gate)?;
     behind(alloc, made, planned)
 }
 
@@ -77,7 +88,8 @@ fn folder_of(alloc: Global, made: &Made) -> Result<SureFolder, NoMemory>
 }
 
 /// What `plan` answers over the two files.
-fn plan_made<'a, G: Gate>(
+fn plan_made<'a, G: Gate + Sync, R: Threads + Wait + Sync>(
+    rt: &R,
     alloc: Global,
     base: &'a str,
     made: &'a Made,
@@ -92,7 +104,7 @@ fn plan_made<'a, G: Gate>(
         arrival: None,
     };
     let mut folder = folder_of(alloc, made)?;
-    match plan(alloc, inputs, BUDGET, &mut folder, gate) {
+    match plan(rt, alloc, inputs, WORKERS, BUDGET, &mut folder, gate) {
         Ok(answer) => Ok(answer),
         // Reads of such a folder never fail, so it is memory that is wanting.
         Err(_) => Err(NoMemory),

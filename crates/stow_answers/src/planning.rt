@@ -12,6 +12,8 @@ use crate::refusing::limit_text;
 use crate::work::texts_of;
 use plan_search::plan_voyage;
 use std::alloc::Global;
+use std::sync::Wait;
+use std::thread::Threads;
 use stow_data::NoMemory;
 use stow_io::{Folder, Gate};
 use voyage_inputs::{Answer, BookedVoyage, Found, Inputs, ReadStop, read_inputs};
@@ -19,13 +21,17 @@ use zero_one_model::{Model, ModelNo};
 
 /// The plans of the voyage of the inputs, found by a search of at most so many nodes, with their certificate; or why
 /// there are none.
-pub fn plan<'a, F: Folder, G: Gate>(
+pub fn plan<'a, F: Folder, G: Gate + Sync, R: Threads + Wait + Sync>(
+    rt: &R,
     alloc: Global,
     inputs: Inputs<'a>,
+    workers: u32,
     budget: u64,
     folder: &mut F,
     gate: &G,
 ) -> Result<Answer, ReadStop<'a>>
+    requires workers { 1 ≤ workers }
+    requires most_workers { workers ≤ 16 }
     requires nodes { 1 ≤ budget }
     requires most_nodes { budget ≤ 100000 }
     ensures stays { F.files folder.new ≡ F.files folder.old }
@@ -38,27 +44,31 @@ pub fn plan<'a, F: Folder, G: Gate>(
         Found::Voyage(voyage) => voyage,
         Found::Refused(answer) => return Ok(answer),
     };
-    match plan_of(alloc, inputs.base, &voyage, budget, gate) {
+    match plan_of(rt, alloc, inputs.base, &voyage, workers, budget, gate) {
         Ok(answer) => Ok(answer),
         Err(NoMemory) => Err(ReadStop::NoMemory),
     }
 }
 
 /// What a voyage is answered: the limits of the model come first, then the search.
-fn plan_of<G: Gate>(
+fn plan_of<G: Gate + Sync, R: Threads + Wait + Sync>(
+    rt: &R,
     alloc: Global,
     base: &str,
     v: &BookedVoyage,
+    workers: u32,
     budget: u64,
     gate: &G,
 ) -> Result<Answer, NoMemory>
     requires booked { IsBooked v.now }
+    requires workers { 1 ≤ workers }
+    requires most_workers { workers ≤ 16 }
     requires nodes { 1 ≤ budget }
     requires most_nodes { budget ≤ 100000 }
     ensures { IfOk result (PlanOf budget base.now v.now) }
 {
     match Model::build(alloc, &v.ship, &v.cargo) {
-        Ok(model) => plan_within(alloc, base, v, &model, budget, gate),
+        Ok(model) => plan_within(rt, alloc, base, v, &model, workers, budget, gate),
         Err(ModelNo::TooLarge { limit, value }) => {
             Ok(Answer::Large(limit_text(alloc, limit, value)?))
         }
@@ -67,20 +77,24 @@ fn plan_of<G: Gate>(
 }
 
 /// What a voyage within the limits is answered.
-fn plan_within<G: Gate>(
+fn plan_within<G: Gate + Sync, R: Threads + Wait + Sync>(
+    rt: &R,
     alloc: Global,
     base: &str,
     v: &BookedVoyage,
     model: &Model,
+    workers: u32,
     budget: u64,
     gate: &G,
 ) -> Result<Answer, NoMemory>
     requires booked { IsBooked v.now }
     requires model { model.now ≡ voyage_of v.now }
+    requires workers { 1 ≤ workers }
+    requires most_workers { workers ≤ 16 }
     requires nodes { 1 ≤ budget }
     requires most_nodes { budget ≤ 100000 }
     ensures { IfOk result (PlanWithin budget base.now v.now) }
 {
-    let planned = plan_voyage(alloc, &v.ship, &v.cargo, model, budget, gate)?;
+    let planned = plan_voyage(rt, alloc, &v.ship, &v.cargo, model, workers, budget, gate)?;
     texts_of(alloc, base, v, &planned)
 }

@@ -8,4 +8,4 @@ mod top;
 
 pub use process::program;
 pub use status::Status;
-pub use top::{run, stow};
+pub use top::stow;

@@ -20,7 +20,7 @@ use voyage_inputs::{Answer, ReadStop};
 
 /// Does what the words ask for, over the folder's files, and prints into the sink.
 pub fn stow<R: Threads + Wait + Sync, F: Folder, K: Sink, G: Gate + Sync>(
-    _rt: &R,
+    rt: &R,
     alloc: Global,
     words: &WordList,
     folder: &mut F,
@@ -29,25 +29,12 @@ pub fn stow<R: Threads + Wait + Sync, F: Folder, K: Sink, G: Gate + Sync>(
 ) -> Status
     ensures { Obeys words.now result (outside F.Folder K.Sink folder.old out.old) (outside F.Folder K.Sink folder.new out.new) }
 {
-    run(alloc, words, folder, out, gate)
-}
-
-/// The same for all orders that wait for nobody, which are all so far: by its bounds this call can neither
-/// block nor run forever, so it returns. A search for plans has one worker yet, whatever the words say.
-pub fn run<F: Folder, K: Sink, G: Gate>(
-    alloc: Global,
-    words: &WordList,
-    folder: &mut F,
-    out: &mut K,
-    gate: &G,
-) -> Status
-    ensures { Obeys words.now result (outside F.Folder K.Sink folder.old out.old) (outside F.Folder K.Sink folder.new out.new) }
-{
-    obey(alloc, words, folder, out, gate)
+    obey(rt, alloc, words, folder, out, gate)
 }
 
 /// Reads the words, and does what they order.
-fn obey<F: Folder, K: Sink, G: Gate>(
+fn obey<R: Threads + Wait + Sync, F: Folder, K: Sink, G: Gate + Sync>(
+    rt: &R,
     alloc: Global,
     words: &WordList,
     folder: &mut F,
@@ -63,13 +50,14 @@ fn obey<F: Folder, K: Sink, G: Gate>(
     ensures sink_later { K.faults out.old ≤ K.faults out.new }
 {
     match read_words(alloc, words) {
-        Ok(order) => follow(alloc, &order, folder, out, gate),
+        Ok(order) => follow(rt, alloc, &order, folder, out, gate),
         Err(no) => refuse(no, out),
     }
 }
 
 /// Answers the order, writes its files and prints.
-fn follow<F: Folder, K: Sink, G: Gate>(
+fn follow<R: Threads + Wait + Sync, F: Folder, K: Sink, G: Gate + Sync>(
+    rt: &R,
     alloc: Global,
     order: &Order,
     folder: &mut F,
@@ -83,7 +71,7 @@ fn follow<F: Folder, K: Sink, G: Gate>(
     ensures folder_later { F.faults folder.old ≤ F.faults folder.new }
     ensures sink_later { K.faults out.old ≤ K.faults out.new }
 {
-    match answer_to(alloc, order, folder, gate) {
+    match answer_to(rt, alloc, order, folder, gate) {
         Ok(Answer::Work(work)) => complete(&work, folder, out),
         Ok(Answer::No(line)) => say_no(out, line.as_slice()),
         Ok(Answer::Input(line)) => {

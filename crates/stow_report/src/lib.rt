@@ -22,10 +22,3 @@ pub use listings::{containers_in, kilograms_in, listing};
 pub use numbers::{NumbersNo, confirmed, numbers_line};
 pub use reports::report;
 pub use verdicts::{bound_line, cert_line, file_line};
-
-#[cfg(test)]
-mod check_tests;
-#[cfg(test)]
-mod shown_tests;
-#[cfg(test)]
-mod tests;

@@ -40,6 +40,8 @@ pub enum Order<'a> {
     Run(&'a str),
     /// The program is run without any words, even its own name.
     Bare,
+    /// The program is run on these words, at a gate where two workers wait for each other.
+    Meet(&'a str),
     /// The program is run on words once for each length of a file's text, cut so.
     Cuts(Cuts<'a>),
     /// The last run ended with this status.
@@ -127,6 +129,7 @@ fn order_of<'a>(word: &str, rest: &'a str) -> Option<Order<'a>> {
         "lay" => Some(Order::Lay(rest)),
         "run" => Some(Order::Run(rest)),
         "bare" => Some(Order::Bare),
+        "meet" => Some(Order::Meet(rest)),
         "cuts" => Some(Order::Cuts(cuts_of(rest)?)),
         "status" => Some(Order::Status(rest.parse().ok()?)),
         "prints" => Some(Order::Prints),

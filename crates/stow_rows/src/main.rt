@@ -4,6 +4,7 @@
 
 mod draft;
 mod line;
+mod meeting;
 mod stage;
 mod table;
 

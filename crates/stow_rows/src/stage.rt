@@ -1,12 +1,13 @@
 //! The folder of a case, the runs over it, and what is looked at behind them.
 use crate::draft::{agrees, cut};
 use crate::line::Cuts;
+use crate::meeting::Meeting;
 use std::alloc::Global;
 use std::sync::Wait;
 use std::thread::Threads;
 use stow_cli::stow;
 use stow_data::{Bytes, NoMemory, NumberList, Word, WordList};
-use stow_io::{MemFolder, MemSink, NoGate, SureFolder};
+use stow_io::{Gate, MemFolder, MemSink, NoGate, SureFolder};
 
 /// What a run may print.
 const ROOM: usize = 1_000_000;
@@ -33,6 +34,8 @@ pub enum Differs {
     Absent,
     /// A file stands that should be absent.
     Stands,
+    /// Two workers didn't meet.
+    Apart,
     /// The run over a text of this length ended otherwise than the first.
     Cut(u32),
 }
@@ -93,13 +96,14 @@ impl<'a> Stage<'a> {
     }
 
     /// The one call of `stow`.
-    fn ended<R: Threads + Wait + Sync>(
+    fn ended<R: Threads + Wait + Sync, G: Gate + Sync>(
         &mut self,
         rt: &R,
         words: &WordList,
+        gate: &G,
     ) -> Result<Ended, NoMemory> {
         let mut out = MemSink::new(self.alloc, ROOM, numbers_of(self.alloc, self.mute)?)?;
-        let status = stow(rt, self.alloc, words, &mut self.folder, &mut out, &NoGate);
+        let status = stow(rt, self.alloc, words, &mut self.folder, &mut out, gate);
         Ok(Ended {
             status: status.number(),
             out,
@@ -109,14 +113,31 @@ impl<'a> Stage<'a> {
     /// Runs the program on the words.
     pub fn run<R: Threads + Wait + Sync>(&mut self, rt: &R, words: &str) -> Result<(), NoMemory> {
         let words = words_of(self.alloc, words)?;
-        self.last = Some(self.ended(rt, &words)?);
+        self.last = Some(self.ended(rt, &words, &NoGate)?);
         Ok(())
+    }
+
+    /// Runs the program on the words, at a gate where two workers wait for each other. Both have to come, and none to
+    /// wait in vain.
+    pub fn meet<R: Threads + Wait + Sync>(
+        &mut self,
+        rt: &R,
+        words: &str,
+    ) -> Result<Option<Differs>, NoMemory> {
+        let words = words_of(self.alloc, words)?;
+        let gate = Meeting::new();
+        self.last = Some(self.ended(rt, &words, &gate)?);
+        if gate.is_held() && !gate.is_in_vain() {
+            Ok(None)
+        } else {
+            Ok(Some(Differs::Apart))
+        }
     }
 
     /// Runs the program without any words, even its own name.
     pub fn run_bare<R: Threads + Wait + Sync>(&mut self, rt: &R) -> Result<(), NoMemory> {
         let words = WordList::new(self.alloc);
-        self.last = Some(self.ended(rt, &words)?);
+        self.last = Some(self.ended(rt, &words, &NoGate)?);
         Ok(())
     }
 
@@ -134,7 +155,7 @@ impl<'a> Stage<'a> {
         self.last = None;
         for most in cuts.from..=cuts.to {
             self.lay(cuts.name, cut(text.as_slice(), most))?;
-            let ended = self.ended(rt, &words)?;
+            let ended = self.ended(rt, &words, &NoGate)?;
             if !self.ended_so(&ended) {
                 self.last = Some(ended);
                 return Ok(Some(Differs::Cut(most)));

@@ -106,6 +106,7 @@ impl<'a> Table<'a> {
             Differs::NoText => self.tell("no such text"),
             Differs::Absent => self.tell(format!(in alloc; "{at} is absent")?.as_str()),
             Differs::Stands => self.tell(format!(in alloc; "{at} stands")?.as_str()),
+            Differs::Apart => self.tell("two workers didn't meet"),
             Differs::Status(found) => self.tell(format!(in alloc; "status {found}")?.as_str()),
             Differs::Cut(most) => self.tell(format!(in alloc;
                 "cut {most} ends otherwise"
@@ -216,6 +217,11 @@ impl<'a> Table<'a> {
         self.look(cuts.name, differs)
     }
 
+    fn meet<R: Threads + Wait + Sync>(&mut self, rt: &R, words: &str) -> Result<(), NoMemory> {
+        let differs = self.stage.meet(rt, words)?;
+        self.look("the gate", differs)
+    }
+
     /// Does what a line orders.
     fn obey<R: Threads + Wait + Sync>(&mut self, rt: &R, order: Order<'a>) -> Result<(), NoMemory> {
         match order {
@@ -227,6 +233,7 @@ impl<'a> Table<'a> {
             }
             Order::Run(words) => self.stage.run(rt, words),
             Order::Bare => self.stage.run_bare(rt),
+            Order::Meet(words) => self.meet(rt, words),
             Order::Cuts(cuts) => self.cut(rt, cuts),
             Order::Status(_) | Order::Stands(_) | Order::Absent(_) => self.see(order),
             _ => {

@@ -5,8 +5,6 @@ mod commands;
 mod numbers;
 mod order;
 mod reading;
-#[cfg(test)]
-mod tests;
 
 pub use order::{Order, WordsNo};
 pub use reading::read_words;

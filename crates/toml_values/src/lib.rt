@@ -14,6 +14,3 @@ pub use of_values::{
     signed_of, table_of, tables_of, text_of,
 };
 pub use parsing::{NoDocument, document};
-
-#[cfg(test)]
-mod value_tests;

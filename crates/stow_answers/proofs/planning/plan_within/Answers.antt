@@ -6,13 +6,13 @@ use Rattle.stow_answers.proofs.Works.{problem_of, can_be_written, ok_answers}
 use Rattle.stow_answers.proofs.planning.plan_within.Goals as goal
 
 pub plan_voyage-requires-clause-problem : goal.plan_voyage-requires-clause-problem
-plan_voyage-requires-clause-problem g c = subst IsProblem (sym c.requires.model) (problem_of c.args.v.now c.requires.booked)
+plan_voyage-requires-clause-problem g c kinds lives = subst IsProblem (sym c.requires.model) (problem_of c.args.v.now c.requires.booked)
 
 pub plan_voyage-requires-clause-ship : goal.plan_voyage-requires-clause-ship
-plan_voyage-requires-clause-ship g c = ap (λ (m : Voyage). m.ship) c.requires.model
+plan_voyage-requires-clause-ship g c kinds lives = ap (λ (m : Voyage). m.ship) c.requires.model
 
 pub plan_voyage-requires-clause-cargo : goal.plan_voyage-requires-clause-cargo
-plan_voyage-requires-clause-cargo g c = ap (λ (m : Voyage). m.cargo) c.requires.model
+plan_voyage-requires-clause-cargo g c kinds lives = ap (λ (m : Voyage). m.cargo) c.requires.model
 
 pub texts_of-requires-clause-plans : goal.texts_of-requires-clause-plans
 texts_of-requires-clause-plans g c = can_be_written c.args.v.now _ _ (subst (λ (m : Voyage). HasPlans m c.in_ok-planned.planned.head.rehandles c.in_ok-planned.planned.plans) c.requires.model c.in_ok-planned.ensures.plans)

@@ -1,6 +1,0 @@
-//! Tests of ships, cargoes and kinds, with values worked out by hand. They stand in a crate of their own since a crate with tests is
-//! proved twice.
-#![tactic(auto)]
-
-#[cfg(test)]
-mod tests;

@@ -1,0 +1,59 @@
+//! Full boxes.
+ghost use Rattle.std.specs.Prelude.{◌≡◌, length};
+ghost use Rattle.zero_one_rows.specs.Variables.{variables};
+ghost use Rattle.zero_one_rows.specs.Rows.{whole};
+ghost use Rattle.program_rows.specs.Counted.{base_rows};
+ghost use Rattle.search_machine.specs.Machine.{fixed_below, breaks_none as breaks_none_of, is_full as is_full_in, price as price_in};
+
+use partial_plan::{base_row, cost_of, violates};
+use program_rows::rows_are_listed;
+use stow_data::VarNo;
+use zero_one_model::{Box01, Model};
+
+// Whether each variable is fixed.
+fn fixes_all(model: &Model, b: &Box01) -> bool
+    requires { length b.now ≡ length (variables model.now) }
+    ensures { result ≡ fixed_below (length (variables model.now)) b.now }
+{
+    for v in 0..model.vars() {
+        match b.at(VarNo(v)) {
+            Some(_) => (),
+            None => return false,
+        }
+    }
+    true
+}
+
+// Whether no base row is violated.
+fn breaks_none(model: &Model, b: &Box01) -> bool
+    requires { length b.now ≡ length (variables model.now) }
+    ensures { result ≡ breaks_none_of (whole model.now) (base_rows model.now) b.now }
+{
+    rows_are_listed();
+    for k in 0..model.base_rows() {
+        let row = base_row(model, k);
+        if violates(model, b, &row) {
+            return false;
+        }
+    }
+    true
+}
+
+/// Whether each variable is fixed, and no base row is violated. It takes no memory.
+pub fn is_full(model: &Model, b: &Box01) -> bool
+    requires { length b.now ≡ length (variables model.now) }
+    ensures { result ≡ is_full_in (whole model.now) (base_rows model.now) b.now }
+{
+    if fixes_all(model, b) {
+        return breaks_none(model, b);
+    }
+    false
+}
+
+/// The price of a full box.
+pub fn price(model: &Model, b: &Box01) -> u64
+    requires { length b.now ≡ length (variables model.now) }
+    ensures { result ≡ price_in (whole model.now) b.now }
+{
+    cost_of(model, b)
+}
