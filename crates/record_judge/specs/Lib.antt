@@ -1,3 +1,5 @@
 pub mod Standing
+pub mod Rounds
 pub mod Counting
+pub mod Desks
 pub mod Judging

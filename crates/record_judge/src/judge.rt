@@ -1,43 +1,44 @@
 //! The judge.
 ghost use Rattle.std.specs.Prelude.{◌≡◌, IfOk};
 
+use crate::desk::Desk;
 use crate::nodes::{branch_at, close_at, offer_at};
 use certificate::Record;
 use search_events::{Done, Judge, NodeKey, Refused, Step};
 use std::alloc::Global;
 use stow_data::NoMemory;
-use zero_one_model::{Box01, Model};
+use zero_one_model::Model;
 
-/// Judges records by a program's rows. A node's box is made anew from the root at each call, by the records on the way, and the multipliers' sums by their raises. So judging takes no memory, and the time of the records on the way with all their rows, for each raise of the record and for each variable.
+/// Judges records by a program's rows. At each call a node's box is made anew from the root by the steps of the records on the way, and the multipliers and their sums by the raises. So judging takes no memory, and is linear in the records on the way with their rows: a step or a raise costs the number of variables, a raise besides the look-up of its row's number.
 ///
 /// Contracts see the voyage, and for how many ended nodes there is room.
 #[derive(Drop)]
 pub struct RecordJudge<'a> {
     model: &'a Model<'a>,
-    b: Box01,
+    desk: Desk,
     way: Vec<Step>,
 }
 
 impl<'a> std::marker::Model for RecordJudge<'a> {
-    ghost use Rattle.std.specs.Prelude.{◌≡◌, length, vec_capacity};
-    ghost use Rattle.zero_one_rows.specs.Variables.{variables};
+    ghost use Rattle.std.specs.Prelude.{vec_capacity};
+    ghost use Rattle.record_judge.specs.Desks.{IsReady};
     ghost use Rattle.record_judge.specs.Judging.{Judging};
 
     ghost Value = { Judging };
 
     ghost view = { λ j. record { voyage = j.model.now; room = vec_capacity j.way } };
 
-    ghost invariant = { λ j. length j.b ≡ length (variables j.model.now) };
+    ghost invariant = { λ j. IsReady j.model.now j.desk };
 }
 
 impl<'a> RecordJudge<'a> {
-    /// The judge of a program, without room for ended nodes yet. It makes a box.
+    /// The judge of a program, without room for ended nodes yet. It makes room for a box, a sum for each variable and a multiplier for each row.
     pub fn new(alloc: Global, model: &'a Model<'a>) -> Result<RecordJudge<'a>, NoMemory>
         ensures { IfOk result (λ judge. judge.voyage ≡ model.now) }
     {
         Ok(RecordJudge {
             model,
-            b: Box01::free(alloc, model)?,
+            desk: Desk::new(alloc, model)?,
             way: Vec::new(alloc),
         })
     }
@@ -63,7 +64,7 @@ impl<'a> Judge for RecordJudge<'a> {
     ) -> Result<(), Refused> {
         close_at(
             self.model,
-            &mut self.b,
+            &mut self.desk,
             &mut self.way,
             ended,
             node,
@@ -78,7 +79,14 @@ impl<'a> Judge for RecordJudge<'a> {
         node: NodeKey,
         entry: &Record,
     ) -> Result<(), Refused> {
-        branch_at(self.model, &mut self.b, &mut self.way, ended, node, entry)
+        branch_at(
+            self.model,
+            &mut self.desk,
+            &mut self.way,
+            ended,
+            node,
+            entry,
+        )
     }
 
     fn offer(
@@ -87,6 +95,13 @@ impl<'a> Judge for RecordJudge<'a> {
         node: NodeKey,
         entry: &Record,
     ) -> Result<u64, Refused> {
-        offer_at(self.model, &mut self.b, &mut self.way, ended, node, entry)
+        offer_at(
+            self.model,
+            &mut self.desk,
+            &mut self.way,
+            ended,
+            node,
+            entry,
+        )
     }
 }

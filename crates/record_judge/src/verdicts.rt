@@ -1,17 +1,20 @@
 //! Records judged at the end of a way.
-ghost use Rattle.std.specs.Prelude.{◌≡◌, ◌<◌, ◌↔◌, IsTrue, None, Some, length, slice_get, pos, ◌+ℤ◌, ◌-ℤ◌, ◌*ℤ◌};
+ghost use Rattle.std.specs.Prelude.{◌≡◌, ◌<◌, ◌↔◌, IsTrue, None, Some, true, length, slice_get, pos, ◌+ℤ◌, ◌-ℤ◌, ◌*ℤ◌};
 ghost use Rattle.zero_one_rows.specs.Variables.{variables};
 ghost use Rattle.zero_one_rows.specs.Rows.{whole};
 ghost use Rattle.certificate.specs.Entries.{entry_of, end_of, number_of};
 ghost use Rattle.search_machine.specs.Machine.{Divides};
 ghost use Rattle.search_events.specs.Judging.{IsRecord, IsLeaf, IsBranch, JudgesClose, JudgesBranch, JudgesOffer};
 ghost use Rattle.search_events.specs.Nodes.{along};
+ghost use Rattle.record_judge.specs.Counting.{IsSized};
+ghost use Rattle.record_judge.specs.Desks.{IsReady, IsAt, TalliesAfter};
 ghost use Rattle.record_judge.specs.Standing.{IsWay};
 
 use crate::boxes::stand_after;
+use crate::desk::Desk;
 use crate::full::{is_full, price};
 use crate::naming::names_rows;
-use crate::ranges::keeps_range;
+use crate::tally::Tally;
 use crate::worth::dual_value;
 use certificate::{End, Record};
 use search_events::{Done, Refused, Step};
@@ -19,34 +22,61 @@ use stow_data::VarNo;
 use zero_one_model::{Box01, Model};
 
 // Whether a record names rows of the program and keeps multipliers in range.
-fn is_record(model: &Model, ended: &[Done<Record>], way: &[Step], entry: &Record) -> bool
-    requires { IsWay model.now ended.now way.now }
-    ensures { IsTrue result ↔ IsRecord model.now (along model.now ended.now way.now) (entry_of model.now entry.now) }
+fn is_record(
+    model: &Model,
+    tally: &mut Tally,
+    ended: &[Done<Record>],
+    way: &[Step],
+    entry: &Record,
+) -> bool
+    requires sized { IsSized model.now tally.old }
+    requires way { IsWay model.now ended.now way.now }
+    ensures sized { IsSized model.now tally.new }
+    ensures is { IsTrue result ↔ IsRecord model.now (along model.now ended.now way.now) (entry_of model.now entry.now) }
+    ensures tallies { result ≡ true → TalliesAfter model.now ended.now way.now entry.now tally.new }
 {
-    if names_rows(model, entry) {
-        return keeps_range(model, entry, ended, way);
+    if !names_rows(model, entry) {
+        return false;
     }
-    false
+    tally.stand_at(model, ended, way);
+    tally.follow(model, entry)
 }
 
 // Whether it is a leaf besides.
-fn is_leaf(model: &Model, ended: &[Done<Record>], way: &[Step], entry: &Record) -> bool
-    requires { IsWay model.now ended.now way.now }
-    ensures { IsTrue result ↔ IsLeaf model.now (along model.now ended.now way.now) (entry_of model.now entry.now) }
+fn is_leaf(
+    model: &Model,
+    tally: &mut Tally,
+    ended: &[Done<Record>],
+    way: &[Step],
+    entry: &Record,
+) -> bool
+    requires sized { IsSized model.now tally.old }
+    requires way { IsWay model.now ended.now way.now }
+    ensures sized { IsSized model.now tally.new }
+    ensures is { IsTrue result ↔ IsLeaf model.now (along model.now ended.now way.now) (entry_of model.now entry.now) }
+    ensures tallies { result ≡ true → TalliesAfter model.now ended.now way.now entry.now tally.new }
 {
     match entry.end {
-        End::Leaf => is_record(model, ended, way, entry),
+        End::Leaf => is_record(model, tally, ended, way, entry),
         End::Left | End::Branch(_) => false,
     }
 }
 
 // Whether it is a branch besides.
-fn is_branch(model: &Model, ended: &[Done<Record>], way: &[Step], entry: &Record) -> bool
-    requires { IsWay model.now ended.now way.now }
-    ensures { IsTrue result ↔ IsBranch model.now (along model.now ended.now way.now) (entry_of model.now entry.now) }
+fn is_branch(
+    model: &Model,
+    tally: &mut Tally,
+    ended: &[Done<Record>],
+    way: &[Step],
+    entry: &Record,
+) -> bool
+    requires sized { IsSized model.now tally.old }
+    requires way { IsWay model.now ended.now way.now }
+    ensures sized { IsSized model.now tally.new }
+    ensures is { IsTrue result ↔ IsBranch model.now (along model.now ended.now way.now) (entry_of model.now entry.now) }
 {
     match entry.end {
-        End::Branch(_) => is_record(model, ended, way, entry),
+        End::Branch(_) => is_record(model, tally, ended, way, entry),
         End::Leaf | End::Left => false,
     }
 }
@@ -86,22 +116,21 @@ fn needed_value(seen: u64) -> i128
 /// Whether a record is a leaf that closes at a value.
 pub fn close(
     model: &Model,
-    b: &mut Box01,
+    desk: &mut Desk,
     ended: &[Done<Record>],
     way: &[Step],
     seen: u64,
     entry: &Record,
 ) -> Result<(), Refused>
-    requires whole { length b.old ≡ length (variables model.now) }
-    requires way { IsWay model.now ended.now way.now }
-    ensures whole { length b.new ≡ length (variables model.now) }
+    requires { IsAt model.now desk.old ended.now way.now }
+    ensures ready { IsReady model.now desk.new }
     ensures judged { JudgesClose model.now (along model.now ended.now way.now) (entry_of model.now entry.now) seen result }
 {
-    if !is_leaf(model, ended, way, entry) {
+    if !is_leaf(model, &mut desk.tally, ended, way, entry) {
         return Err(Refused::BadEntry);
     }
-    stand_after(model, b, ended, way, entry);
-    let value = dual_value(model, b, ended, way, entry);
+    stand_after(model, &mut desk.b, ended, way, entry);
+    let value = dual_value(model, &desk.b, &desk.tally);
     let needed = needed_value(seen);
     if value < needed {
         return Err(Refused::Short { value, needed });
@@ -112,21 +141,20 @@ pub fn close(
 /// Whether a record divides its box by a free variable.
 pub fn branch(
     model: &Model,
-    b: &mut Box01,
+    desk: &mut Desk,
     ended: &[Done<Record>],
     way: &[Step],
     entry: &Record,
 ) -> Result<(), Refused>
-    requires whole { length b.old ≡ length (variables model.now) }
-    requires way { IsWay model.now ended.now way.now }
-    ensures whole { length b.new ≡ length (variables model.now) }
+    requires { IsAt model.now desk.old ended.now way.now }
+    ensures ready { IsReady model.now desk.new }
     ensures judged { JudgesBranch model.now (along model.now ended.now way.now) (entry_of model.now entry.now) result }
 {
-    if !is_branch(model, ended, way, entry) {
+    if !is_branch(model, &mut desk.tally, ended, way, entry) {
         return Err(Refused::BadEntry);
     }
-    stand_after(model, b, ended, way, entry);
-    if !divides(model, b, &entry.end) {
+    stand_after(model, &mut desk.b, ended, way, entry);
+    if !divides(model, &desk.b, &entry.end) {
         return Err(Refused::NotFree);
     }
     Ok(())
@@ -135,22 +163,21 @@ pub fn branch(
 /// The price of a leaf's box, where it is full and violates no base row.
 pub fn offer(
     model: &Model,
-    b: &mut Box01,
+    desk: &mut Desk,
     ended: &[Done<Record>],
     way: &[Step],
     entry: &Record,
 ) -> Result<u64, Refused>
-    requires whole { length b.old ≡ length (variables model.now) }
-    requires way { IsWay model.now ended.now way.now }
-    ensures whole { length b.new ≡ length (variables model.now) }
+    requires { IsAt model.now desk.old ended.now way.now }
+    ensures ready { IsReady model.now desk.new }
     ensures judged { JudgesOffer model.now (along model.now ended.now way.now) (entry_of model.now entry.now) result }
 {
-    if !is_leaf(model, ended, way, entry) {
+    if !is_leaf(model, &mut desk.tally, ended, way, entry) {
         return Err(Refused::BadEntry);
     }
-    stand_after(model, b, ended, way, entry);
-    if !is_full(model, b) {
+    stand_after(model, &mut desk.b, ended, way, entry);
+    if !is_full(model, &desk.b) {
         return Err(Refused::NotFull);
     }
-    Ok(price(model, b))
+    Ok(price(model, &desk.b))
 }
