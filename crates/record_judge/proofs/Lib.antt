@@ -1,6 +1,7 @@
 mod Listed
 mod Halves
 mod Standing
+mod Rounds
 mod Totals
 mod Raising
 mod Fixed

@@ -1,118 +1,165 @@
 -- Raises, one after the other.
-use Rattle.std.proofs.Common.{◌≡◌, ℕ, zero, suc, ◌+◌, ◌<◌, ◌≤◌, ◌^◌, true, List, [], ◌∷◌, ◌++◌, map, take, drop, length, get_or, Option, Some, None, ℤ, pos, ◌+ℤ◌, ◌*ℤ◌, refl, sym, ◌∙◌, ap, subst}
+use Rattle.std.proofs.Common.{◌≡◌, ◌≢◌, ℕ, ◌+◌, ◌<◌, ◌≤◌, ◌^◌, ◌⊎◌, inl, inr, Bool, true, false, cond, List, [], ◌∷◌, map, drop, take, ◌++◌, set, length, get_or, length-set, Option, Some, None, ℤ, pos, ◌+ℤ◌, ◌*ℤ◌, arith, refl, sym, ◌∙◌, ap, subst}
+use Rattle.std.specs.Prelude.{slice_get}
 use Rattle.std.specs.Int.RustNames.{unsigned_abs}
-use Rattle.std.proofs.lemmas.List.{map-append}
+use Rattle.std.proofs.lemmas.Bool.{cases_lt}
+use Rattle.std.proofs.lemmas.List.{append-nil, drop_all}
+use Rattle.std.proofs.lemmas.Option.{slice_get_within, slice_get-get_or, get_or_from_slice_get, same_Some}
+use Rattle.stow_data.proofs.CoverLemmas.{get_set_same, get_set_other}
 use Rattle.zero_one_rows.specs.declared.program.Row.{Row}
 use Rattle.zero_one_rows.specs.declared.program.Raise.{Raise}
-use Rattle.zero_one_rows.specs.Variables.{Voyage}
+use Rattle.zero_one_rows.specs.Variables.{Voyage, variables}
 use Rattle.zero_one_rows.specs.Rows.{whole}
+use Rattle.program_rows.specs.Counted.{all_rows}
+use Rattle.program_rows.proofs.Found.{in_order, not_itself}
+use Rattle.program_rows.proofs.InOrder.{rows_rise}
 use Rattle.proof_trees.specs.Multipliers.{Multipliers, amount_of, with_amount, raised, raised_all}
-use Rattle.certificate.specs.declared.tree.Record.{Record}
 use Rattle.certificate.specs.Entries.{same_row, raise_of}
+use Rattle.certificate.proofs.RowsAlike.{same_equal, same_itself}
 use Rattle.dual_bound.specs.Adding.{in_range}
-use Rattle.dual_bound.proofs.Multiplied.{raised_some, raised_none}
-use Rattle.record_judge.specs.declared.counted.Counted.{Counted}
-use Rattle.record_judge.specs.declared.counted.Counted.TheVariants.{Multiplier}
-use Rattle.record_judge.specs.Counting.{counts, row_in, no_raise, AreNamed, Sums, Leads, LeadsOn, IsSomeNumber}
-use Rattle.record_judge.proofs.Listed.{rest_cons, here_all, take_more, all_first, default_any}
-use Rattle.record_judge.proofs.Totals.{sum_more, row_sum, are_multipliers}
+use Rattle.dual_bound.specs.Costs.{number_at}
+use Rattle.dual_bound.proofs.Multiplied.{amount_low, raised_some, raised_none}
+use Rattle.dual_bound.proofs.Summing.{same_or_other}
+use Rattle.record_judge.specs.declared.tally.Tally.{Tally}
+use Rattle.record_judge.specs.Counting.{AreNamed, IsSum, IsSized, Tallies, TalliesSome, Follows, AddsTo}
+use Rattle.record_judge.proofs.Listed.{rest_cons, default_any, take_all}
+use Rattle.record_judge.proofs.Totals.{are_multipliers, sum_none, sum_low, sum_more}
 
-none_all : (rs : List (Row × ℤ)) → raised_all same_row None rs ≡ None
+-- ## One multiplier changed
+
+amount_set : (ms : Multipliers Row) (r : Row) (n : ℕ) → amount_of same_row (with_amount same_row ms r n) r ≡ n
+amount_set [] r n = ap (λ (b : Bool). cond b n 0) (same_itself r)
+amount_set (x ∷ ms) r n = by (same_row x.0 r) refl (amount_set ms r n)
+  where
+    by : (b : Bool) → same_row x.0 r ≡ b → amount_of same_row (with_amount same_row ms r n) r ≡ n → amount_of same_row (cond b ((x.0, n) ∷ ms) (x ∷ with_amount same_row ms r n)) r ≡ n
+    by true e rest = ap (λ (b : Bool). cond b n (amount_of same_row ms r)) e
+    by false e rest = ap (λ (b : Bool). cond b x.1 (amount_of same_row (with_amount same_row ms r n) r)) e ∙ rest
+
+amount_kept : (ms : Multipliers Row) (r q : Row) (n : ℕ) → same_row r q ≡ false → amount_of same_row (with_amount same_row ms r n) q ≡ amount_of same_row ms q
+amount_kept [] r q n other = ap (λ (b : Bool). cond b n 0) other
+amount_kept (x ∷ ms) r q n other = by (same_row x.0 r) refl (amount_kept ms r q n other)
+  where
+    by : (b : Bool) → same_row x.0 r ≡ b → amount_of same_row (with_amount same_row ms r n) q ≡ amount_of same_row ms q
+        → amount_of same_row (cond b ((x.0, n) ∷ ms) (x ∷ with_amount same_row ms r n)) q ≡ amount_of same_row (x ∷ ms) q
+    by true e rest =
+        let no : same_row x.0 q ≡ false = ap (λ (p : Row). same_row p q) (same_equal x.0 r e) ∙ other in
+        ap (λ (b : Bool). cond b n (amount_of same_row ms q)) no ∙ sym (ap (λ (b : Bool). cond b x.1 (amount_of same_row ms q)) no)
+    by false e rest = ap (λ (k : ℕ). cond (same_row x.0 q) x.1 k) rest
+
+-- each row stands once in the program's list
+apart : (m : Voyage) (i j : ℕ) (r : Row) → i ≢ j → slice_get (all_rows m) i ≡ Some r → slice_get (all_rows m) j ≡ Some r → ⊥
+apart m i j r other a b = by (cases_lt i j)
+  where
+    by : (i < j) ⊎ (j ≤ i) → ⊥
+    by (inl below) = not_itself r (in_order (all_rows m) i j r r (rows_rise m) below a b)
+    by (inr above) = not_itself r (in_order (all_rows m) j i r r (rows_rise m) (omega (arith, other, above)) b a)
+
+different : (r q : Row) → (r ≡ q → ⊥) → same_row r q ≡ false
+different r q other = by (same_row r q) refl
+  where
+    by : (b : Bool) → same_row r q ≡ b → same_row r q ≡ false
+    by true e = absurd (other (same_equal r q e))
+    by false e = e
+
+-- the amounts by the rows' numbers are these multipliers
+abbrev pub AreAmounts : Voyage → Multipliers Row → List ℕ → Type 0
+AreAmounts m ms amounts = (k : ℕ) (r : Row) → slice_get (all_rows m) k ≡ Some r → slice_get amounts k ≡ Some (amount_of same_row ms r)
+
+amounts_more : (m : Voyage) (ms : Multipliers Row) (r : Row) (n k : ℕ) (amounts : List ℕ) → slice_get (all_rows m) k ≡ Some r → k < length amounts → AreAmounts m ms amounts → AreAmounts m (with_amount same_row ms r n) (set amounts k n)
+amounts_more m ms r n k amounts at_k lt h j q at_j = by (same_or_other j k)
+  where
+    by : (j ≡ k) ⊎ (j ≢ k) → slice_get (set amounts k n) j ≡ Some (amount_of same_row (with_amount same_row ms r n) q)
+    by (inl same) =
+        let row : r ≡ q = same_Some r q (sym at_k ∙ ap (slice_get (all_rows m)) (sym same) ∙ at_j) in
+        ap (slice_get (set amounts k n)) same ∙ get_set_same amounts k n lt ∙ ap (λ (p : ℕ). Some p) (sym (amount_set ms r n) ∙ ap (amount_of same_row (with_amount same_row ms r n)) row)
+    by (inr other) =
+        let no : same_row r q ≡ false = different r q (λ e. apart m j k r other (at_j ∙ ap (λ (p : Row). Some p) (sym e)) at_k) in
+        get_set_other amounts k j n other ∙ h j q at_j ∙ ap (λ (p : ℕ). Some p) (sym (amount_kept ms r q n no))
+
+-- ## Tallies
+
+-- the amount of a row in a tally
+pub amount_here : (m : Voyage) (ms : Multipliers Row) (t : Tally) (r : Row) (k amount : ℕ) → Tallies m ms t → slice_get (all_rows m) k ≡ Some r → slice_get t.amounts k ≡ Some amount → amount ≡ amount_of same_row ms r
+amount_here m ms t r k amount tallies at_k here = same_Some amount (amount_of same_row ms r) (sym here ∙ tallies.amounts k r at_k)
+
+pub amount_small : (m : Voyage) (ms : Multipliers Row) (t : Tally) (r : Row) → Tallies m ms t → amount_of same_row ms r ≤ 2 ^ 40
+amount_small m ms t r tallies = amount_low m ms r (are_multipliers m (whole m).rhs ms tallies.right.low)
+
+pub right_low : (m : Voyage) (ms : Multipliers Row) (t : Tally) → length (all_rows m) ≤ 2000000 → Tallies m ms t → unsigned_abs t.right ≤ 2 ^ 98
+right_low m ms t few tallies = sum_low m (whole m).rhs ms t.right few tallies.right
+
+pub weight_low : (m : Voyage) (ms : Multipliers Row) (t : Tally) (x : ℕ) → length (all_rows m) ≤ 2000000 → x < length (variables m) → Tallies m ms t → unsigned_abs (number_at t.weights.items x) ≤ 2 ^ 98
+weight_low m ms t x few lt tallies = sum_low m (λ (r : Row). (whole m).coef r x) ms (number_at t.weights.items x) few (tallies.weights x lt)
+
+pub weight_here : (m : Voyage) (ms : Multipliers Row) (t : Tally) (x : ℕ) (z : ℤ) → x < length (variables m) → Tallies m ms t → z ≡ get_or t.weights.items x z → z ≡ number_at t.weights.items x
+weight_here m ms t x z lt tallies is = is ∙ default_any t.weights.items x z (pos 0) (omega (arith, lt, tallies.sized.vars))
+
+-- a list that is written over as a whole
+pub written_over : (n : ℕ) (old new : List ℤ) → n ≡ length old → length new ≡ length old → take n (new ++ drop (length new) old) ≡ new
+written_over n old new len same =
+    let none : drop (length new) old ≡ [] = drop_all (length new) old (omega (arith, same)) in
+    ap (λ (zs : List ℤ). take n (new ++ zs)) none ∙ (ap (take n) (append-nil new) ∙ take_all new n (omega (arith, len, same)))
+
+-- the sums of the variables, which stand in a list of their own
+pub adds_list : (m : Voyage) (r : Raise) (old new : Tally) (zs : List ℤ) → new.weights.items ≡ zs → length zs ≡ length (variables m) → new.right ≡ old.right +ℤ r.amount *ℤ (whole m).rhs r.row → unsigned_abs ((whole m).rhs r.row) ≤ 2 ^ 37
+    → ((x : ℕ) → x < length (variables m) → number_at zs x ≡ number_at old.weights.items x +ℤ r.amount *ℤ (whole m).coef r.row x) → ((x : ℕ) → x < length (variables m) → unsigned_abs ((whole m).coef r.row x) ≤ 2 ^ 37) → AddsTo m r old new
+adds_list m r old new zs is len right small sums coefs = record {
+  vars = ap (λ (ys : List ℤ). length ys) is ∙ len;
+  right = right;
+  small = small;
+  weights = λ x lt. ap (λ (ys : List ℤ). number_at ys x) is ∙ sums x lt;
+  coefs = coefs;
+}
+
+-- a raise, which keeps its row's multiplier in range, leads to the next tally
+pub raised_tally : (m : Voyage) (ms : Multipliers Row) (r : Raise) (old mid new : Tally) (k n : ℕ) → slice_get (all_rows m) k ≡ Some r.row → (whole m).has r.row ≡ true → in_range (pos (amount_of same_row ms r.row) +ℤ r.amount) ≡ Some n
+    → AddsTo m r old mid → mid.amounts ≡ old.amounts → new.amounts ≡ set mid.amounts k n → new.right ≡ mid.right → new.weights.items ≡ mid.weights.items → Tallies m ms old → Tallies m (with_amount same_row ms r.row n) new
+raised_tally m ms r old mid new k n at_k has stays adds amounts amounts' right weights t =
+    let lt : k < length old.amounts = omega (arith, slice_get_within (all_rows m) k r.row at_k, t.sized.rows) in
+    let set_is : new.amounts ≡ set old.amounts k n = amounts' ∙ ap (λ (xs : List ℕ). set xs k n) amounts in
+    let next : AreAmounts m (with_amount same_row ms r.row n) (set old.amounts k n) = amounts_more m ms r.row n k old.amounts at_k lt t.amounts in
+    record {
+      sized = record { rows = ap (λ (xs : List ℕ). length xs) set_is ∙ length-set old.amounts k n ∙ t.sized.rows; vars = ap (λ (zs : List ℤ). length zs) weights ∙ adds.vars };
+      amounts = λ j q at_j. ap (λ (xs : List ℕ). slice_get xs j) set_is ∙ next j q at_j;
+      right = sum_more m (whole m).rhs ms r.row r.amount old.right new.right n stays has adds.small t.right (right ∙ adds.right);
+      weights = λ x lt. sum_more m (λ (q : Row). (whole m).coef q x) ms r.row r.amount (number_at old.weights.items x) (number_at new.weights.items x) n stays has (adds.coefs x lt) (t.weights x lt) (ap (λ (zs : List ℤ). number_at zs x) weights ∙ adds.weights x lt);
+    }
+
+-- ## Raises in order
+
+pub none_all : (rs : List (Row × ℤ)) → raised_all same_row None rs ≡ None
 none_all [] = refl
 none_all (r ∷ rs) = refl
 
-alone : (o : Option (Multipliers Row)) → raised_all same_row o [] ≡ o
-alone None = refl
-alone (Some os) = refl
+module _ (m : Voyage) (raises : List Raise) (ms : Multipliers Row) where
+  -- the tally is that after the first so many raises
+  abbrev pub Halfway : ℕ → Tally → Type 0
+  Halfway i t = (os : Multipliers Row) × Tallies m os t × (raised_all same_row (Some ms) (map raise_of raises) ≡ raised_all same_row (Some os) (map raise_of (drop i raises)))
 
--- a raise on the way to somewhere keeps its row's multiplier in range
-raise_on : (os ns : Multipliers Row) (r : Raise) (rs : List Raise) → Leads os (r ∷ rs) ns → (n : ℕ) × (in_range (pos (amount_of same_row os r.row) +ℤ r.amount) ≡ Some n) × Leads (with_amount same_row os r.row n) rs ns
-raise_on os ns r rs h = by (in_range (pos (amount_of same_row os r.row) +ℤ r.amount)) refl
-  where
-    by : (o : Option ℕ) → in_range (pos (amount_of same_row os r.row) +ℤ r.amount) ≡ o → (n : ℕ) × (in_range (pos (amount_of same_row os r.row) +ℤ r.amount) ≡ Some n) × Leads (with_amount same_row os r.row n) rs ns
-    by (Some n) e = (n, e, sym (ap (λ (o : Option (Multipliers Row)). raised_all same_row o (map raise_of rs)) (raised_some os r.row r.amount n e)) ∙ h)
-    by None e =
-        let none : raised_all same_row None (map raise_of rs) ≡ Some ns = sym (ap (λ (o : Option (Multipliers Row)). raised_all same_row o (map raise_of rs)) (raised_none os r.row r.amount e)) ∙ h in
-        let bad : None ≡ Some ns = sym (none_all (map raise_of rs)) ∙ none in
-        absurd (let no : ⊥ = cc in no)
+  module _ (i : ℕ) (r : Raise) (lt : i < length raises) (here : r ≡ get_or raises i r) (old : Tally) (h : Halfway i old) where
+    next_is : raised_all same_row (Some ms) (map raise_of raises) ≡ raised_all same_row (raised same_row h.0 r.row r.amount) (map raise_of (drop (i + 1) raises))
+    next_is = h.2 ∙ ap (λ (rs : List Raise). raised_all same_row (Some h.0) (map raise_of rs)) (rest_cons raises i r lt here)
 
-pub named_at : (m : Voyage) (raises : List Raise) (k : ℕ) (r : Raise) → AreNamed m raises → k < length raises → r ≡ get_or raises k r → (whole m).has r.row ≡ true
-named_at m raises k r named lt is = here_all raises k r lt is (λ (x : Raise). (whole m).has x.row ≡ true) named
+    pub halfway_more : (new : Tally) → Follows m (raised same_row h.0 r.row r.amount) new true → Halfway (i + 1) new
+    halfway_more new f = (f.0, f.2, next_is ∙ ap (λ (o : Option (Multipliers Row)). raised_all same_row o (map raise_of (drop (i + 1) raises))) f.1)
 
-pub named_first : (m : Voyage) (raises : List Raise) (n : ℕ) → AreNamed m raises → AreNamed m (take n raises)
-named_first m raises n named = all_first (λ (x : Raise). (whole m).has x.row ≡ true) raises n named
+    pub stuck : raised same_row h.0 r.row r.amount ≡ None → raised_all same_row (Some ms) (map raise_of raises) ≡ None
+    stuck none = next_is ∙ (ap (λ (o : Option (Multipliers Row)). raised_all same_row o (map raise_of (drop (i + 1) raises))) none ∙ none_all (map raise_of (drop (i + 1) raises)))
 
-module _ (m : Voyage) (e : Record) (what : Counted) (raises : List Raise) where
-  -- some multipliers have the sum, and the raises from here on lead from them to these
-  abbrev pub Halfway : ℕ → ℤ → Multipliers Row → Type 0
-  Halfway i total ns = (os : Multipliers Row) × Sums m e what os total × Leads os (drop i raises) ns
+  pub all_the_way : (i : ℕ) (t : Tally) → length raises ≤ i → Halfway i t → Follows m (raised_all same_row (Some ms) (map raise_of raises)) t true
+  all_the_way i t le h = (h.0, h.2 ∙ ap (λ (rs : List Raise). raised_all same_row (Some h.0) (map raise_of rs)) (drop_all i raises le), h.1)
 
-  pub halfway_more : (i : ℕ) (r : Raise) (total result : ℤ) (ns : Multipliers Row) → i < length raises → r ≡ get_or raises i r → (whole m).has r.row ≡ true → unsigned_abs (counts m e what r.row) ≤ 2 ^ 37
-      → result ≡ total +ℤ r.amount *ℤ counts m e what r.row → Halfway i total ns → Halfway (i + 1) result ns
-  halfway_more i r total result ns lt here has small is h =
-      let next = raise_on h.0 ns r (drop (i + 1) raises) (subst (λ (rs : List Raise). Leads h.0 rs ns) (rest_cons raises i r lt here) h.2) in
-      (with_amount same_row h.0 r.row next.0, sum_more m e what h.0 r.row r.amount total result next.0 next.1 has small h.1 is, next.2)
+-- ## What the answer tells
 
-  pub all_the_way : (i : ℕ) (total : ℤ) (ns : Multipliers Row) → drop i raises ≡ [] → Halfway i total ns → Sums m e what ns total
-  all_the_way i total ns none h =
-      let here : Some h.0 ≡ Some ns = subst (λ (rs : List Raise). Leads h.0 rs ns) none h.2 in
-      let same : h.0 ≡ ns = cc in
-      subst (λ (os : Multipliers Row). Sums m e what os total) same h.1
+module _ (m : Voyage) (o : Option (Multipliers Row)) (t : Tally) where
+  pub kept : (b : Bool) → Follows m o t b → b ≡ true → (ns : Multipliers Row) × (o ≡ Some ns)
+  kept true f e = (f.0, f.1)
+  kept false f e = absurd (let no : ⊥ = cc in no)
 
--- ## The first raises of a record
+  pub keeps : (b : Bool) → Follows m o t b → (ns : Multipliers Row) × (o ≡ Some ns) → b ≡ true
+  keeps true f h = refl
+  keeps false f h = let bad : None ≡ Some h.0 = sym f ∙ h.1 in absurd (let no : ⊥ = cc in no)
 
-split_raised : (o : Option (Multipliers Row)) (us vs : List (Row × ℤ)) → raised_all same_row o (us ++ vs) ≡ raised_all same_row (raised_all same_row o us) vs
-split_raised None us vs = none_all (us ++ vs) ∙ sym (ap (λ (o : Option (Multipliers Row)). raised_all same_row o vs) (none_all us) ∙ none_all vs)
-split_raised (Some ms) [] vs = refl
-split_raised (Some ms) (u ∷ us) vs = split_raised (raised same_row ms u.0 u.1) us vs
-
-some_first : (o : Option (Multipliers Row)) (vs : List (Row × ℤ)) (ns : Multipliers Row) → raised_all same_row o vs ≡ Some ns → (os : Multipliers Row) × (o ≡ Some os)
-some_first (Some os) vs ns h = (os, refl)
-some_first None vs ns h = let bad : None ≡ Some ns = sym (none_all vs) ∙ h in absurd (let no : ⊥ = cc in no)
-
-take_drop : {A : Type 0} (xs : List A) (n : ℕ) → xs ≡ take n xs ++ drop n xs
-take_drop [] zero = refl
-take_drop [] (suc n) = refl
-take_drop (x ∷ xs) zero = refl
-take_drop (x ∷ xs) (suc n) = ap (λ (ys : List _). x ∷ ys) (take_drop xs n)
-
--- where all raises keep multipliers in range, the first ones do
-pub leads_first : (ms : Multipliers Row) (raises : List Raise) (n : ℕ) → LeadsOn ms raises → LeadsOn ms (take n raises)
-leads_first ms raises n h =
-    let parts : map raise_of raises ≡ map raise_of (take n raises) ++ map raise_of (drop n raises) = ap (map raise_of) (take_drop raises n) ∙ map-append raise_of (take n raises) (drop n raises) in
-    let led : raised_all same_row (raised_all same_row (Some ms) (map raise_of (take n raises))) (map raise_of (drop n raises)) ≡ Some h.0 =
-    sym (split_raised (Some ms) (map raise_of (take n raises)) (map raise_of (drop n raises))) ∙ (sym (ap (raised_all same_row (Some ms)) parts) ∙ h.1) in
-    some_first (raised_all same_row (Some ms) (map raise_of (take n raises))) (map raise_of (drop n raises)) h.0 led
-
-pub row_at : (raises : List Raise) (k : ℕ) (r : Raise) → k < length raises → r ≡ get_or raises k r → row_in raises k ≡ r.row
-row_at raises k r lt is = ap (λ (x : Raise). x.row) (default_any raises k no_raise r lt ∙ sym is)
-
-module _ (m : Voyage) (e : Record) (ms : Multipliers Row) (k : ℕ) (r : Raise) (lt : k < length e.raises) (is : r ≡ get_or e.raises k r) (leads : LeadsOn ms (take k e.raises)) where
-  next_is : raised_all same_row (Some ms) (map raise_of (take (k + 1) e.raises)) ≡ raised same_row leads.0 r.row r.amount
-  next_is =
-      ap (λ (rs : List Raise). raised_all same_row (Some ms) (map raise_of rs)) (take_more e.raises k r lt is)
-      ∙ (ap (raised_all same_row (Some ms)) (map-append raise_of (take k e.raises) (r ∷ []))
-      ∙ (split_raised (Some ms) (map raise_of (take k e.raises)) (map raise_of (r ∷ [])) ∙ (ap (λ (o : Option (Multipliers Row)). raised_all same_row o (map raise_of (r ∷ []))) leads.1 ∙ alone (raised same_row leads.0 r.row r.amount))))
-
-  row_is : row_in e.raises k ≡ r.row
-  row_is = row_at e.raises k r lt is
-
-  -- the sum that counts the raise's row is its multiplier
-  module _ (amount : ℤ) (sums : Sums m e (Multiplier k) leads.0 amount) where
-    amount_is : amount ≡ pos (amount_of same_row leads.0 r.row)
-    amount_is = sums.total ∙ (row_sum m leads.0 (row_in e.raises k) (are_multipliers m e (Multiplier k) leads.0 sums.low) ∙ ap (λ (q : Row). pos (amount_of same_row leads.0 q)) row_is)
-
-    sum_is : in_range (amount +ℤ r.amount) ≡ in_range (pos (amount_of same_row leads.0 r.row) +ℤ r.amount)
-    sum_is = ap (λ (z : ℤ). in_range (z +ℤ r.amount)) amount_is
-
-    pub stays : IsSomeNumber (in_range (amount +ℤ r.amount)) → LeadsOn ms (take (k + 1) e.raises)
-    stays h = (with_amount same_row leads.0 r.row h.0, next_is ∙ raised_some leads.0 r.row r.amount h.0 (sym sum_is ∙ h.1))
-
-    pub stayed : LeadsOn ms (take (k + 1) e.raises) → IsSomeNumber (in_range (amount +ℤ r.amount))
-    stayed h = by (in_range (pos (amount_of same_row leads.0 r.row) +ℤ r.amount)) refl
-      where
-        by : (o : Option ℕ) → in_range (pos (amount_of same_row leads.0 r.row) +ℤ r.amount) ≡ o → IsSomeNumber (in_range (amount +ℤ r.amount))
-        by (Some n) same = (n, sum_is ∙ same)
-        by None same =
-            let bad : None ≡ Some h.0 = sym (raised_none leads.0 r.row r.amount same) ∙ (sym next_is ∙ h.1) in
-            absurd (let no : ⊥ = cc in no)
+  pub led : (b : Bool) (ns : Multipliers Row) → Follows m o t b → o ≡ Some ns → Tallies m ns t
+  led true ns f e = subst (λ (os : Multipliers Row). Tallies m os t) (same_Some f.0 ns (sym f.1 ∙ e)) f.2
+  led false ns f e = let bad : None ≡ Some ns = sym f ∙ e in absurd (let no : ⊥ = cc in no)

@@ -17,8 +17,8 @@ use Rattle.search_events.specs.declared.nodes.Step.{Step}
 use Rattle.search_events.specs.Nodes.{value_of, entry_in, along}
 use Rattle.search_events.proofs.Ways.{entry_on, taken}
 use Rattle.program_rows.specs.Counted.{base_rows}
-use Rattle.record_judge.specs.declared.counted.Counted.{Counted}
-use Rattle.record_judge.specs.Counting.{AreNamed, Leads, Sums}
+use Rattle.record_judge.specs.declared.tally.Tally.{Tally}
+use Rattle.record_judge.specs.Counting.{AreNamed, Leads, Tallies}
 use Rattle.record_judge.specs.Standing.{standing, IsWay}
 use Rattle.record_judge.proofs.Listed.{here_all, default_any, all_map}
 
@@ -100,8 +100,8 @@ module _ (m : Voyage) (ended : List (Done Record)) (way : List Step) (w : IsWay 
   pub whole_way : (k : ℕ) → length way ≤ k → standing m ended (take k way) ≡ standing m ended way
   whole_way k le = ap (standing m ended) (taken way k le)
 
-  pub sums_whole : (k : ℕ) → length way ≤ k → (e : Record) (what : Counted) (sum : ℤ) → Sums m e what (standing m ended (take k way)).multipliers sum → Sums m e what (standing m ended way).multipliers sum
-  sums_whole k le e what sum h = subst (λ (q : Pending Row). Sums m e what q.multipliers sum) (whole_way k le) h
+  pub tallies_whole : (k : ℕ) → length way ≤ k → (t : Tally) → Tallies m (standing m ended (take k way)).multipliers t → Tallies m (standing m ended way).multipliers t
+  tallies_whole k le t h = subst (λ (q : Pending Row). Tallies m q.multipliers t) (whole_way k le) h
 
   pub length_there : length (standing m ended way).box ≡ length (variables m)
   length_there = (begins_sound same_row (whole m) (base_rows m) (along m ended way) w.trail).0

@@ -24,12 +24,12 @@ module _ (m : Voyage) where
   -- the desk is ready, and the way leads by records of ended nodes, which are a trail
   pub record IsAt (d : Desk) (ended : List (Done Record)) (way : List Step) : Type 0 where
     pub ready : IsReady d
-    pub way : IsWay m ended way
+    pub leads : IsWay m ended way
 
   -- the desk is ready, there is room for the way to the node, and the key and the ended nodes tell a node with a trail
   pub record IsTold (d : Desk) (room : ℕ) (ended : List (Done Record)) (node : NodeKey) : Type 0 where
     pub ready : IsReady d
-    pub room : length ended ≤ room
+    pub enough : length ended ≤ room
     pub earlier : NameEarlier ended
     pub named : InTable (length ended) node
     pub trail : HasTrail m (node_at m ended node)

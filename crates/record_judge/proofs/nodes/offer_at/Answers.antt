@@ -7,9 +7,11 @@ use Rattle.search_events.specs.Judging.{JudgesOffer}
 use Rattle.record_judge.proofs.Judged.{is_way, at_end}
 use Rattle.record_judge.proofs.nodes.offer_at.Goals as goal
 
-pub offer-requires-clause-way : goal.offer-requires-clause-way
-offer-requires-clause-way c =
-    is_way c.args.model.now c.args.ended.now c.lead_to.new.way.items c.as_slice.result.now (node_at c.args.model.now c.args.ended.now c.args.node) c.as_slice.ensures.value (c.lead_to.ensures.way c.args.model.now) c.requires.earlier c.lead_to.ensures.inside c.requires.trail
+pub offer-requires : goal.offer-requires
+offer-requires c = record {
+  ready = c.requires.ready;
+  leads = is_way c.args.model.now c.args.ended.now c.lead_to.new.way.items c.as_slice.result.now (node_at c.args.model.now c.args.ended.now c.args.node) c.as_slice.ensures.value (c.lead_to.ensures.way c.args.model.now) c.requires.earlier c.lead_to.ensures.inside c.requires.trail;
+}
 
 pub returns-clause-judged : goal.returns-clause-judged
 returns-clause-judged c =

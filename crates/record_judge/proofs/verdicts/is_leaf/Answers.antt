@@ -4,8 +4,8 @@ use Rattle.record_judge.proofs.Listed.{never}
 use Rattle.record_judge.proofs.Halves.{no_leaf}
 use Rattle.record_judge.proofs.verdicts.is_leaf.Goals as goal
 
-pub returns-in-Leaf : goal.returns-in-Leaf
-returns-in-Leaf c = (λ k. (c.is_record.ensures.0 k, ap (end_of (number_of c.args.model.now)) c.in-Leaf.is), λ r. c.is_record.ensures.1 r.0)
+pub returns-in-Leaf-clause-is : goal.returns-in-Leaf-clause-is
+returns-in-Leaf-clause-is c = (λ k. (c.is_record.ensures.is.0 k, ap (end_of (number_of c.args.model.now)) c.in-Leaf.is), λ r. c.is_record.ensures.is.1 r.0)
 
-pub returns-in-Left : goal.returns-in-Left
-returns-in-Left c = (λ h. absurd (never false refl h), λ r. absurd (no_leaf c.args.model.now c.args.entry.now.end c.in-Left.is r.1))
+pub returns-in-Left-clause-is : goal.returns-in-Left-clause-is
+returns-in-Left-clause-is c = (λ h. absurd (never false refl h), λ r. absurd (no_leaf c.args.model.now c.args.entry.now.end c.in-Left.is r.1))

@@ -11,19 +11,12 @@ use Rattle.record_judge.specs.Standing.{begun_there}
 use Rattle.record_judge.proofs.Listed.{take_all}
 use Rattle.record_judge.proofs.worth.part_of.Goals as goal
 
-pub sum_after-weighed-requires-clause-leads : goal.sum_after-weighed-requires-clause-leads
-sum_after-weighed-requires-clause-leads c = subst (λ (rs : List Raise). LeadsOn (begun_there c.args.model.now c.args.ended.now c.args.way.now c.args.entry.now) rs) (sym (take_all c.args.entry.now.raises c.len-raises.result c.len-raises.ensures)) c.requires.leads
-
 pub returns-clause-value : goal.returns-clause-value
-returns-clause-value c = λ ns leads.
-    let w : SFits w128 c.sum_after-weighed.result = search rules in
+returns-clause-value c =
+    let w : SFits w128 c.args.weighed = search rules in
     let d : SFits w128 c.reduced_cost.result = search rules in
     let f : SFits w128 c.least_of.result = search rules in
     let o : at c.args.b.now c.args.x ≡ c.at.result = get_or_from_slice_get c.args.b.now c.args.x c.at.result None c.at.ensures in
-    let led : Leads (begun_there c.args.model.now c.args.ended.now c.args.way.now c.args.entry.now) (take c.len-raises.result c.args.entry.now.raises) ns =
-    subst (λ (rs : List Raise). Leads (begun_there c.args.model.now c.args.ended.now c.args.way.now c.args.entry.now) rs ns) (sym (take_all c.args.entry.now.raises c.len-raises.result c.len-raises.ensures)) leads in
-    let sums = c.sum_after-weighed.ensures.sums ns led in
-    let total : c.sum_after-weighed.result ≡ weighed (whole c.args.model.now) ns c.args.x = sums.total in
-    let reduced : c.reduced_cost.result ≡ pos 16 *ℤ pos c.cost.result -ℤ c.sum_after-weighed.result = simp to_z-of_z at c.reduced_cost.ensures.value in
+    let reduced : c.reduced_cost.result ≡ pos 16 *ℤ pos c.cost.result -ℤ c.args.weighed = simp to_z-of_z at c.reduced_cost.ensures.value in
     let v : c.least_of.result ≡ least c.at.result c.reduced_cost.result = simp to_z-of_z at c.least_of.ensures.value in
-    simp to_z-of_z (v ∙ (ap (λ (p : Option Bool). least p c.reduced_cost.result) (sym o) ∙ ap (λ (z : ℤ). least (at c.args.b.now c.args.x) z) (reduced ∙ (ap (λ (z : ℤ). pos 16 *ℤ z -ℤ c.sum_after-weighed.result) c.cost.ensures.value ∙ ap (λ (z : ℤ). pos 16 *ℤ (whole c.args.model.now).cost c.args.x -ℤ z) total))))
+    simp to_z-of_z (v ∙ (ap (λ (p : Option Bool). least p c.reduced_cost.result) (sym o) ∙ ap (λ (z : ℤ). least (at c.args.b.now c.args.x) z) (reduced ∙ ap (λ (z : ℤ). pos 16 *ℤ z -ℤ c.args.weighed) c.cost.ensures.value)))

@@ -2,7 +2,7 @@ use Rattle.std.proofs.Common.{refl, SFits, w64, ◌+ℤ◌, ◌*ℤ◌}
 use Rattle.std.specs.Int.{w128}
 use Rattle.std.proofs.lemmas.Int.{to_z-of_z}
 use Rattle.record_judge.proofs.Totals.{wider, product_fits, grown_fits}
-use Rattle.record_judge.proofs.sums.grown.Goals as goal
+use Rattle.record_judge.proofs.tally.grown.Goals as goal
 
 pub overflow_add-result : goal.overflow_add-result
 overflow_add-result c =
