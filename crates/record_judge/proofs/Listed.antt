@@ -1,5 +1,5 @@
 -- What a list holds at a place, before it and from there.
-use Rattle.std.proofs.Common.{◌≡◌, Bool, true, false, ℕ, zero, suc, ◌+◌, ◌<◌, List, [], ◌∷◌, ◌++◌, All, map, take, drop, length, get_or, refl, sym, subst, ◌∙◌, ap, add-one, arith}
+use Rattle.std.proofs.Common.{◌≡◌, Bool, true, false, ℕ, zero, suc, ◌+◌, ◌<◌, List, [], ◌∷◌, All, map, take, drop, length, get_or, refl, sym, subst, ◌∙◌, ap, add-one, arith}
 use Rattle.std.proofs.Math.Seq.{drop-cons}
 use Rattle.std.proofs.lemmas.List.{get_or-map, length-map}
 use Rattle.std.proofs.lemmas.List.Elements.{All-cons, All-nil}
@@ -10,14 +10,6 @@ module _ {A : Type 0} (xs : List A) (k : ℕ) (x : A) (lt : k < length xs) (is :
 
   pub here_all : (P : A → Type 0) → All P xs → P x
   here_all P h = subst P (sym is) (h k x lt)
-
-take_suc : {A : Type 0} (xs : List A) (k : ℕ) (x : A) → k < length xs → x ≡ get_or xs k x → take (suc k) xs ≡ take k xs ++ x ∷ []
-take_suc [] k x lt is = absurd (omega arith)
-take_suc (y ∷ xs) zero x lt is = ap (λ (z : _). z ∷ []) (sym is)
-take_suc (y ∷ xs) (suc k) x lt is = ap (λ (zs : List _). y ∷ zs) (take_suc xs k x (omega arith) is)
-
-pub take_more : {A : Type 0} (xs : List A) (k : ℕ) (x : A) → k < length xs → x ≡ get_or xs k x → take (k + 1) xs ≡ take k xs ++ x ∷ []
-take_more xs k x lt is = rw add-one (take_suc xs k x lt is)
 
 -- what lies inside doesn't depend on what stands for nothing
 pub default_any : {A : Type 0} (xs : List A) (k : ℕ) (d e : A) → k < length xs → get_or xs k d ≡ get_or xs k e
@@ -31,12 +23,6 @@ all_map f P xs h = λ k d lt. subst P (get_or-map f xs k d (f d) lt) (h k (f d) 
 pub all_mapped : {A B : Type 0} (f : A → B) (P : B → Type 0) (xs : List A) → All (λ x. P (f x)) xs → All P (map f xs)
 all_mapped f P [] h = All-nil P
 all_mapped f P (x ∷ xs) h = All-cons P (f x) (map f xs) (h zero x (omega arith)) (all_mapped f P xs (λ k d lt. h (suc k) d (omega arith)))
-
-pub all_first : {A : Type 0} (P : A → Type 0) (xs : List A) (n : ℕ) → All P xs → All P (take n xs)
-all_first P [] zero h = All-nil P
-all_first P [] (suc n) h = All-nil P
-all_first P (x ∷ xs) zero h = All-nil P
-all_first P (x ∷ xs) (suc n) h = All-cons P x (take n xs) (h zero x (omega arith)) (all_first P xs n (λ k d lt. h (suc k) d (omega arith)))
 
 take_length : {A : Type 0} (xs : List A) → take (length xs) xs ≡ xs
 take_length [] = refl

@@ -1,10 +1,10 @@
 -- Raises, one after the other.
-use Rattle.std.proofs.Common.{◌≡◌, ◌≢◌, ℕ, ◌+◌, ◌<◌, ◌≤◌, ◌^◌, ◌⊎◌, inl, inr, Bool, true, false, cond, List, [], ◌∷◌, map, drop, take, ◌++◌, set, length, get_or, length-set, Option, Some, None, ℤ, pos, ◌+ℤ◌, ◌*ℤ◌, arith, refl, sym, ◌∙◌, ap, subst}
+use Rattle.std.proofs.Common.{◌≡◌, ◌≢◌, ℕ, ◌<◌, ◌≤◌, ◌^◌, ◌⊎◌, inl, inr, Bool, true, false, cond, List, [], ◌∷◌, map, drop, take, ◌++◌, set, length, get_or, length-set, Option, Some, None, ℤ, pos, ◌+ℤ◌, ◌*ℤ◌, arith, refl, sym, ◌∙◌, ap, subst}
 use Rattle.std.specs.Prelude.{slice_get}
 use Rattle.std.specs.Int.RustNames.{unsigned_abs}
 use Rattle.std.proofs.lemmas.Bool.{cases_lt}
 use Rattle.std.proofs.lemmas.List.{append-nil, drop_all}
-use Rattle.std.proofs.lemmas.Option.{slice_get_within, slice_get-get_or, get_or_from_slice_get, same_Some}
+use Rattle.std.proofs.lemmas.Option.{slice_get_within, same_Some}
 use Rattle.stow_data.proofs.CoverLemmas.{get_set_same, get_set_other}
 use Rattle.zero_one_rows.specs.declared.program.Row.{Row}
 use Rattle.zero_one_rows.specs.declared.program.Raise.{Raise}
@@ -13,17 +13,17 @@ use Rattle.zero_one_rows.specs.Rows.{whole}
 use Rattle.program_rows.specs.Counted.{all_rows}
 use Rattle.program_rows.proofs.Found.{in_order, not_itself}
 use Rattle.program_rows.proofs.InOrder.{rows_rise}
-use Rattle.proof_trees.specs.Multipliers.{Multipliers, amount_of, with_amount, raised, raised_all}
+use Rattle.proof_trees.specs.Multipliers.{Multipliers, amount_of, with_amount, raised_all}
 use Rattle.certificate.specs.Entries.{same_row, raise_of}
 use Rattle.certificate.proofs.RowsAlike.{same_equal, same_itself}
 use Rattle.dual_bound.specs.Adding.{in_range}
 use Rattle.dual_bound.specs.Costs.{number_at}
-use Rattle.dual_bound.proofs.Multiplied.{amount_low, raised_some, raised_none}
+use Rattle.dual_bound.proofs.Multiplied.{amount_low}
 use Rattle.dual_bound.proofs.Summing.{same_or_other}
 use Rattle.record_judge.specs.declared.tally.Tally.{Tally}
-use Rattle.record_judge.specs.Counting.{AreNamed, IsSum, IsSized, Tallies, TalliesSome, Follows, AddsTo}
-use Rattle.record_judge.proofs.Listed.{rest_cons, default_any, take_all}
-use Rattle.record_judge.proofs.Totals.{are_multipliers, sum_none, sum_low, sum_more}
+use Rattle.record_judge.specs.Counting.{Tallies, Follows, AddsTo}
+use Rattle.record_judge.proofs.Listed.{default_any, take_all}
+use Rattle.record_judge.proofs.Totals.{are_multipliers, sum_low, sum_more}
 
 -- ## One multiplier changed
 
@@ -127,27 +127,10 @@ raised_tally m ms r old mid new k n at_k has stays adds amounts amounts' right w
 
 -- ## Raises in order
 
-pub none_all : (rs : List (Row × ℤ)) → raised_all same_row None rs ≡ None
-none_all [] = refl
-none_all (r ∷ rs) = refl
-
 module _ (m : Voyage) (raises : List Raise) (ms : Multipliers Row) where
   -- the tally is that after the first so many raises
   abbrev pub Halfway : ℕ → Tally → Type 0
   Halfway i t = (os : Multipliers Row) × Tallies m os t × (raised_all same_row (Some ms) (map raise_of raises) ≡ raised_all same_row (Some os) (map raise_of (drop i raises)))
-
-  module _ (i : ℕ) (r : Raise) (lt : i < length raises) (here : r ≡ get_or raises i r) (old : Tally) (h : Halfway i old) where
-    next_is : raised_all same_row (Some ms) (map raise_of raises) ≡ raised_all same_row (raised same_row h.0 r.row r.amount) (map raise_of (drop (i + 1) raises))
-    next_is = h.2 ∙ ap (λ (rs : List Raise). raised_all same_row (Some h.0) (map raise_of rs)) (rest_cons raises i r lt here)
-
-    pub halfway_more : (new : Tally) → Follows m (raised same_row h.0 r.row r.amount) new true → Halfway (i + 1) new
-    halfway_more new f = (f.0, f.2, next_is ∙ ap (λ (o : Option (Multipliers Row)). raised_all same_row o (map raise_of (drop (i + 1) raises))) f.1)
-
-    pub stuck : raised same_row h.0 r.row r.amount ≡ None → raised_all same_row (Some ms) (map raise_of raises) ≡ None
-    stuck none = next_is ∙ (ap (λ (o : Option (Multipliers Row)). raised_all same_row o (map raise_of (drop (i + 1) raises))) none ∙ none_all (map raise_of (drop (i + 1) raises)))
-
-  pub all_the_way : (i : ℕ) (t : Tally) → length raises ≤ i → Halfway i t → Follows m (raised_all same_row (Some ms) (map raise_of raises)) t true
-  all_the_way i t le h = (h.0, h.2 ∙ ap (λ (rs : List Raise). raised_all same_row (Some h.0) (map raise_of rs)) (drop_all i raises le), h.1)
 
 -- ## What the answer tells
 

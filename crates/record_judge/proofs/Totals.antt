@@ -4,7 +4,6 @@ use Rattle.std.specs.Int.{w128}
 use Rattle.std.specs.Int.RustNames.{unsigned_abs}
 use lib.Signed.{lt_z, lt_z_no}
 use Rattle.std.proofs.lemmas.Int.{fits_signed_from_abs}
-use borrow.Author.Differences.{ints}
 use Rattle.zero_one_rows.specs.declared.program.Row.{Row}
 use Rattle.zero_one_rows.specs.Variables.{Voyage}
 use Rattle.zero_one_rows.specs.Rows.{whole}

@@ -1,4 +1,4 @@
-use Rattle.std.proofs.Common.{◌≡◌, Option, Some, map, refl, false}
+use Rattle.std.proofs.Common.{Option, Some, map, refl, false}
 use Rattle.zero_one_rows.specs.declared.program.Row.{Row}
 use Rattle.proof_trees.specs.Multipliers.{Multipliers, raised_all}
 use Rattle.certificate.specs.Entries.{same_row, raise_of}

@@ -1,14 +1,9 @@
-use Rattle.std.proofs.Common.{rules, ◌≡◌, SFits, ℤ, List, Option, Bool, None, take, sym, subst, ◌∙◌, ap, pos, ◌-ℤ◌, ◌*ℤ◌}
+use Rattle.std.proofs.Common.{rules, ◌≡◌, SFits, ℤ, Option, Bool, None, sym, ◌∙◌, ap, pos, ◌-ℤ◌, ◌*ℤ◌}
 use Rattle.std.specs.Int.{w128}
 use Rattle.std.proofs.lemmas.Int.{to_z-of_z}
 use Rattle.std.proofs.lemmas.Option.{get_or_from_slice_get}
-use Rattle.zero_one_rows.specs.declared.program.Raise.{Raise}
-use Rattle.zero_one_rows.specs.Rows.{whole}
 use Rattle.proof_trees.specs.Boxes.{at}
-use Rattle.proof_trees.specs.Multipliers.{least, weighed}
-use Rattle.record_judge.specs.Counting.{Leads, LeadsOn}
-use Rattle.record_judge.specs.Standing.{begun_there}
-use Rattle.record_judge.proofs.Listed.{take_all}
+use Rattle.proof_trees.specs.Multipliers.{least}
 use Rattle.record_judge.proofs.worth.part_of.Goals as goal
 
 pub returns-clause-value : goal.returns-clause-value

@@ -1,4 +1,4 @@
-use Rattle.std.proofs.Common.{◌≡◌, ℕ, List, length, replicate, map, refl, ◌∙◌, ap, rules}
+use Rattle.std.proofs.Common.{◌≡◌, replicate, map, refl, ◌∙◌, ap, rules}
 use Rattle.record_judge.specs.declared.amounts.Stamped.{Stamped}
 use Rattle.record_judge.specs.Rounds.{amount_in}
 use Rattle.record_judge.proofs.Rounds.{none_set}

@@ -1,4 +1,4 @@
-use Rattle.std.proofs.Common.{arith, ◌≡◌, ◌<◌, take, length, get_or, map, Some, subst}
+use Rattle.std.proofs.Common.{◌≡◌, ◌<◌, take, length, get_or, map, Some, subst}
 use Rattle.zero_one_rows.specs.declared.program.Row.{Row}
 use Rattle.proof_trees.specs.Multipliers.{Multipliers, raised_all}
 use Rattle.proof_trees.specs.Trees.{begun}
