@@ -6,15 +6,12 @@ ghost use Rattle.certificate.specs.Entries.{entry_of, end_of, number_of};
 ghost use Rattle.search_machine.specs.Machine.{Divides};
 ghost use Rattle.search_events.specs.Judging.{IsRecord, IsLeaf, IsBranch, JudgesClose, JudgesBranch, JudgesOffer};
 ghost use Rattle.search_events.specs.Nodes.{along};
-ghost use Rattle.record_judge.specs.Counting.{IsSized};
 ghost use Rattle.record_judge.specs.Desks.{IsReady, IsAt, TalliesAfter};
-ghost use Rattle.record_judge.specs.Standing.{IsWay};
 
 use crate::boxes::stand_after;
 use crate::desk::Desk;
 use crate::full::{is_full, price};
 use crate::naming::names_rows;
-use crate::tally::Tally;
 use crate::worth::dual_value;
 use certificate::{End, Record};
 use search_events::{Done, Refused, Step};
@@ -24,40 +21,38 @@ use zero_one_model::{Box01, Model};
 // Whether a record names rows of the program and keeps multipliers in range.
 fn is_record(
     model: &Model,
-    tally: &mut Tally,
+    desk: &mut Desk,
     ended: &[Done<Record>],
     way: &[Step],
     entry: &Record,
 ) -> bool
-    requires sized { IsSized model.now tally.old }
-    requires way { IsWay model.now ended.now way.now }
-    ensures sized { IsSized model.now tally.new }
+    requires { IsAt model.now desk.old ended.now way.now }
+    ensures ready { IsReady model.now desk.new }
     ensures is { IsTrue result ↔ IsRecord model.now (along model.now ended.now way.now) (entry_of model.now entry.now) }
-    ensures tallies { result ≡ true → TalliesAfter model.now ended.now way.now entry.now tally.new }
+    ensures tallies { result ≡ true → TalliesAfter model.now ended.now way.now entry.now desk.new.tally }
 {
     if !names_rows(model, entry) {
         return false;
     }
-    tally.stand_at(model, ended, way);
-    tally.follow(model, entry)
+    desk.tally.stand_at(model, ended, way);
+    desk.tally.follow(model, entry)
 }
 
 // Whether it is a leaf besides.
 fn is_leaf(
     model: &Model,
-    tally: &mut Tally,
+    desk: &mut Desk,
     ended: &[Done<Record>],
     way: &[Step],
     entry: &Record,
 ) -> bool
-    requires sized { IsSized model.now tally.old }
-    requires way { IsWay model.now ended.now way.now }
-    ensures sized { IsSized model.now tally.new }
+    requires { IsAt model.now desk.old ended.now way.now }
+    ensures ready { IsReady model.now desk.new }
     ensures is { IsTrue result ↔ IsLeaf model.now (along model.now ended.now way.now) (entry_of model.now entry.now) }
-    ensures tallies { result ≡ true → TalliesAfter model.now ended.now way.now entry.now tally.new }
+    ensures tallies { result ≡ true → TalliesAfter model.now ended.now way.now entry.now desk.new.tally }
 {
     match entry.end {
-        End::Leaf => is_record(model, tally, ended, way, entry),
+        End::Leaf => is_record(model, desk, ended, way, entry),
         End::Left | End::Branch(_) => false,
     }
 }
@@ -65,18 +60,17 @@ fn is_leaf(
 // Whether it is a branch besides.
 fn is_branch(
     model: &Model,
-    tally: &mut Tally,
+    desk: &mut Desk,
     ended: &[Done<Record>],
     way: &[Step],
     entry: &Record,
 ) -> bool
-    requires sized { IsSized model.now tally.old }
-    requires way { IsWay model.now ended.now way.now }
-    ensures sized { IsSized model.now tally.new }
+    requires { IsAt model.now desk.old ended.now way.now }
+    ensures ready { IsReady model.now desk.new }
     ensures is { IsTrue result ↔ IsBranch model.now (along model.now ended.now way.now) (entry_of model.now entry.now) }
 {
     match entry.end {
-        End::Branch(_) => is_record(model, tally, ended, way, entry),
+        End::Branch(_) => is_record(model, desk, ended, way, entry),
         End::Leaf | End::Left => false,
     }
 }
@@ -126,7 +120,7 @@ pub fn close(
     ensures ready { IsReady model.now desk.new }
     ensures judged { JudgesClose model.now (along model.now ended.now way.now) (entry_of model.now entry.now) seen result }
 {
-    if !is_leaf(model, &mut desk.tally, ended, way, entry) {
+    if !is_leaf(model, desk, ended, way, entry) {
         return Err(Refused::BadEntry);
     }
     stand_after(model, &mut desk.b, ended, way, entry);
@@ -150,7 +144,7 @@ pub fn branch(
     ensures ready { IsReady model.now desk.new }
     ensures judged { JudgesBranch model.now (along model.now ended.now way.now) (entry_of model.now entry.now) result }
 {
-    if !is_branch(model, &mut desk.tally, ended, way, entry) {
+    if !is_branch(model, desk, ended, way, entry) {
         return Err(Refused::BadEntry);
     }
     stand_after(model, &mut desk.b, ended, way, entry);
@@ -172,7 +166,7 @@ pub fn offer(
     ensures ready { IsReady model.now desk.new }
     ensures judged { JudgesOffer model.now (along model.now ended.now way.now) (entry_of model.now entry.now) result }
 {
-    if !is_leaf(model, &mut desk.tally, ended, way, entry) {
+    if !is_leaf(model, desk, ended, way, entry) {
         return Err(Refused::BadEntry);
     }
     stand_after(model, &mut desk.b, ended, way, entry);
