@@ -1,5 +1,5 @@
 -- A tree in preorder, record by record.
-use Rattle.std.proofs.Common.{◌≡◌, ◌≢◌, ℕ, zero, suc, ◌+◌, ◌<◌, ◌≤◌, ◌⊎◌, inl, inr, Bool, true, false, ◌&&◌, cond, nat_lt, List, [], ◌∷◌, ◌++◌, length, take, drop, map, get_or, Option, Some, None, Result, Ok, Err, All, arith, append-nil, refl, sym, ◌∙◌, ap, subst}
+use Rattle.std.proofs.Common.{◌≡◌, ◌≢◌, ℕ, zero, suc, ◌+◌, ◌<◌, ◌≤◌, ◌⊎◌, inl, inr, Bool, true, false, ◌&&◌, ◌==◌, cond, nat_lt, List, [], ◌∷◌, ◌++◌, length, take, drop, map, get_or, Option, Some, None, Result, Ok, Err, All, arith, append-nil, refl, sym, ◌∙◌, ap, subst}
 use Rattle.std.specs.Prelude.{IfSome, reverse}
 use Rattle.std.specs.Option.{is_none, is_some, option_or}
 use Rattle.std.proofs.lemmas.Bool.Decides.{nat_tests}
@@ -214,6 +214,10 @@ pub some_of : {X : Type 0} (o : Option X) → is_some o ≡ true → (x : X) × 
 some_of None h = absurd (grind arith)
 some_of (Some x) h = (x, refl)
 
+pub empty_of : {X : Type 0} (xs : List X) → (length xs == 0) ≡ true → xs ≡ []
+empty_of [] h = refl
+empty_of (x ∷ xs) h = absurd (grind (arith, nat_tests))
+
 take_twice : {X : Type 0} (n : ℕ) (xs : List X) → take n (take n xs) ≡ take n xs
 take_twice zero xs = refl
 take_twice (suc n) [] = refl
@@ -387,6 +391,23 @@ module _ (m : Voyage) (w : Walk) (all : List Frame) (q : Pending Row) (qs : List
     sound = rw changes stands.sound;
     waits = rw (box, undo, changes) stands.waits;
   }
+
+  -- what was changed need not be taken back where no box waits
+  pub forgotten : (v : Walk) → StandsWith m w all q qs → all ≡ [] → v.b ≡ w.b → v.undo ≡ w.undo → v.priced ≡ w.priced → v.prices.changes.items ≡ [] → v.done ≡ w.done → v.prices.sums ≡ w.prices.sums → StandsWith m v all q qs
+  forgotten v stands none box undo priced changes done sums = record {
+    in_hand = done ∙ stands.in_hand;
+    box = stands.box ∙ sym box;
+    len = ap (λ (x : Box). length x) box ∙ stands.len;
+    inside = rw (box, undo) stands.inside;
+    priced = priced ∙ stands.priced ∙ sym box;
+    carries = rw (box, sums) stands.carries;
+    sound = rw changes (All-nil (IsSound m));
+    waits = rw none (by qs (subst (λ (fs : List Frame). AllWait m w.b w.undo q.multipliers w.prices.changes.items (reverse fs) qs) none stands.waits));
+  }
+    where
+      by : (rs : List (Pending Row)) → AllWait m w.b w.undo q.multipliers w.prices.changes.items [] rs → AllWait m v.b v.undo q.multipliers v.prices.changes.items [] rs
+      by [] h = tt
+      by (r ∷ rs) h = absurd h
 
   pub tightened_stands : (v : Walk) (steps : List Row) → StandsWith m w all q qs → w.frames.items ≡ all → Tightens m w steps v → Stands m v (record { box = tightened (whole m) q.box steps; multipliers = q.multipliers }) qs
   tightened_stands v steps stands is t =

@@ -343,6 +343,15 @@ impl<'a> Walk<'a> {
         }
     }
 
+    // Where no box waits, nothing that was changed is to be taken back.
+    fn forget(&mut self)
+        ensures { (m : Voyage) (q : Pending Rows) (qs : List (Pending Rows)) → Stands m self.old q qs → Stands m self.new q qs }
+    {
+        if self.frames.as_slice().is_empty() {
+            self.prices.changes.clear();
+        }
+    }
+
     // A record's steps and raises.
     fn open(
         &mut self,
@@ -354,6 +363,7 @@ impl<'a> Walk<'a> {
         requires stands { StandsSome model.now self.old }
         ensures { (q : Pending Rows) (qs : List (Pending Rows)) → Stands model.now self.old q qs → Opens model.now node q qs (entry_of model.now entry.now) result self.new }
     {
+        self.forget();
         let steps = entry.steps.as_slice();
         self.tighten(alloc, model, steps, node)?;
         self.begin(alloc, model, entry.from_zero)?;
