@@ -91,6 +91,7 @@ def write_short(name, variables):
             # as many levels begin here as the number of this last half ends in zeros
             begun = len(levels) - 1 if half == 0 else (half & -half).bit_length() - 1
             file.write("".join(levels[len(levels) - 1 - begun : -1]) + last)
+        file.write("end\n")
 
 def write_zero(name, variables, rows):
     """The root raises these rows, and each leaf is from zero."""
