@@ -3,7 +3,8 @@
 #   feeder: sixteen stacks of six tiers, six calls, 120 containers: 4,609 records over 2,304 variables, each half of value 1 a leaf;
 #   deep:   a ship of one kind that sails twelve calls: 100,321 records over 50,160 variables, and 1,003,185 over 125,400;
 #           each half of value 1 is a leaf, or is divided again by the next two variables;
-#   short:  the same ship, all halves of 19 variables, whose numbers have one digit: 1,048,575 records, the shortest that a tree can have;
+#   short:  the same ship, all halves of 19 variables, whose numbers have one digit: 1,048,575 records, the shortest that a tree can have,
+#           and the same with a step, and with a raise, in each record;
 #   zero:   the feeder, whose root raises 960 rows and all of whose 2,305 leaves are from zero;
 #   made:   the ship of `stow make 1`, with steps and raises by rows of five families: 64 MB, or as many as the first word says.
 # Aims: the feeder in at most 1 s, also where its leaves are from zero, the deep trees linear in their records, the made ship in at most
@@ -81,12 +82,12 @@ def write_wide(name, variables):
             file.write(f"n 0\n{divided(variable)}n 0\n{first}{half}{half}")
         file.write("n 0\nl\nend\n")
 
-def write_short(name, variables):
-    """All halves of the variables."""
+def write_short(name, variables, lines):
+    """All halves of the variables, with these lines in each record."""
     with open(name + ".cert", "w") as file:
         file.write(head(2 ** (len(variables) + 1) - 1))
-        levels = [f"n 0\n{divided(variable)}" for variable in variables]
-        last = levels[-1] + 2 * "n 0\nl\n"
+        levels = [f"n 0\n{lines}{divided(variable)}" for variable in variables]
+        last = levels[-1] + 2 * f"n 0\n{lines}l\n"
         for half in range(2 ** (len(variables) - 1)):
             # as many levels begin here as the number of this last half ends in zeros
             begun = len(levels) - 1 if half == 0 else (half & -half).bit_length() - 1
@@ -140,8 +141,10 @@ write("deep", deep(152), lambda: "", lambda: "")
 measure("deep")
 write_wide("deep", deep(380))
 measure("deep")
-write_short("deep", [variable for variable in deep(380) if variable[2] < 10 and variable[3] < 10][:19])
-measure("deep")
+short = [variable for variable in deep(380) if variable[2] < 10 and variable[3] < 10][:19]
+for lines in "", "s cell 1 2\n", "r 1 cell 1 2\n":
+    write_short("deep", short, lines)
+    measure("deep")
 write_zero("feeder", variables(kinds("feeder"), 96, ()), [f"cell {call} {half}" for call in range(1, 6) for half in range(192)])
 measure("feeder")
 if os.path.exists("made.profile.toml"):
