@@ -142,7 +142,7 @@ measure("deep")
 write_wide("deep", deep(380))
 measure("deep")
 short = [variable for variable in deep(380) if variable[2] < 10 and variable[3] < 10][:19]
-for lines in "", "s cell 1 2\n", "r 1 cell 1 2\n":
+for lines in "", "s cell 9 2\n", "r 0 cell 9 2\n":
     write_short("deep", short, lines)
     measure("deep")
 write_zero("feeder", variables(kinds("feeder"), 96, ()), [f"cell {call} {half}" for call in range(1, 6) for half in range(192)])
