@@ -1,4 +1,4 @@
-use Rattle.std.proofs.Common.{rules, ◌≡◌, ◌∙◌, ap, refl, sym, subst, List, append-nil, Bool, false, true, []}
+use Rattle.std.proofs.Common.{◌≡◌, ◌∙◌, refl, sym, subst, append-nil, Bool, []}
 use Rattle.proof_trees.specs.Trees.{begun}
 use Rattle.bound_checker.specs.declared.walk.Walk.{Walk}
 use Rattle.bound_checker.specs.Walks.{Stands}

@@ -1,9 +1,9 @@
-use Rattle.std.proofs.Common.{rules, ◌≡◌, ◌∙◌, ap, refl, sym, subst, List, All, Some, None, Option, ◌++◌, ◌∷◌, []}
+use Rattle.std.proofs.Common.{rules, ◌≡◌, ◌∙◌, ap, refl, sym, List, Option, ◌++◌, ◌∷◌, []}
 use Rattle.bound_checker.specs.declared.walk.Frame.{Frame}
 use Rattle.bound_checker.specs.declared.sums.Aside.{Aside}
 use Rattle.bound_checker.proofs.Raising.{carries_blank}
 use Rattle.bound_checker.proofs.Waiting.{moves_none}
-use Rattle.bound_checker.proofs.Walks.{next_of, before_none, aside_there, some_of, anew, stands_like, stands_changed}
+use Rattle.bound_checker.proofs.Walks.{next_of, before_none, aside_there, some_of, anew, stands_changed}
 use Rattle.bound_checker.proofs.walk.Walk.begin_behind.Goals as goal
 
 pub take_back-requires-clause-to : goal.take_back-requires-clause-to

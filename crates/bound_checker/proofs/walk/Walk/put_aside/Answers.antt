@@ -1,8 +1,6 @@
 use Rattle.std.proofs.Common.{rules, ◌≡◌, ◌<◌, ◌∙◌, ap, refl, sym, subst, ℕ, List, All, Some, ◌++◌, ◌∷◌, [], length, drop}
 use Rattle.std.proofs.lemmas.List.Elements.{All-drop}
-use Rattle.zero_one_rows.specs.declared.program.Row.{Row}
 use Rattle.proof_trees.specs.Boxes.{Box}
-use Rattle.proof_trees.specs.Multipliers.{Multipliers}
 use Rattle.partial_plan.specs.Fixing.{freed}
 use Rattle.partial_plan.proofs.Freeing.{freed_length}
 use Rattle.bound_checker.specs.declared.walk.Frame.{Frame}
