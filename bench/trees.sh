@@ -3,9 +3,13 @@
 #   feeder: sixteen stacks of six tiers, six calls, 120 containers: 4,609 records over 2,304 variables, each half of value 1 a leaf;
 #   deep:   a ship of one kind that sails twelve calls: 100,321 records over 50,160 variables, and 1,003,185 over 125,400;
 #           each half of value 1 is a leaf, or is divided again by the next two variables;
+#   short:  the same ship, all halves of 19 variables, whose numbers have one digit: 1,048,575 records, the shortest that a tree can have,
+#           and the same with a step, and with a raise, in each record;
+#   zero:   the feeder, whose root raises 960 rows and all of whose 2,305 leaves are from zero;
 #   made:   the ship of `stow make 1`, with steps and raises by rows of five families: 64 MB, or as many as the first word says.
-# Aims: the feeder in at most 1 s, the deep trees linear in their records, the made ship in at most 10 s and 1 GiB with 64 MB, and with
-# 512 MB (the most that is read) in at most 8 times the certificate's memory. Beside each stands the time with a certificate of one
+# Aims: the feeder in at most 1 s, also where its leaves are from zero, the deep trees linear in their records, the made ship in at most
+# 10 s and 1 GiB with 64 MB; and for trees of a million records and the made ship with 512 MB (the most that is read) at most 8 times the
+# certificate's memory. Beside each stands the time with a certificate of one
 # record, in which all but the tree is read and built. Each run has a stack of 1 MiB.
 set -eu
 root=$(cd "$(dirname "$(readlink -f "${BASH_SOURCE[0]}")")/.." && pwd)
@@ -78,6 +82,27 @@ def write_wide(name, variables):
             file.write(f"n 0\n{divided(variable)}n 0\n{first}{half}{half}")
         file.write("n 0\nl\nend\n")
 
+def write_short(name, variables, lines):
+    """All halves of the variables, with these lines in each record."""
+    with open(name + ".cert", "w") as file:
+        file.write(head(2 ** (len(variables) + 1) - 1))
+        levels = [f"n 0\n{lines}{divided(variable)}" for variable in variables]
+        last = levels[-1] + 2 * f"n 0\n{lines}l\n"
+        for half in range(2 ** (len(variables) - 1)):
+            # as many levels begin here as the number of this last half ends in zeros
+            begun = len(levels) - 1 if half == 0 else (half & -half).bit_length() - 1
+            file.write("".join(levels[len(levels) - 1 - begun : -1]) + last)
+        file.write("end\n")
+
+def write_zero(name, variables, rows):
+    """The root raises these rows, and each leaf is from zero."""
+    with open(name + ".cert", "w") as file:
+        file.write(head(2 * len(variables) + 1))
+        for at, variable in enumerate(variables):
+            raises = "".join(f"r 1 {it}\n" for it in rows) if at == 0 else ""
+            file.write(f"n 0\n{raises}{divided(variable)}n 1\nl\n")
+        file.write("n 1\nl\nend\n")
+
 r = random.Random(1)
 def row():
     # a half-cell of 32 stacks with three tiers and two sides
@@ -116,6 +141,12 @@ write("deep", deep(152), lambda: "", lambda: "")
 measure("deep")
 write_wide("deep", deep(380))
 measure("deep")
+short = [variable for variable in deep(380) if variable[2] < 10 and variable[3] < 10][:19]
+for lines in "", "s cell 9 2\n", "r 0 cell 9 2\n":
+    write_short("deep", short, lines)
+    measure("deep")
+write_zero("feeder", variables(kinds("feeder"), 96, ()), [f"cell {call} {half}" for call in range(1, 6) for half in range(192)])
+measure("feeder")
 if os.path.exists("made.profile.toml"):
     made = variables(kinds("made"), 96, {3 * stack for stack in range(16, 32)})
     each = megabytes * 1_000_000 // (len(made) * 93)

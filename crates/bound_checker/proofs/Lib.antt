@@ -2,6 +2,7 @@ pub mod RowsOrdered
 pub mod Look
 pub mod Multiplied
 pub mod Alike
+pub mod Blanks
 pub mod Waiting
 pub mod Back
 pub mod Raising

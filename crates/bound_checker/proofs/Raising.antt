@@ -12,12 +12,13 @@ use Rattle.dual_bound.specs.Adding.{in_range}
 use Rattle.dual_bound.specs.Costs.{AreSmall, Priced}
 use Rattle.dual_bound.proofs.Multiplied.{changed_is}
 use Rattle.dual_bound.proofs.Pricing.{value_is}
+use Rattle.bound_checker.specs.declared.blank.Blank.{Blank}
 use Rattle.bound_checker.specs.declared.sums.Sums.{Sums}
 use Rattle.bound_checker.specs.declared.prices.Change.{Change}
 use Rattle.bound_checker.specs.declared.prices.Prices.{Prices}
 use Rattle.certificate.specs.Entries.{same_row}
 use Rattle.bound_checker.specs.Faults.{raised_row}
-use Rattle.bound_checker.specs.Sums.{Carries}
+use Rattle.bound_checker.specs.Sums.{Carries, IsBlank}
 use Rattle.bound_checker.specs.Prices.{Holds, Ends}
 use Rattle.certificate.proofs.RowsAlike.{same_equal}
 use Rattle.bound_checker.proofs.Multiplied.{amount_with, amount_low}
@@ -32,22 +33,28 @@ module _ (m : Voyage) (b : Box) (ms : Multipliers Row) (s : Sums) (carries : Car
   value_here = value_is m b ms s.costs carries.priced
 
   -- one multiplier is changed
-  pub carries_more : (r : Row) (n : ℕ) (s' : Sums) → ((q : Row) → amount_of same_row s'.amounts q ≡ cond (same_row r q) n (amount_of same_row s.amounts q)) → Priced m b (with_amount same_row ms r n) s'.costs → s'.rows ≡ s.rows → Carries m b (with_amount same_row ms r n) s'
-  carries_more r n s' amounts priced rows = record {
+  pub carries_more : (r : Row) (n : ℕ) (s' : Sums) → ((q : Row) → amount_of same_row s'.amounts q ≡ cond (same_row r q) n (amount_of same_row s.amounts q)) → Priced m b (with_amount same_row ms r n) s'.costs → s'.blank ≡ s.blank → s'.rows ≡ s.rows → Carries m b (with_amount same_row ms r n) s'
+  carries_more r n s' amounts priced blank rows = record {
     whole = carries.whole;
     amounts = λ q. amounts q ∙ ap (λ (k : ℕ). cond (same_row r q) n k) (carries.amounts q) ∙ sym (amount_with ms r q n);
     priced = priced;
+    blank = subst (IsBlank m b) (sym blank) carries.blank;
     rows = rows ∙ carries.rows;
   }
 
   -- the rows that are kept are as they were
-  pub carries_kept : (s' : Sums) → s'.amounts ≡ s.amounts → s'.costs ≡ s.costs → s'.rows ≡ s.rows → Carries m b ms s'
-  carries_kept s' amounts costs rows = record {
+  pub carries_kept : (s' : Sums) → s'.amounts ≡ s.amounts → s'.costs ≡ s.costs → s'.blank ≡ s.blank → s'.rows ≡ s.rows → Carries m b ms s'
+  carries_kept s' amounts costs blank rows = record {
     whole = carries.whole;
     amounts = λ q. ap (λ (es : Multipliers Row). amount_of same_row es q) amounts ∙ carries.amounts q;
     priced = subst (Priced m b ms) (sym costs) carries.priced;
+    blank = subst (IsBlank m b) (sym blank) carries.blank;
     rows = rows ∙ carries.rows;
   }
+
+  -- other costs to begin with
+  pub carries_blank : (z : Blank) → IsBlank m b z → Carries m b ms (record { amounts = s.amounts; costs = s.costs; blank = z; rows = s.rows })
+  carries_blank z blank = record { whole = carries.whole; amounts = carries.amounts; priced = carries.priced; blank = blank; rows = carries.rows }
 
   -- the sums are those of other multipliers that are alike
   pub carries_alike : (ns : Multipliers Row) → AreSmall m ns → ((r : Row) → amount_of same_row ns r ≡ amount_of same_row ms r) → Carries m b ns s
@@ -60,6 +67,7 @@ module _ (m : Voyage) (b : Box) (ms : Multipliers Row) (s : Sums) (carries : Car
       reduced = λ v lt. carries.priced.reduced v lt ∙ ap (λ (z : ℤ). pos 16 *ℤ (whole m).cost v -ℤ z) (sym (dot_alike m (λ r. (whole m).coef r v) ns ms small carries.priced.small same));
       small = small;
     };
+    blank = carries.blank;
     rows = carries.rows;
   }
 
@@ -100,11 +108,12 @@ module _ (m : Voyage) (b : Box) (ms : Multipliers Row) (s t : Sums) (r : Row) (a
       by false e = refl
 
   -- a row that had none
-  pub out_none : t.costs ≡ s.costs → t.rows ≡ s.rows → a ≡ 0 → Carries m b ms t
-  out_none costs rows none = record {
+  pub out_none : t.costs ≡ s.costs → t.blank ≡ s.blank → t.rows ≡ s.rows → a ≡ 0 → Carries m b ms t
+  out_none costs blank rows none = record {
     whole = carries.whole;
     amounts = λ q. same_cond q none ∙ carries.amounts q;
     priced = subst (Priced m b ms) (sym costs) carries.priced;
+    blank = subst (IsBlank m b) (sym blank) carries.blank;
     rows = rows ∙ carries.rows;
   }
 
@@ -113,8 +122,8 @@ module _ (m : Voyage) (b : Box) (ms : Multipliers Row) (s t : Sums) (r : Row) (a
   out_sum z sum = ap (λ (n : ℕ). pos n +ℤ z) (sym (carries.amounts r) ∙ was) ∙ sum
 
   -- a row that had one
-  pub out_some : (u : Sums) → u.amounts ≡ t.amounts → Priced m b (with_amount same_row ms r 0) u.costs → u.rows ≡ s.rows → Carries m b (with_amount same_row ms r 0) u
-  out_some u amounts priced rows = carries_more m b ms s carries r 0 u (λ q. ap (λ (es : Multipliers Row). amount_of same_row es q) amounts ∙ rest q) priced rows
+  pub out_some : (u : Sums) → u.amounts ≡ t.amounts → Priced m b (with_amount same_row ms r 0) u.costs → u.blank ≡ s.blank → u.rows ≡ s.rows → Carries m b (with_amount same_row ms r 0) u
+  out_some u amounts priced blank rows = carries_more m b ms s carries r 0 u (λ q. ap (λ (es : Multipliers Row). amount_of same_row es q) amounts ∙ rest q) priced blank rows
 
 -- ## Answers
 

@@ -1,5 +1,6 @@
 -- Boxes that wait, while others are tightened and their multipliers changed.
 use Rattle.std.proofs.Common.{◌≡◌, ℕ, ◌+◌, ◌<◌, ◌≤◌, ◌^◌, Bool, true, false, cond, List, [], ◌∷◌, ◌++◌, Some, None, length, take, drop, arith, refl, sym, ◌∙◌, ap, subst, length-append, append_assoc, append-nil}
+use Rattle.std.specs.Prelude.{IfSome}
 use Rattle.std.proofs.Math.Seq.{drop-append_seam, take-append_seam}
 use Rattle.std.proofs.lemmas.List.{drop-append-le, take-append-le, length-set}
 use Rattle.std.proofs.lemmas.List.Elements.{All-append, All-cons, All-nil}
@@ -15,6 +16,7 @@ use Rattle.certificate.specs.Entries.{same_row}
 use Rattle.bound_checker.specs.declared.prices.Change.{Change}
 use Rattle.bound_checker.specs.declared.walk.Frame.{Frame}
 use Rattle.dual_bound.specs.Costs.{AreSmall}
+use Rattle.bound_checker.specs.Sums.{IsAside}
 use Rattle.bound_checker.specs.Waits.{back_at, IsSound, Moves, Waits, AllWait}
 use Rattle.certificate.proofs.RowsAlike.{same_equal}
 use Rattle.bound_checker.proofs.Multiplied.{amount_with}
@@ -84,6 +86,7 @@ module _ (m : Voyage) (b c : Box) (undo undo' xs : List ℕ) (ms ns : Multiplier
         inside = omega arith;
         free = ap (λ (x : Box). at x f.var) r ∙ h.free;
         box = h.box ∙ ap (λ (x : Box). fixed x f.var false) (sym r);
+        aside = subst (λ (x : Box). IfSome f.aside (IsAside m x q.multipliers)) (sym r) h.aside;
         amounts = λ r. ap (back_at r (amount_of same_row ns r)) d ∙ back_append r (amount_of same_row ns r) (drop f.changes k) moves.more ∙ ap (λ (n : ℕ). back_at r n (drop f.changes k)) (moves.back r) ∙ h.amounts r;
         small = h.small;
       }
@@ -107,7 +110,7 @@ module _ (m : Voyage) (b c : Box) (undo undo' xs : List ℕ) (ms ns : Multiplier
 -- a free variable divides the box
 module _ (m : Voyage) (b : Box) (undo : List ℕ) (ms : Multipliers Row) (k : List Change) (v : ℕ) (lt : v < length b) (free : at b v ≡ None) where
   abbrev frame : Frame
-  frame = record { var = v; mark = length undo; changes = length k }
+  frame = record { var = v; mark = length undo; changes = length k; aside = None }
 
   abbrev other : Pending Row
   other = record { box = fixed b v false; multipliers = ms }
@@ -134,6 +137,7 @@ module _ (m : Voyage) (b : Box) (undo : List ℕ) (ms : Multipliers Row) (k : Li
         free = ap (λ (x : Box). at x v) back_all ∙ free;
         box = ap (λ (x : Box). fixed x v false) (sym back_all);
         amounts = λ r. ap (back_at r (amount_of same_row ms r)) (no_more k);
+        aside = tt;
         small = small;
       }
 

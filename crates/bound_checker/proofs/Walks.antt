@@ -1,7 +1,7 @@
 -- A tree in preorder, record by record.
-use Rattle.std.proofs.Common.{◌≡◌, ◌≢◌, ℕ, zero, suc, ◌+◌, ◌<◌, ◌≤◌, ◌⊎◌, inl, inr, Bool, true, false, ◌&&◌, cond, nat_lt, List, [], ◌∷◌, ◌++◌, length, take, drop, map, get_or, Option, Some, None, Result, Ok, Err, All, arith, refl, sym, ◌∙◌, ap, subst}
-use Rattle.std.specs.Prelude.{reverse}
-use Rattle.std.specs.Option.{is_none, option_or}
+use Rattle.std.proofs.Common.{◌≡◌, ◌≢◌, ℕ, zero, suc, ◌+◌, ◌<◌, ◌≤◌, ◌⊎◌, inl, inr, Bool, true, false, ◌&&◌, ◌==◌, cond, nat_lt, List, [], ◌∷◌, ◌++◌, length, take, drop, map, get_or, Option, Some, None, Result, Ok, Err, All, arith, append-nil, refl, sym, ◌∙◌, ap, subst}
+use Rattle.std.specs.Prelude.{IfSome, reverse}
+use Rattle.std.specs.Option.{is_none, is_some, option_or}
 use Rattle.std.proofs.lemmas.Bool.Decides.{nat_tests}
 use Rattle.std.proofs.Math.Seq.{drop-append_seam}
 use Rattle.std.proofs.lemmas.List.{reverse-append, length-set}
@@ -27,10 +27,11 @@ use Rattle.certificate.specs.Entries.{end_of, entry_of, number_of}
 use Rattle.bound_checker.specs.Faults.{step_fault, raised_rows, short_fault, end_fault, tree_fault, first_fault}
 use Rattle.bound_checker.proofs.Bounding.{up_to}
 use Rattle.dual_bound.specs.Costs.{AreSmall}
-use Rattle.bound_checker.specs.Sums.{Carries}
-use Rattle.bound_checker.specs.Waits.{Before, IsSound, Waits, AllWait}
+use Rattle.bound_checker.specs.declared.sums.Aside.{Aside}
+use Rattle.bound_checker.specs.Sums.{Carries, IsAside}
+use Rattle.bound_checker.specs.Waits.{back_at, in_hand, Before, IsSound, Moves, Waits, AllWait}
 use Rattle.bound_checker.specs.Prices.{Holds, Ends}
-use Rattle.bound_checker.specs.Walks.{Goes, frame_of, Stands, StandsSome, IsAt, IsSomewhere, Narrows, Opens, Closes, Takes}
+use Rattle.bound_checker.specs.Walks.{Goes, Tightens, frame_of, StandsWith, Stands, StandsSome, without, IsAt, IsSomewhere, Narrows, Opens, Closes, Takes}
 use Rattle.bound_checker.proofs.Waiting.{still_wait, moves_none, divided}
 
 no_two : (b : Bool) → b ≡ true → b ≡ false → ⊥
@@ -187,8 +188,8 @@ module _ (m : Voyage) (bounds : Bounds) (node : ℕ) where
           let l : nat_lt v (length (variables m)) ≡ true = below v (length (variables m)) (omega arith) in
           ap (λ (c : Bool). cond (c && is_none (at q.box v)) (R (first ∷ other ∷ qs)) (Some (BranchFixed node))) l ∙ ap (λ (c : Bool). cond c (R (first ∷ other ∷ qs)) (Some (BranchFixed node))) n
 
-      wait : AllWait m (fixed w.b x true) (w.undo ++ x ∷ []) q.multipliers w.prices.changes.items (record { var = x; mark = length w.undo; changes = length w.prices.changes.items } ∷ reverse w.frames.items) (other ∷ qs)
-      wait = subst (λ (c : Box). AllWait m (fixed w.b x true) (w.undo ++ x ∷ []) q.multipliers w.prices.changes.items (record { var = x; mark = length w.undo; changes = length w.prices.changes.items } ∷ reverse w.frames.items) (record { box = c; multipliers = q.multipliers } ∷ qs)) (sym (half false))
+      wait : AllWait m (fixed w.b x true) (w.undo ++ x ∷ []) q.multipliers w.prices.changes.items (record { var = x; mark = length w.undo; changes = length w.prices.changes.items; aside = None } ∷ reverse w.frames.items) (other ∷ qs)
+      wait = subst (λ (c : Box). AllWait m (fixed w.b x true) (w.undo ++ x ∷ []) q.multipliers w.prices.changes.items (record { var = x; mark = length w.undo; changes = length w.prices.changes.items; aside = None } ∷ reverse w.frames.items) (record { box = c; multipliers = q.multipliers } ∷ qs)) (sym (half false))
           (divided m w.b w.undo q.multipliers w.prices.changes.items x inside free (reverse w.frames.items) qs stands.carries.priced.small stands.waits)
 
       here : Stands m u first (other ∷ qs)
@@ -205,37 +206,64 @@ module _ (m : Voyage) (bounds : Bounds) (node : ℕ) where
 
 -- ## The box that waits
 
-module _ (m : Voyage) (w : Walk) (fs : List Frame) (f : Frame) (is : w.frames.items ≡ fs ++ f ∷ []) where
-  reversed : reverse w.frames.items ≡ f ∷ reverse fs
+pub small_in_hand : (m : Voyage) (o : Option Aside) (ms : Multipliers Row) → AreSmall m ms → AreSmall m (in_hand o ms)
+small_in_hand m None ms h = h
+small_in_hand m (Some a) ms h = tt
+
+pub some_of : {X : Type 0} (o : Option X) → is_some o ≡ true → (x : X) × (o ≡ Some x)
+some_of None h = absurd (grind arith)
+some_of (Some x) h = (x, refl)
+
+pub empty_of : {X : Type 0} (xs : List X) → (length xs == 0) ≡ true → xs ≡ []
+empty_of [] h = refl
+empty_of (x ∷ xs) h = absurd (grind (arith, nat_tests))
+
+take_twice : {X : Type 0} (n : ℕ) (xs : List X) → take n (take n xs) ≡ take n xs
+take_twice zero xs = refl
+take_twice (suc n) [] = refl
+take_twice (suc n) (x ∷ xs) = ap (λ ys. x ∷ ys) (take_twice n xs)
+
+drop_taken : {X : Type 0} (n : ℕ) (xs : List X) → drop n (take n xs) ≡ []
+drop_taken zero xs = refl
+drop_taken (suc n) [] = refl
+drop_taken (suc n) (x ∷ xs) = drop_taken n xs
+
+take_len : {X : Type 0} (n : ℕ) (xs : List X) → n ≤ length xs → length (take n xs) ≡ n
+take_len zero xs le = refl
+take_len (suc n) [] le = absurd (omega arith)
+take_len (suc n) (x ∷ xs) le = ap suc (take_len n xs (omega arith))
+
+module _ (m : Voyage) (w : Walk) (all fs : List Frame) (f : Frame) (is : all ≡ fs ++ f ∷ []) where
+  reversed : reverse all ≡ f ∷ reverse fs
   reversed = ap reverse is ∙ reverse-append fs (f ∷ [])
 
   abbrev Next : Pending Row → List (Pending Row) → Type 0
   Next q qs = (next : Pending Row) × (rest : List (Pending Row)) × (qs ≡ next ∷ rest) × Waits m w.b w.undo q.multipliers w.prices.changes.items f next
       × AllWait m (released w.b w.undo f.mark) (take f.mark w.undo) next.multipliers (take f.changes w.prices.changes.items) (reverse fs) rest
 
-  pub next_of : (q : Pending Row) (qs : List (Pending Row)) → Stands m w q qs → Next q qs
+  pub next_of : (q : Pending Row) (qs : List (Pending Row)) → StandsWith m w all q qs → Next q qs
   next_of q qs stands = by qs (subst (λ (gs : List Frame). AllWait m w.b w.undo q.multipliers w.prices.changes.items gs qs) reversed stands.waits)
     where
       by : (qs : List (Pending Row)) → AllWait m w.b w.undo q.multipliers w.prices.changes.items (f ∷ reverse fs) qs → Next q qs
       by [] h = absurd h
       by (next ∷ rest) h = (next, rest, refl, h.0, h.1)
 
-  pub free_there : (q : Pending Row) (qs : List (Pending Row)) (c : Box) → Stands m w q qs → c ≡ released w.b w.undo f.mark → (f.var < length c) × (at c f.var ≡ None)
+  pub free_there : (q : Pending Row) (qs : List (Pending Row)) (c : Box) → StandsWith m w all q qs → c ≡ released w.b w.undo f.mark → (f.var < length c) × (at c f.var ≡ None)
   free_there q qs c stands e =
       let n = next_of q qs stands in
       let inside : f.var < length w.b = n.3.inside in
       let l : length c ≡ length w.b = ap (λ (b : Box). length b) e ∙ freed_length w.b (drop f.mark w.undo) in
       (omega arith, ap (λ (b : Box). at b f.var) e ∙ n.3.free)
 
-  pub next_stands : (q : Pending Row) (qs : List (Pending Row)) (u : Walk) → Stands m w q qs → u.b ≡ fixed (released w.b w.undo f.mark) f.var false → u.undo ≡ take f.mark w.undo ++ f.var ∷ [] → u.priced ≡ u.b
+  pub next_stands : (q : Pending Row) (qs : List (Pending Row)) (u : Walk) → StandsWith m w all q qs → u.b ≡ fixed (released w.b w.undo f.mark) f.var false → u.undo ≡ take f.mark w.undo ++ f.var ∷ [] → u.priced ≡ u.b
       → u.prices.changes.items ≡ take f.changes w.prices.changes.items → u.frames.items ≡ fs → u.done ≡ w.done
-      → ((ms ns : Multipliers Row) → Carries m w.b ms w.prices.sums → Before ns f.changes w.prices.changes.items ms → AreSmall m ns → Carries m u.b ns u.prices.sums) → IsAt m u qs
+      → ((ms ns : Multipliers Row) → Carries m w.b ms w.prices.sums → Before (in_hand f.aside ns) f.changes w.prices.changes.items ms → AreSmall m ns → IfSome f.aside (IsAside m (released w.b w.undo f.mark) ns) → Carries m u.b ns u.prices.sums) → IsAt m u qs
   next_stands q qs u stands b undo priced changes frames done carries =
       let n = next_of q qs stands in subst (λ (rs : List (Pending Row)). IsAt m u rs) (sym n.2) (here n.0 n.1 n.3 n.4)
     where
       here : (next : Pending Row) (rest : List (Pending Row)) → Waits m w.b w.undo q.multipliers w.prices.changes.items f next
           → AllWait m (released w.b w.undo f.mark) (take f.mark w.undo) next.multipliers (take f.changes w.prices.changes.items) (reverse fs) rest → Stands m u next rest
-      here next rest waits all =
+      here next rest waits others =
           let r : Box = released w.b w.undo f.mark in
           let l : length r ≡ length w.b = freed_length w.b (drop f.mark w.undo) in
           let lt : f.var < length w.b = waits.inside in
@@ -248,9 +276,56 @@ module _ (m : Voyage) (w : Walk) (fs : List Frame) (f : Frame) (is : w.frames.it
             len = ap (λ (x : Box). length x) b ∙ len ∙ stands.len;
             inside = rw (b, undo, len) (All-append (λ k. k < length w.b) (take f.mark w.undo) (f.var ∷ []) (All-take (λ k. k < length w.b) f.mark w.undo stands.inside) (All-cons (λ k. k < length w.b) f.var [] lt (All-nil (λ k. k < length w.b))));
             priced = priced;
-            carries = carries q.multipliers next.multipliers stands.carries waits.amounts waits.small;
+            carries = carries q.multipliers next.multipliers stands.carries waits.amounts waits.small waits.aside;
             sound = rw changes (All-take (IsSound m) f.changes w.prices.changes.items stands.sound);
-            waits = rw (b, undo, changes, frames) (still_wait m r (fixed r f.var false) (take f.mark w.undo) (take f.mark w.undo ++ f.var ∷ []) (f.var ∷ []) next.multipliers next.multipliers (take f.changes w.prices.changes.items) (take f.changes w.prices.changes.items) refl one.back (moves_none m next.multipliers (take f.changes w.prices.changes.items)) (reverse fs) rest all);
+            waits = rw (b, undo, changes, frames) (still_wait m r (fixed r f.var false) (take f.mark w.undo) (take f.mark w.undo ++ f.var ∷ []) (f.var ∷ []) next.multipliers next.multipliers (take f.changes w.prices.changes.items) (take f.changes w.prices.changes.items) refl one.back (moves_none m next.multipliers (take f.changes w.prices.changes.items)) (reverse fs) rest others);
+          }
+
+  pub before_next : (q next : Pending Row) → f.aside ≡ None → Waits m w.b w.undo q.multipliers w.prices.changes.items f next → Before next.multipliers f.changes w.prices.changes.items q.multipliers
+  before_next q next none h = subst (λ (o : Option Aside). Before (in_hand o next.multipliers) f.changes w.prices.changes.items q.multipliers) none h.amounts
+
+  pub before_none : (q next : Pending Row) (a : Aside) → f.aside ≡ Some a → Waits m w.b w.undo q.multipliers w.prices.changes.items f next → Before [] f.changes w.prices.changes.items q.multipliers
+  before_none q next a some h = subst (λ (o : Option Aside). Before (in_hand o next.multipliers) f.changes w.prices.changes.items q.multipliers) some h.amounts
+
+  pub aside_there : (q next : Pending Row) (a : Aside) → f.aside ≡ Some a → Waits m w.b w.undo q.multipliers w.prices.changes.items f next → IsAside m (released w.b w.undo f.mark) next.multipliers a
+  aside_there q next a some h = subst (λ (o : Option Aside). IfSome o (IsAside m (released w.b w.undo f.mark) next.multipliers)) some h.aside
+
+  -- no row has a multiplier, and those of the box that waits are aside
+  pub anew : (q : Pending Row) (qs : List (Pending Row)) (u : Walk) (a : Aside) → StandsWith m w all q qs → u.b ≡ w.b → u.undo ≡ w.undo → u.priced ≡ u.b → u.prices.changes.items ≡ take f.changes w.prices.changes.items
+      → u.frames.items ≡ fs ++ record { var = f.var; mark = f.mark; changes = f.changes; aside = Some a } ∷ [] → u.done ≡ w.done → Carries m u.b [] u.prices.sums
+      → ((next : Pending Row) → Waits m w.b w.undo q.multipliers w.prices.changes.items f next → IsAside m (released w.b w.undo f.mark) next.multipliers a) → Stands m u (without q) qs
+  anew q qs u a stands b undo priced changes frames done carries aside = record {
+    in_hand = done ∙ stands.in_hand;
+    box = stands.box ∙ sym b;
+    len = ap (λ (x : Box). length x) b ∙ stands.len;
+    inside = rw (b, undo) stands.inside;
+    priced = priced;
+    carries = carries;
+    sound = rw changes (All-take (IsSound m) f.changes w.prices.changes.items stands.sound);
+    waits = rw (b, undo, changes, frames) (subst (λ (gs : List Frame). AllWait m w.b w.undo [] (take f.changes w.prices.changes.items) gs qs) (sym (reverse-append fs (other ∷ [])))
+        (subst (λ (rs : List (Pending Row)). AllWait m w.b w.undo [] (take f.changes w.prices.changes.items) (other ∷ reverse fs) rs) (sym n.2)
+        (here n.0 n.3, subst (λ (k : List Change). AllWait m (released w.b w.undo f.mark) (take f.mark w.undo) n.0.multipliers k (reverse fs) n.1) (sym (take_twice f.changes w.prices.changes.items)) n.4)));
+  }
+    where
+      n : Next q qs
+      n = next_of q qs stands
+
+      other : Frame
+      other = record { var = f.var; mark = f.mark; changes = f.changes; aside = Some a }
+
+      here : (next : Pending Row) → Waits m w.b w.undo q.multipliers w.prices.changes.items f next → Waits m w.b w.undo [] (take f.changes w.prices.changes.items) other next
+      here next h =
+          let le : f.changes ≤ length w.prices.changes.items = h.changes in
+          let len : length (take f.changes w.prices.changes.items) ≡ f.changes = take_len f.changes w.prices.changes.items le in
+          record {
+            mark = h.mark;
+            changes = omega arith;
+            inside = h.inside;
+            free = h.free;
+            box = h.box;
+            amounts = λ r. ap (back_at r 0) (drop_taken f.changes w.prices.changes.items);
+            aside = aside next h;
+            small = h.small;
           }
 
 -- no box waits
@@ -271,10 +346,24 @@ module _ (m : Voyage) (node : ℕ) (w : Walk) (q : Pending Row) (qs : List (Pend
   pub not_stepped : (v : Walk) (r : Result (Unit {0}) BoundNo) (f : BoundNo) → r ≡ Err f → (f ≢ NoMemory → step_fault (whole m) node e.steps ≡ Some f) → Opens m node q qs e r v
   not_stepped v r f is some = subst (λ (r : Result (Unit {0}) BoundNo). Opens m node q qs e r v) (sym is) (λ other. inl (some other))
 
-  pub opened : (v : Walk) (xs : List ℕ) (r : Result (Unit {0}) BoundNo) → Stands m w q qs → step_fault (whole m) node e.steps ≡ None → v.b ≡ tightened (whole m) w.b e.steps → v.undo ≡ w.undo ++ xs → v.priced ≡ v.b → Fixes w.b v.b xs
-      → v.frames.items ≡ w.frames.items → v.done ≡ w.done
-      → Ends (λ ns. Holds m v.b q.multipliers w.prices.changes.items ns v.prices) (raised_rows (whole m) node (Ok (begun e.from_zero q.multipliers)) e.raises) r → Opens m node q qs e r v
-  opened v xs r stands none box undo priced fixes frames done ends = by (raised_rows (whole m) node (Ok (begun e.from_zero q.multipliers)) e.raises) refl r ends
+  pub not_begun : (v : Walk) (r : Result (Unit {0}) BoundNo) (f : BoundNo) → r ≡ Err f → f ≡ NoMemory → Opens m node q qs e r v
+  not_begun v r f is none = subst (λ (r : Result (Unit {0}) BoundNo). Opens m node q qs e r v) (sym is) (λ other. absurd (other none))
+
+module _ (m : Voyage) (w : Walk) (all : List Frame) (q : Pending Row) (qs : List (Pending Row)) where
+  -- the steps are taken, the multipliers changed, and none of the boxes that wait is another
+  pub stands_after : (v : Walk) (xs : List ℕ) (steps : List Row) (ms : Multipliers Row) → StandsWith m w all q qs → v.b ≡ tightened (whole m) w.b steps → v.undo ≡ w.undo ++ xs → v.priced ≡ v.b → Fixes w.b v.b xs
+      → v.frames.items ≡ all → v.done ≡ w.done → Holds m v.b q.multipliers w.prices.changes.items ms v.prices → Stands m v (record { box = tightened (whole m) q.box steps; multipliers = ms }) qs
+  stands_after v xs steps ms stands box undo priced fixes frames done holds = record {
+    in_hand = done ∙ stands.in_hand;
+    box = ap (λ (b : Box). tightened (whole m) b steps) stands.box ∙ sym box;
+    len = len ∙ stands.len;
+    inside = subst (λ (n : ℕ). All (λ k. k < n) v.undo) (sym len) inside;
+    priced = priced;
+    carries = holds.carries;
+    sound = subst (λ (k : List Change). All (IsSound m) k) (sym holds.moves.added) (All-append (IsSound m) w.prices.changes.items holds.moves.more stands.sound holds.moves.sound);
+    waits = subst (λ (fs : List Frame). AllWait m v.b v.undo ms v.prices.changes.items (reverse fs) qs) (sym frames)
+        (still_wait m w.b v.b w.undo v.undo xs q.multipliers ms w.prices.changes.items v.prices.changes.items undo fixes.back holds.moves (reverse all) qs stands.waits);
+  }
     where
       len : length v.b ≡ length w.b
       len = sym (freed_length v.b xs) ∙ ap (λ (b : Box). length b) fixes.back
@@ -282,25 +371,64 @@ module _ (m : Voyage) (node : ℕ) (w : Walk) (q : Pending Row) (qs : List (Pend
       inside : All (λ k. k < length w.b) v.undo
       inside = subst (λ (us : List ℕ). All (λ k. k < length w.b) us) (sym undo) (All-append (λ k. k < length w.b) w.undo xs stands.inside fixes.inside)
 
-      now : (ms : Multipliers Row) → Holds m v.b q.multipliers w.prices.changes.items ms v.prices → Stands m v (record { box = tightened (whole m) q.box e.steps; multipliers = ms }) qs
-      now ms holds = record {
-        in_hand = done ∙ stands.in_hand;
-        box = ap (λ (b : Box). tightened (whole m) b e.steps) stands.box ∙ sym box;
-        len = len ∙ stands.len;
-        inside = subst (λ (n : ℕ). All (λ k. k < n) v.undo) (sym len) inside;
-        priced = priced;
-        carries = holds.carries;
-        sound = subst (λ (k : List Change). All (IsSound m) k) (sym holds.moves.added) (All-append (IsSound m) w.prices.changes.items holds.moves.more stands.sound holds.moves.sound);
-        waits = subst (λ (fs : List Frame). AllWait m v.b v.undo ms v.prices.changes.items (reverse fs) qs) (sym frames)
-            (still_wait m w.b v.b w.undo v.undo xs q.multipliers ms w.prices.changes.items v.prices.changes.items undo fixes.back holds.moves (reverse w.frames.items) qs stands.waits);
-      }
+  no_fixes : (b c : Box) → c ≡ b → Fixes b c []
+  no_fixes b c same = record { back = same; inside = All-nil (λ v. v < length b); each = All-nil (λ v. is_some (at c v) ≡ true) }
 
-      by : (o : Result (Multipliers Row) BoundNo) → raised_rows (whole m) node (Ok (begun e.from_zero q.multipliers)) e.raises ≡ o → (r : Result (Unit {0}) BoundNo)
-          → Ends (λ ns. Holds m v.b q.multipliers w.prices.changes.items ns v.prices) o r → Opens m node q qs e r v
-      by (Ok ms) is (Ok u) h = (none, (ms, is, now ms h))
-      by (Ok ms) is (Err f) h = λ other. absurd (other h)
-      by (Err f) is (Ok u) h = absurd h
-      by (Err f) is (Err g) h = λ other. inr (none, is ∙ ap (λ (x : BoundNo). Err x) (sym (h other)))
+  -- multipliers alone are changed
+  pub stands_changed : (v : Walk) (ms : Multipliers Row) → StandsWith m w all q qs → v.b ≡ w.b → v.undo ≡ w.undo → v.priced ≡ v.b → v.frames.items ≡ all → v.done ≡ w.done
+      → Holds m v.b q.multipliers w.prices.changes.items ms v.prices → Stands m v (record { box = q.box; multipliers = ms }) qs
+  stands_changed v ms stands box undo priced frames done holds = stands_after v [] [] ms stands box (undo ∙ sym (append-nil w.undo)) priced (no_fixes w.b v.b box) frames done holds
+
+  -- what is kept is another, of the same box and multipliers
+  pub stands_like : (v : Walk) → StandsWith m w all q qs → v.b ≡ w.b → v.undo ≡ w.undo → v.priced ≡ w.priced → v.prices.changes.items ≡ w.prices.changes.items → v.done ≡ w.done → Carries m w.b q.multipliers v.prices.sums → StandsWith m v all q qs
+  stands_like v stands box undo priced changes done carries = record {
+    in_hand = done ∙ stands.in_hand;
+    box = stands.box ∙ sym box;
+    len = ap (λ (x : Box). length x) box ∙ stands.len;
+    inside = rw (box, undo) stands.inside;
+    priced = priced ∙ stands.priced ∙ sym box;
+    carries = rw box carries;
+    sound = rw changes stands.sound;
+    waits = rw (box, undo, changes) stands.waits;
+  }
+
+  -- what was changed need not be taken back where no box waits
+  pub forgotten : (v : Walk) → StandsWith m w all q qs → all ≡ [] → v.b ≡ w.b → v.undo ≡ w.undo → v.priced ≡ w.priced → v.prices.changes.items ≡ [] → v.done ≡ w.done → v.prices.sums ≡ w.prices.sums → StandsWith m v all q qs
+  forgotten v stands none box undo priced changes done sums = record {
+    in_hand = done ∙ stands.in_hand;
+    box = stands.box ∙ sym box;
+    len = ap (λ (x : Box). length x) box ∙ stands.len;
+    inside = rw (box, undo) stands.inside;
+    priced = priced ∙ stands.priced ∙ sym box;
+    carries = rw (box, sums) stands.carries;
+    sound = rw changes (All-nil (IsSound m));
+    waits = rw none (by qs (subst (λ (fs : List Frame). AllWait m w.b w.undo q.multipliers w.prices.changes.items (reverse fs) qs) none stands.waits));
+  }
+    where
+      by : (rs : List (Pending Row)) → AllWait m w.b w.undo q.multipliers w.prices.changes.items [] rs → AllWait m v.b v.undo q.multipliers v.prices.changes.items [] rs
+      by [] h = tt
+      by (r ∷ rs) h = absurd h
+
+  pub tightened_stands : (v : Walk) (steps : List Row) → StandsWith m w all q qs → w.frames.items ≡ all → Tightens m w steps v → Stands m v (record { box = tightened (whole m) q.box steps; multipliers = q.multipliers }) qs
+  tightened_stands v steps stands is t =
+      stands_after v t.fixed steps q.multipliers stands t.goes.box t.goes.fixes t.goes.priced t.fixes (t.goes.waiting ∙ is) t.goes.done
+      (record { carries = t.goes.carries q.multipliers stands.carries; moves = subst (λ k. Moves m q.multipliers w.prices.changes.items q.multipliers k.items) (sym t.goes.changes) (moves_none m q.multipliers w.prices.changes.items) })
+
+-- the box is tightened, the multipliers begun, and those raised
+pub opened : (m : Voyage) (node : ℕ) (q : Pending Row) (qs : List (Pending Row)) (e : Entry Row) (w v : Walk) (r : Result (Unit {0}) BoundNo) → step_fault (whole m) node e.steps ≡ None
+    → Stands m w (record { box = tightened (whole m) q.box e.steps; multipliers = begun e.from_zero q.multipliers }) qs → v.b ≡ w.b → v.undo ≡ w.undo → v.priced ≡ v.b → v.frames.items ≡ w.frames.items → v.done ≡ w.done
+    → Ends (λ ns. Holds m v.b (begun e.from_zero q.multipliers) w.prices.changes.items ns v.prices) (raised_rows (whole m) node (Ok (begun e.from_zero q.multipliers)) e.raises) r → Opens m node q qs e r v
+opened m node q qs e w v r none stands box undo priced frames done ends = by (raised_rows (whole m) node (Ok (begun e.from_zero q.multipliers)) e.raises) refl r ends
+  where
+    start : Pending Row
+    start = record { box = tightened (whole m) q.box e.steps; multipliers = begun e.from_zero q.multipliers }
+
+    by : (o : Result (Multipliers Row) BoundNo) → raised_rows (whole m) node (Ok (begun e.from_zero q.multipliers)) e.raises ≡ o → (r : Result (Unit {0}) BoundNo)
+        → Ends (λ ns. Holds m v.b (begun e.from_zero q.multipliers) w.prices.changes.items ns v.prices) o r → Opens m node q qs e r v
+    by (Ok ms) is (Ok u) h = (none, (ms, is, stands_changed m w w.frames.items start qs v ms stands box undo priced frames done h))
+    by (Ok ms) is (Err f) h = λ other. absurd (other h)
+    by (Err f) is (Ok u) h = absurd h
+    by (Err f) is (Err g) h = λ other. inr (none, is ∙ ap (λ (x : BoundNo). Err x) (sym (h other)))
 
 -- ## The tree
 

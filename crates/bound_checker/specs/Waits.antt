@@ -1,5 +1,5 @@
 -- The boxes of a tree that wait, kept as one box with what was fixed and changed since. No public clause cites this module.
-use Rattle.std.specs.Prelude.{◌≡◌, ℕ, ◌<◌, ◌≤◌, ◌^◌, true, false, cond, All, List, [], ◌∷◌, ◌++◌, None, length, take, drop}
+use Rattle.std.specs.Prelude.{◌≡◌, ℕ, ◌<◌, ◌≤◌, ◌^◌, true, false, cond, All, IfSome, List, [], ◌∷◌, ◌++◌, Option, Some, None, length, take, drop}
 use Rattle.proof_trees.specs.Boxes.{Box, at, fixed}
 use Rattle.proof_trees.specs.Multipliers.{Multipliers, amount_of}
 use Rattle.proof_trees.specs.Trees.{Pending}
@@ -11,11 +11,18 @@ use Rattle.certificate.specs.Entries.{same_row}
 use Rattle.bound_checker.specs.declared.prices.Change.{Change}
 use Rattle.bound_checker.specs.declared.walk.Frame.{Frame}
 use Rattle.dual_bound.specs.Costs.{AreSmall}
+use Rattle.bound_checker.specs.declared.sums.Aside.{Aside}
+use Rattle.bound_checker.specs.Sums.{IsAside}
 
 -- a row's multiplier before these changes: what the first change of the row found
 abbrev pub back_at : Row → ℕ → List Change → ℕ
 back_at r n [] = n
 back_at r n (c ∷ cs) = cond (same_row c.row r) c.old (back_at r n cs)
+
+-- the multipliers in hand, where others may be aside
+abbrev pub in_hand : Option Aside → Multipliers Row → Multipliers Row
+in_hand None ms = ms
+in_hand (Some aside) ms = []
 
 -- the multipliers before the changes past a place of the list
 abbrev pub Before : Multipliers Row → ℕ → List Change → Multipliers Row → Type 0
@@ -33,14 +40,15 @@ pub record Moves (m : Voyage) (ms : Multipliers Row) (k : List Change) (ns : Mul
   pub back : (r : Row) → back_at r (amount_of same_row ns r) more ≡ amount_of same_row ms r
   pub sound : All (IsSound m) more
 
--- a box that waits for the half of value 0 of a variable: what was fixed and changed since is taken back
+-- A box that waits for the half of value 0 of a variable: what was fixed and changed since is taken back. Where its multipliers are aside, the changes since are from none.
 pub record Waits (m : Voyage) (b : Box) (undo : List ℕ) (ms : Multipliers Row) (k : List Change) (f : Frame) (q : Pending Row) : Type 0 where
   pub mark : f.mark ≤ length undo
   pub changes : f.changes ≤ length k
   pub inside : f.var < length b
   pub free : at (released b undo f.mark) f.var ≡ None
   pub box : q.box ≡ fixed (released b undo f.mark) f.var false
-  pub amounts : (r : Row) → back_at r (amount_of same_row ms r) (drop f.changes k) ≡ amount_of same_row q.multipliers r
+  pub amounts : (r : Row) → back_at r (amount_of same_row ms r) (drop f.changes k) ≡ amount_of same_row (in_hand f.aside q.multipliers) r
+  pub aside : IfSome f.aside (IsAside m (released b undo f.mark) q.multipliers)
   pub small : AreSmall m q.multipliers
 
 -- the boxes that wait, the last frame first

@@ -39,10 +39,10 @@ pub record Tightens (m : Voyage) (w : Walk) (steps : List Row) (v : Walk) : Type
 
 -- what leads back to the half of value 0
 abbrev pub frame_of : Walk → ℕ → Frame
-frame_of w x = record { var = x; mark = length w.undo; changes = length w.prices.changes.items }
+frame_of w x = record { var = x; mark = length w.undo; changes = length w.prices.changes.items; aside = None }
 
--- this box is in hand, and these wait
-pub record Stands (m : Voyage) (w : Walk) (q : Pending Row) (qs : List (Pending Row)) : Type 0 where
+-- this box is in hand, and these wait, with these frames
+pub record StandsWith (m : Voyage) (w : Walk) (frames : List Frame) (q : Pending Row) (qs : List (Pending Row)) : Type 0 where
   pub in_hand : w.done ≡ false
   pub box : q.box ≡ w.b
   pub len : length w.b ≡ length (variables m)
@@ -50,10 +50,20 @@ pub record Stands (m : Voyage) (w : Walk) (q : Pending Row) (qs : List (Pending 
   pub priced : w.priced ≡ w.b
   pub carries : Carries m w.b q.multipliers w.prices.sums
   pub sound : All (IsSound m) w.prices.changes.items
-  pub waits : AllWait m w.b w.undo q.multipliers w.prices.changes.items (reverse w.frames.items) qs
+  pub waits : AllWait m w.b w.undo q.multipliers w.prices.changes.items (reverse frames) qs
+
+abbrev pub StandsSomeWith : Voyage → Walk → List Frame → Type 0
+StandsSomeWith m w frames = (q : Pending Row) × (qs : List (Pending Row)) × StandsWith m w frames q qs
+
+abbrev pub Stands : Voyage → Walk → Pending Row → List (Pending Row) → Type 0
+Stands m w q qs = StandsWith m w w.frames.items q qs
 
 abbrev pub StandsSome : Voyage → Walk → Type 0
-StandsSome m w = (q : Pending Row) × (qs : List (Pending Row)) × Stands m w q qs
+StandsSome m w = StandsSomeWith m w w.frames.items
+
+-- the same, where no row has a multiplier
+abbrev pub without : Pending Row → Pending Row
+without q = record { box = q.box; multipliers = [] }
 
 -- these boxes are to be proved still, the one in hand first
 abbrev pub IsAt : Voyage → Walk → List (Pending Row) → Type 0

@@ -2,6 +2,7 @@
 #![tactic(auto)]
 
 mod amounts;
+mod blank;
 mod check;
 mod forcing;
 mod laws;

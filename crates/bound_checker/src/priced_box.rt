@@ -17,6 +17,7 @@ pub fn allow(model: &Model, b: &mut Box01, sums: &mut Sums, x: VarNo, allowed: O
     ensures carries { (ms : Multipliers Rows) → Carries model.now b.old ms sums.old → Carries model.now b.new ms sums.new }
 {
     sums.costs.allow(model, b, x, allowed);
+    sums.blank.allow(model, b, x, allowed);
     b.release(x);
     if let Some(value) = allowed {
         b.fix(x, value);

@@ -1,7 +1,6 @@
 //! Multipliers that are changed, and taken back.
 ghost use Rattle.std.specs.Prelude.{◌≡◌, ℕ, ◌<◌, ◌≤◌, ◌^◌, true, false, All, OnOk, IfOk, Ok, List, [], length, map, take, pos, ◌+ℤ◌, unsigned_abs};
 ghost use Rattle.proof_trees.specs.Multipliers.{Multipliers, with_amount};
-ghost use Rattle.proof_trees.specs.Trees.{begun};
 ghost use Rattle.zero_one_rows.specs.declared.program.Row.{Row as Rows};
 ghost use Rattle.zero_one_rows.specs.Variables.{variables};
 ghost use Rattle.zero_one_rows.specs.Rows.{whole};
@@ -147,40 +146,6 @@ impl<'a> Prices<'a> {
             more = self.clear_one(alloc, model, b)?;
         }
         Ok(())
-    }
-
-    // What a record begins with.
-    fn begin(
-        &mut self,
-        alloc: Global,
-        model: &Model,
-        b: &Box01,
-        from_zero: bool,
-    ) -> Result<(), NoMemory>
-        requires carries { CarriesSome model.now b.now self.old.sums }
-        ensures { (first ms : Multipliers Rows) (k : List Changes) → Holds model.now b.now first k ms self.old → OnOk result (Holds model.now b.now first k (begun from_zero ms) self.new) }
-    {
-        if from_zero {
-            self.clear(alloc, model, b)?;
-        }
-        Ok(())
-    }
-
-    /// What a record begins with, and its raises in order.
-    pub fn take(
-        &mut self,
-        alloc: Global,
-        model: &Model,
-        b: &Box01,
-        from_zero: bool,
-        raises: &[Raise],
-        node: u32,
-    ) -> Result<(), BoundNo>
-        requires carries { CarriesSome model.now b.now self.old.sums }
-        ensures { (first ms : Multipliers Rows) (k : List Changes) → Holds model.now b.now first k ms self.old → Ends (λ ns. Holds model.now b.now first k ns self.new) (raised_rows (whole model.now) node (Ok (begun from_zero ms)) (map raise_of raises.now)) result }
-    {
-        self.begin(alloc, model, b, from_zero)?;
-        self.raise_all(alloc, model, b, raises, node)
     }
 
     /// Takes back what was changed past a place of the list, the last first.

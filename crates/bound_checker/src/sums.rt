@@ -1,5 +1,5 @@
 //! Multipliers with the reduced costs and the dual value of a box.
-ghost use Rattle.std.specs.Prelude.{◌≡◌, ℕ, ◌≤◌, ◌^◌, true, OnOk, IfOk, length, [], pos, ◌+ℤ◌, unsigned_abs};
+ghost use Rattle.std.specs.Prelude.{◌≡◌, ℕ, ◌≤◌, ◌^◌, true, OnOk, IfOk, IfSome, length, [], pos, ◌+ℤ◌, unsigned_abs};
 ghost use Rattle.proof_trees.specs.Boxes.{Box};
 ghost use Rattle.proof_trees.specs.Multipliers.{Multipliers, amount_of, worth, with_amount};
 ghost use Rattle.zero_one_rows.specs.Variables.{Voyage, variables};
@@ -8,12 +8,15 @@ ghost use Rattle.zero_one_rows.specs.Rows.{whole};
 ghost use Rattle.certificate.specs.Entries.{same_row};
 ghost use Rattle.dual_bound.specs.Adding.{in_range};
 ghost use Rattle.dual_bound.specs.Costs.{Priced, PricedSome};
-ghost use Rattle.bound_checker.specs.Sums.{Carries, CarriesSome};
+ghost use Rattle.bound_checker.specs.Sums.{Carries, CarriesSome, IsAside, IsClean};
+ghost use Rattle.bound_checker.specs.Waits.{in_hand};
 
 use crate::amounts::Amounts;
+use crate::blank::Blank;
 use crate::named_rows::NamedRows;
 use dual_bound::{Costs, list_row, terms_of};
 use std::alloc::Global;
+use std::mem;
 use stow_data::NoMemory;
 use zero_one_model::{Box01, Model};
 use zero_one_rows::Row;
@@ -26,7 +29,15 @@ const MOST: u64 = 1 << 40;
 pub struct Sums<'a> {
     pub amounts: Amounts,
     pub costs: Costs,
+    pub blank: Blank,
     pub rows: NamedRows<'a>,
+}
+
+/// Multipliers that are put aside, with their costs.
+#[derive(Drop)]
+pub struct Aside {
+    pub amounts: Amounts,
+    pub costs: Costs,
 }
 
 // How much a multiplier changes.
@@ -61,6 +72,7 @@ impl<'a> Sums<'a> {
         Ok(Sums {
             amounts: Amounts::none(alloc),
             costs: Costs::start(alloc, model, b)?,
+            blank: Blank::start(alloc, model, b)?,
             rows: NamedRows::none(alloc, model),
         })
     }
@@ -80,6 +92,7 @@ impl<'a> Sums<'a> {
         requires rows { self.old.rows ≡ model.now }
         requires priced { PricedSome model.now b.now self.old.costs }
         ensures rows { self.new.rows ≡ self.old.rows }
+        ensures blank { self.new.blank ≡ self.old.blank }
         ensures amounts { OnOk result (self.new.amounts ≡ self.old.amounts) }
         ensures priced { (ms : Multipliers Rows) (n : ℕ) → Priced model.now b.now ms self.old.costs → pos (amount_of same_row ms row.now) +ℤ by ≡ pos n → n ≤ 2 ^ 40
             → OnOk result (Priced model.now b.now (with_amount same_row ms row.now n) self.new.costs) }
@@ -120,5 +133,38 @@ impl<'a> Sums<'a> {
         ensures { (m : Voyage) (b : Box) (ms : Multipliers Rows) → Carries m b ms self.now → result ≡ worth (whole m) b ms }
     {
         self.costs.total()
+    }
+}
+
+impl<'a> Sums<'a> {
+    /// Puts the multipliers aside; then no row has one. The costs to go on with are to be those of no multipliers. It takes constant time.
+    pub fn put_aside(&mut self, alloc: Global, clean: Costs) -> Aside
+        ensures aside { (m : Voyage) (b : Box) (ms : Multipliers Rows) → Carries m b ms self.old → IsAside m b ms result }
+        ensures none { (m : Voyage) (b : Box) (ms : Multipliers Rows) → Carries m b ms self.old → IsClean m clean → Carries m b [] self.new }
+    {
+        let costs = self.blank.valued(clean);
+        Aside {
+            amounts: mem::replace(&mut self.amounts, Amounts::none(alloc)),
+            costs: mem::replace(&mut self.costs, costs),
+        }
+    }
+
+    // Takes multipliers in hand again, where no row has one. It takes constant time, and that of dropping the rows that had one.
+    fn take_up(&mut self, aside: Aside)
+        ensures { (m : Voyage) (b : Box) (ms : Multipliers Rows) → Carries m b [] self.old → IsAside m b ms aside → Carries m b ms self.new }
+    {
+        let clean = mem::replace(&mut self.costs, aside.costs);
+        self.amounts = aside.amounts;
+        self.blank.keep(clean);
+    }
+
+    /// Takes the multipliers in hand that are aside, where there are any.
+    pub fn bring_back(&mut self, aside: Option<Aside>)
+        ensures { (m : Voyage) (b : Box) (ms : Multipliers Rows) → Carries m b (in_hand aside ms) self.old → IfSome aside (IsAside m b ms) → Carries m b ms self.new }
+    {
+        match aside {
+            Some(aside) => self.take_up(aside),
+            None => {}
+        }
     }
 }

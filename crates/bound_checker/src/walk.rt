@@ -2,7 +2,7 @@
 ghost use Rattle.std.specs.Prelude.{◌≡◌, ◌≢◌, ℕ, ◌<◌, ◌≤◌, ◌≤ℤ◌, true, false, All, List, [], ◌∷◌, ◌++◌, length, take, drop, slice_get, OnOk, IfOk, IfErr, MatchResult, None, Some};
 ghost use Rattle.proof_trees.specs.Boxes.{Box, fixed};
 ghost use Rattle.proof_trees.specs.Multipliers.{Multipliers};
-ghost use Rattle.proof_trees.specs.Trees.{Pending, root};
+ghost use Rattle.proof_trees.specs.Trees.{Pending, begun, root};
 ghost use Rattle.proof_trees.specs.Trees.{Leaf as Leaves, Branch as Branches};
 ghost use Rattle.zero_one_rows.specs.declared.program.Row.{Row as Rows};
 ghost use Rattle.zero_one_rows.specs.Variables.{Voyage, variables};
@@ -10,14 +10,15 @@ ghost use Rattle.zero_one_rows.specs.Rows.{whole};
 ghost use Rattle.partial_plan.specs.Fixing.{released};
 ghost use Rattle.certificate.specs.Entries.{entry_of, end_of, number_of};
 ghost use Rattle.bound_checker.specs.Faults.{needed, short_fault, step_fault};
-ghost use Rattle.bound_checker.specs.Sums.{Carries};
-ghost use Rattle.bound_checker.specs.Walks.{IsPriced, Goes, Tightens, frame_of, Stands, StandsSome, IsAt, IsSomewhere, Narrows, Opens, Closes, Takes};
+ghost use Rattle.bound_checker.specs.Sums.{Carries, IsClean};
+ghost use Rattle.bound_checker.specs.Walks.{IsPriced, Goes, Tightens, frame_of, StandsWith, StandsSomeWith, Stands, StandsSome, without, IsAt, IsSomewhere, Narrows, Opens, Closes, Takes};
 
 use crate::priced_box::{allow, follow, free_all};
 use crate::prices::Prices;
 use crate::steps::tighten_all;
-use crate::sums::Sums;
+use crate::sums::{Aside, Sums};
 use certificate::{BoundNo, End, Record};
+use dual_bound::Costs;
 use partial_plan::{UndoList, undo};
 use std::alloc::Global;
 use stow_data::{NoMemory, VarNo};
@@ -25,11 +26,14 @@ use zero_one_model::{Box01, Model};
 use zero_one_rows::{Row, Var};
 
 /// A variable whose half of value 0 waits, and how much was fixed and changed before it.
-#[derive(Clone, Copy)]
+#[derive(Drop)]
 pub struct Frame {
     pub var: VarNo,
     pub mark: usize,
     pub changes: usize,
+
+    /// The multipliers that it waits with, where a record behind it begins from zero; those in hand began from none then.
+    pub aside: Option<Aside>,
 }
 
 /// The box in hand with its multipliers, and what leads back to those that wait.
@@ -161,6 +165,7 @@ impl<'a> Walk<'a> {
         };
         self.release(model, frame.mark);
         self.prices.take_back(alloc, model, &self.b, frame.changes)?;
+        self.prices.sums.bring_back(frame.aside);
         self.halve(model, frame.var, false)?;
         Ok(())
     }
@@ -192,6 +197,7 @@ impl<'a> Walk<'a> {
             var: x,
             mark: self.undo.len(),
             changes: self.prices.changes.len(),
+            aside: None,
         };
         self.halve(model, x, true)?;
         self.frames.push(frame)?;
@@ -267,6 +273,85 @@ impl<'a> Walk<'a> {
         Ok(())
     }
 
+    // Puts the multipliers aside that the last box waits with, which has this frame; then no row has one.
+    fn put_aside(
+        &mut self,
+        alloc: Global,
+        model: &Model,
+        frame: Frame,
+        clean: Costs,
+    ) -> Result<(), NoMemory>
+        requires stands { StandsSomeWith model.now self.old (self.old.frames.items ++ frame ∷ []) }
+        requires none { frame.aside ≡ None }
+        requires clean { IsClean model.now clean }
+        ensures { (q : Pending Rows) (qs : List (Pending Rows)) → StandsWith model.now self.old (self.old.frames.items ++ frame ∷ []) q qs → OnOk result (Stands model.now self.new (without q) qs) }
+    {
+        let fixed = past(&self.undo, frame.mark);
+        free_all(model, fixed, &mut self.priced, &mut self.prices.sums);
+        self.prices
+            .take_back(alloc, model, &self.priced, frame.changes)?;
+        let aside = self.prices.sums.put_aside(alloc, clean);
+        follow(
+            model,
+            &self.b,
+            fixed,
+            &mut self.priced,
+            &mut self.prices.sums,
+        );
+        self.frames.push(Frame {
+            aside: Some(aside),
+            ..frame
+        })?;
+        Ok(())
+    }
+
+    // Begins without multipliers behind the last box that waits, which has this frame.
+    fn begin_behind(&mut self, alloc: Global, model: &Model, frame: Frame) -> Result<(), NoMemory>
+        requires stands { StandsSomeWith model.now self.old (self.old.frames.items ++ frame ∷ []) }
+        ensures { (q : Pending Rows) (qs : List (Pending Rows)) → StandsWith model.now self.old (self.old.frames.items ++ frame ∷ []) q qs → OnOk result (Stands model.now self.new (without q) qs) }
+    {
+        if frame.aside.is_some() {
+            self.prices.take_back(alloc, model, &self.b, frame.changes)?;
+            self.frames.push(frame)?;
+            return Ok(());
+        }
+        let blank = &mut self.prices.sums.blank;
+        match blank.take(alloc, model, &self.b)? {
+            Some(clean) => self.put_aside(alloc, model, frame, clean),
+            None => {
+                self.frames.push(frame)?;
+                self.prices.clear(alloc, model, &self.b)?;
+                Ok(())
+            }
+        }
+    }
+
+    // Begins with the multipliers in hand, or without any.
+    fn begin(&mut self, alloc: Global, model: &Model, from_zero: bool) -> Result<(), NoMemory>
+        requires stands { StandsSome model.now self.old }
+        ensures { (q : Pending Rows) (qs : List (Pending Rows)) → Stands model.now self.old q qs → OnOk result (Stands model.now self.new (record { box = q.box; multipliers = begun from_zero q.multipliers }) qs) }
+    {
+        if !from_zero {
+            return Ok(());
+        }
+        match self.frames.pop() {
+            Some(frame) => self.begin_behind(alloc, model, frame),
+            None => {
+                self.prices.clear(alloc, model, &self.b)?;
+                Ok(())
+            }
+        }
+    }
+
+    // Where no box waits, nothing that was changed is to be taken back.
+    fn forget(&mut self)
+        ensures { (m : Voyage) (q : Pending Rows) (qs : List (Pending Rows)) → Stands m self.old q qs → Stands m self.new q qs }
+    {
+        if self.frames.as_slice().is_empty() {
+            self.prices.changes.clear();
+        }
+    }
+
     // A record's steps and raises.
     fn open(
         &mut self,
@@ -278,11 +363,12 @@ impl<'a> Walk<'a> {
         requires stands { StandsSome model.now self.old }
         ensures { (q : Pending Rows) (qs : List (Pending Rows)) → Stands model.now self.old q qs → Opens model.now node q qs (entry_of model.now entry.now) result self.new }
     {
+        self.forget();
         let steps = entry.steps.as_slice();
         self.tighten(alloc, model, steps, node)?;
+        self.begin(alloc, model, entry.from_zero)?;
         let raises = entry.raises.as_slice();
-        self.prices
-            .take(alloc, model, &self.b, entry.from_zero, raises, node)
+        self.prices.raise_all(alloc, model, &self.b, raises, node)
     }
 
     /// One record: the greatest bound up to the high one that it doesn't refute.

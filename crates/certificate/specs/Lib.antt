@@ -1,4 +1,5 @@
 pub mod Entries
+pub mod Few
 pub mod FirstFault
 pub mod Grammar
 pub mod Reading

@@ -1,20 +1,21 @@
 //! Copies of records, and whether two are the same.
 ghost use Rattle.std.specs.Prelude.{◌≡◌, IfOk, true};
 
+use crate::few::Few;
 use crate::tree::Record;
 use std::alloc::Global;
 use stow_data::NoMemory;
 use zero_one_rows::{Raise, RaiseList, Row, RowList};
 
 // A copy of rows.
-fn copy_rows(alloc: Global, rows: &[Row]) -> Result<RowList, NoMemory>
+fn copy_rows(alloc: Global, rows: &[Row]) -> Result<Few<Row>, NoMemory>
     ensures { IfOk result (λ copy. copy ≡ rows.now) }
 {
     let mut copy = RowList::new(alloc);
     for row in rows {
         copy.push(copy_row(row)?)?;
     }
-    Ok(copy)
+    Few::of(alloc, copy)
 }
 
 // A copy of a row.
@@ -35,14 +36,14 @@ fn copy_raise(raise: &Raise) -> Result<Raise, NoMemory>
 }
 
 // A copy of raises.
-fn copy_raises(alloc: Global, raises: &[Raise]) -> Result<RaiseList, NoMemory>
+fn copy_raises(alloc: Global, raises: &[Raise]) -> Result<Few<Raise>, NoMemory>
     ensures { IfOk result (λ copy. copy ≡ raises.now) }
 {
     let mut copy = RaiseList::new(alloc);
     for raise in raises {
         copy.push(copy_raise(raise)?)?;
     }
-    Ok(copy)
+    Few::of(alloc, copy)
 }
 
 // Whether two rows are the same.
@@ -98,10 +99,10 @@ impl Record {
         ensures { IfOk result (λ copy. copy ≡ self.now) }
     {
         Ok(Record {
-            from_zero: self.from_zero,
             steps: copy_rows(alloc, self.steps.as_slice())?,
             raises: copy_raises(alloc, self.raises.as_slice())?,
             end: self.end,
+            from_zero: self.from_zero,
         })
     }
 

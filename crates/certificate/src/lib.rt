@@ -3,6 +3,7 @@
 
 mod copies;
 mod faults;
+mod few;
 mod journals;
 mod laws;
 mod line_reader;
@@ -16,6 +17,7 @@ mod words;
 mod writing;
 
 pub use faults::CertFault;
+pub use few::Few;
 pub use journals::{Entry, Journal, JournalList, Node, Path, PathList, RecordList};
 pub use laws::answers_are_determined;
 pub use lines::Line;

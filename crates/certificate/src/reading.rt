@@ -244,12 +244,7 @@ fn read_record(
             Line::Step(row) if raises.is_empty() => steps.push(row)?,
             Line::Change(raise) => raises.push(raise)?,
             Line::Ends(end) => {
-                let item = Record {
-                    from_zero,
-                    steps,
-                    raises,
-                    end,
-                };
+                let item = Record::of(alloc, from_zero, steps, raises, end)?;
                 return Ok((item, at, lines));
             }
             _ => return Err(CertFault::BadLine { line: lines }),

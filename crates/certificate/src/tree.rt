@@ -1,6 +1,10 @@
 //! Proof trees.
-use stow_data::Seq;
-use zero_one_rows::{RaiseList, RowList, Var};
+ghost use Rattle.std.specs.Prelude.{◌≡◌, IfOk};
+
+use crate::few::Few;
+use std::alloc::Global;
+use stow_data::{NoMemory, Seq};
+use zero_one_rows::{Raise, RaiseList, Row, RowList, Var};
 
 /// How a record ends.
 #[derive(Clone, Copy, Debug, PartialEq, Eq)]
@@ -16,15 +20,35 @@ pub enum End {
 /// What is done in one box.
 #[derive(Debug, Drop)]
 pub struct Record {
-    /// The multipliers start from zero, and not from those of the parent.
-    pub from_zero: bool,
-
     /// The rows that tighten the box, in order.
-    pub steps: RowList,
+    pub steps: Few<Row>,
 
     /// The changes of the multipliers, in order.
-    pub raises: RaiseList,
+    pub raises: Few<Raise>,
     pub end: End,
+
+    /// The multipliers start from zero, and not from those of the parent. It stands last, where it takes the room behind the end.
+    pub from_zero: bool,
+}
+
+impl Record {
+    /// A record of these lists. It keeps no spare room.
+    pub fn of(
+        alloc: Global,
+        from_zero: bool,
+        steps: RowList,
+        raises: RaiseList,
+        end: End,
+    ) -> Result<Record, NoMemory>
+        ensures { IfOk result (λ r. r ≡ record { from_zero = from_zero; steps = steps; raises = raises; end = end }) }
+    {
+        Ok(Record {
+            steps: Few::of(alloc, steps)?,
+            raises: Few::of(alloc, raises)?,
+            end,
+            from_zero,
+        })
+    }
 }
 
 /// The records of a proof tree in preorder.

@@ -8,7 +8,7 @@ use crate::tree::{End, Head, Outcome, Record, Tree};
 use itoa::Buffer;
 use std::alloc::Global;
 use stow_data::{Bytes, NoMemory};
-use zero_one_rows::{RaiseList, Row, RowList};
+use zero_one_rows::{Raise, Row};
 
 /// The text of a certificate: the head, the records in their order, and a line `end`.
 pub fn write_cert(alloc: Global, head: &Head, tree: &Tree) -> Result<Bytes, NoMemory>
@@ -128,8 +128,8 @@ fn write_record(out: &mut Bytes, item: &Record) -> Result<(), NoMemory>
     ensures { OnOk result (out.new ≡ out.old ++ text_of (record_lines item.now)) }
 {
     write_node(out, item.from_zero)?;
-    write_steps(out, &item.steps)?;
-    write_raises(out, &item.raises)?;
+    write_steps(out, item.steps.as_slice())?;
+    write_raises(out, item.raises.as_slice())?;
     write_end(out, item.end)?;
     Ok(())
 }
@@ -148,10 +148,10 @@ fn write_node(out: &mut Bytes, from_zero: bool) -> Result<(), NoMemory>
 
 /// Appends the lines of steps.
 #[tactic(auto, unfolding(crate::specs::Text::line_text))]
-fn write_steps(out: &mut Bytes, steps: &RowList) -> Result<(), NoMemory>
+fn write_steps(out: &mut Bytes, steps: &[Row]) -> Result<(), NoMemory>
     ensures { OnOk result (out.new ≡ out.old ++ flat_map (λ row. whole (line.Step row)) steps.now) }
 {
-    for row in steps.as_slice() {
+    for row in steps {
         out.extend(b"s ")?;
         write_row(out, row)?;
         out.extend(b"\n")?;
@@ -161,10 +161,10 @@ fn write_steps(out: &mut Bytes, steps: &RowList) -> Result<(), NoMemory>
 
 /// Appends the lines of raises.
 #[tactic(auto, unfolding(crate::specs::Text::line_text))]
-fn write_raises(out: &mut Bytes, raises: &RaiseList) -> Result<(), NoMemory>
+fn write_raises(out: &mut Bytes, raises: &[Raise]) -> Result<(), NoMemory>
     ensures { OnOk result (out.new ≡ out.old ++ flat_map (λ raise. whole (line.Change raise)) raises.now) }
 {
-    for raise in raises.as_slice() {
+    for raise in raises {
         out.extend(b"r ")?;
         out.extend(Buffer::new().format(raise.amount).as_bytes())?;
         out.extend(b" ")?;

@@ -4,11 +4,10 @@ ghost use Rattle.std.specs.List.Sorted.{IsPermutation};
 ghost use Rattle.node_ledger.specs.Gathered.{entries};
 ghost use Rattle.node_ledger.specs.Preorder.{by_preorder, InPreorder, left_node};
 
-use certificate::{End, Entry, Journal, JournalList, Path, PathList, Record};
+use certificate::{End, Entry, Few, Journal, JournalList, Path, PathList, Record};
 use std::alloc::Global;
 use std::cmp::Ordering;
 use stow_data::NoMemory;
-use zero_one_rows::{RaiseList, RowList};
 
 /// Which of two nodes comes first in a tree: one above the other, or the one at value 1 of the branch at which their
 /// paths part.
@@ -39,26 +38,26 @@ fn add_journal(nodes: &mut Vec<Entry>, journal: Journal) -> Result<(), NoMemory>
 }
 
 /// Appends nodes that were left open.
-fn add_left(alloc: Global, nodes: &mut Vec<Entry>, left: PathList) -> Result<(), NoMemory>
+fn add_left(nodes: &mut Vec<Entry>, left: PathList) -> Result<(), NoMemory>
     ensures { OnOk result (nodes.new.items ≡ nodes.old.items ++ map left_node left) }
 {
     for path in left.into_items() {
-        nodes.push(left_open(alloc, path))?;
+        nodes.push(left_open(path))?;
     }
     Ok(())
 }
 
 /// A node that was left open.
-fn left_open(alloc: Global, path: Path) -> Entry
+fn left_open(path: Path) -> Entry
     ensures { result ≡ left_node path }
 {
     Entry {
         path,
         record_of: Record {
-            from_zero: false,
-            steps: RowList::new(alloc),
-            raises: RaiseList::new(alloc),
+            steps: Few::none(),
+            raises: Few::none(),
             end: End::Left,
+            from_zero: false,
         },
     }
 }
@@ -75,6 +74,6 @@ pub fn every_node(
     for journal in journals.into_items() {
         add_journal(&mut nodes, journal)?;
     }
-    add_left(alloc, &mut nodes, left)?;
+    add_left(&mut nodes, left)?;
     Ok(nodes)
 }

@@ -36,12 +36,13 @@ fn entry(alloc: Global, path: &[bool], steps: u32, end: End) -> Result<Entry, No
 {
     Ok(Entry {
         path: Path::of(alloc, path)?,
-        record_of: Record {
-            from_zero: false,
-            steps: steps_of(alloc, steps)?,
-            raises: RaiseList::new(alloc),
+        record_of: Record::of(
+            alloc,
+            false,
+            steps_of(alloc, steps)?,
+            RaiseList::new(alloc),
             end,
-        },
+        )?,
     })
 }
 

@@ -47,12 +47,7 @@ fn violated_leaf(alloc: Global, model: &Model, steps: RowList, row: Row) -> Resu
         row,
         amount: closing_amount(model.limit()),
     })?;
-    Ok(Record {
-        from_zero: true,
-        steps,
-        raises,
-        end: End::Leaf,
-    })
+    Record::of(alloc, true, steps, raises, End::Leaf)
 }
 
 // Ends a node whose box is full: its leaf closes from zero at what the box costs.
@@ -70,12 +65,7 @@ fn end_full(
     ensures worked { IfOk result (λ w. (q : Pending Rows) (most : ℕ) → IsTight model.now q b.now steps → Works model.now q most cut w) }
 {
     rows_are_listed();
-    let entry = Record {
-        from_zero: true,
-        steps,
-        raises: RaiseList::new(alloc),
-        end: End::Leaf,
-    };
+    let entry = Record::of(alloc, true, steps, RaiseList::new(alloc), End::Leaf)?;
     let cost = cost_of(model, b);
     if cost < cut {
         let full = b.copy(alloc)?;
@@ -111,21 +101,15 @@ fn end_open(
     let mut raises = RaiseList::new(alloc);
     scale.set_box(model, b);
     match scale.raise(alloc, model, table, wanted.cut, most, &mut raises) {
-        Raised::Reached => Ok(Worked::Closed(Record {
-            from_zero: false,
-            steps,
-            raises,
-            end: End::Leaf,
-        })),
+        Raised::Reached => {
+            let leaf = Record::of(alloc, false, steps, raises, End::Leaf)?;
+            Ok(Worked::Closed(leaf))
+        }
         Raised::Stuck | Raised::Spent => {
             let enough = least_cost(scale.gauge.value());
             let x = planned_or(planner, model, b, first, Wanted { enough, ..wanted })?;
-            Ok(Worked::Branched(Record {
-                from_zero: false,
-                steps,
-                raises,
-                end: End::Branch(model.var(x)),
-            }))
+            let branch = Record::of(alloc, false, steps, raises, End::Branch(model.var(x)))?;
+            Ok(Worked::Branched(branch))
         }
         Raised::NoMemory => Err(NoMemory),
     }

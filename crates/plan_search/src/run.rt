@@ -3,7 +3,7 @@ ghost use Rattle.std.specs.Prelude.{◌≡◌, ◌+◌, ◌≤◌, IfOk};
 ghost use Rattle.solution_meaning.specs.Laws.{IsProblem, most_lifts};
 ghost use Rattle.plan_search.specs.Found.{IsSearched, one_leaf};
 
-use certificate::{End, Record, Tree};
+use certificate::{End, Few, Record, Tree};
 use node_ledger::gather;
 use program_rows::rows_are_listed;
 use search_crew::search;
@@ -16,7 +16,7 @@ use stow_data::NoMemory;
 use stow_io::Gate;
 use voyage_guess::Planner;
 use zero_one_model::{Box01, Model};
-use zero_one_rows::{RaiseList, Row, RowList};
+use zero_one_rows::Row;
 
 /// The tree of a search, and the best that it found.
 #[derive(Drop)]
@@ -39,10 +39,10 @@ fn one_leaf(alloc: Global) -> Result<Searched, NoMemory>
 {
     let mut tree = Tree::new(alloc);
     tree.push(Record {
-        from_zero: false,
-        steps: RowList::new(alloc),
-        raises: RaiseList::new(alloc),
+        steps: Few::none(),
+        raises: Few::none(),
         end: End::Leaf,
+        from_zero: false,
     })?;
     Ok(Searched {
         tree,

@@ -85,7 +85,10 @@ fn check_cert<'a, F: Folder>(
     };
     let bytes = read_own(folder, name)?;
     records_are_few();
-    match cert_text(alloc, bytes.as_slice()) {
+    let text = cert_text(alloc, bytes.as_slice());
+    // The records are at hand, and the text isn't needed beside them.
+    drop(bytes);
+    match text {
         Ok(CertText::Certificate(head, tree)) => {
             check_files(alloc, base, v, model, &head, &tree, folder)
         }

@@ -2,6 +2,7 @@ use Rattle.std.proofs.Common.{◌≡◌, ◌∙◌, ap, sym, subst, set, length,
 use Rattle.std.proofs.lemmas.List.{length-set}
 use Rattle.proof_trees.specs.Boxes.{Box}
 use Rattle.dual_bound.specs.Costs.{Priced}
+use Rattle.bound_checker.specs.Sums.{IsBlank}
 use Rattle.bound_checker.proofs.Following.{set_twice}
 use Rattle.bound_checker.proofs.priced_box.allow.Goals as goal
 
@@ -18,4 +19,5 @@ returns-in-Some-clause-carries c = λ ms h.
       amounts = h.amounts;
       rows = h.rows;
       priced = subst (λ (b : Box). Priced c.args.model.now b ms c.allow.new.self) (sym there) (c.allow.ensures ms h.priced);
+      blank = subst (λ (b : Box). IsBlank c.args.model.now b c.allow-2.new.self) (sym there) c.allow-2.ensures;
     }

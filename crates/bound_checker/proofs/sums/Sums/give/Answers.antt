@@ -28,4 +28,4 @@ returns c = λ ms carries.
     let priced = simp to_z-of_z at c.in_ok-add_row.ensures.priced in
     carries_more c.args.model.now c.args.b.now ms c.args.self.now carries c.args.row.now c.args.amount _
     (λ q. c.in_ok-set.ensures q ∙ ap (λ (es : List (Row × ℕ)). cond (same_row c.args.row.now q) c.args.amount (amount_of same_row es q)) same)
-    (priced ms c.args.amount carries.priced sum c.requires.amount) c.add_row.ensures.rows
+    (priced ms c.args.amount carries.priced sum c.requires.amount) c.add_row.ensures.blank c.add_row.ensures.rows

@@ -20,7 +20,7 @@ follow-requires-clause-back c =
     ap (freed c.tighten_all.new.b) is ∙ e.noted.2.back ∙ sym c.requires.priced.same
 
 pub follow-requires-clause-carries : goal.follow-requires-clause-carries
-follow-requires-clause-carries c = (c.requires.priced.carries.0, carries_kept _ _ _ _ (subst (λ (x : Box). Carries c.args.model.now x c.requires.priced.carries.0 c.args.self.now.prices.sums) (sym c.requires.priced.same) c.requires.priced.carries.1) _ refl refl c.in_ok-tighten_all.ensures.rows)
+follow-requires-clause-carries c = (c.requires.priced.carries.0, carries_kept _ _ _ _ (subst (λ (x : Box). Carries c.args.model.now x c.requires.priced.carries.0 c.args.self.now.prices.sums) (sym c.requires.priced.same) c.requires.priced.carries.1) _ refl refl refl c.in_ok-tighten_all.ensures.rows)
 
 pub tighten_all-requires-clause-rows : goal.tighten_all-requires-clause-rows
 tighten_all-requires-clause-rows c = c.requires.priced.carries.1.rows
@@ -36,7 +36,7 @@ returns-clause-tightened c =
         fixes = e.noted.1;
         waiting = refl;
         priced = c.follow.ensures.there;
-        carries = λ ms h. subst (λ (x : Box). Carries c.args.model.now x ms c.follow.new.sums) c.follow.ensures.there (c.follow.ensures.carries ms (carries_kept _ _ _ _ (subst (λ (x : Box). Carries c.args.model.now x ms c.args.self.now.prices.sums) (sym c.requires.priced.same) h) _ refl refl e.rows));
+        carries = λ ms h. subst (λ (x : Box). Carries c.args.model.now x ms c.follow.new.sums) c.follow.ensures.there (c.follow.ensures.carries ms (carries_kept _ _ _ _ (subst (λ (x : Box). Carries c.args.model.now x ms c.args.self.now.prices.sums) (sym c.requires.priced.same) h) _ refl refl refl e.rows));
         changes = refl;
         done = refl;
       };
