@@ -8,12 +8,12 @@ use Rattle.search_machine.proofs.Weights.{weigh_append, every_append, every_left
 use Rattle.incumbent_word.specs.declared.view.View.{View}
 use Rattle.incumbent_word.specs.Rule.{with_ticket, one_over}
 use Rattle.node_work.specs.Work.{node_of, IsNode}
-use Rattle.search_crew.specs.declared.deeds.Deeds.{Deeds}
-use Rattle.search_crew.specs.declared.deeds.Halves.{Halves}
-use Rattle.search_crew.specs.Deeds.{halves_weight, EachHalf, Flow, on_nodes, no_deeds, IsDone}
-use Rattle.search_crew.specs.Jobs.{IsUnused}
+use Rattle.crew_turns.specs.declared.deeds.Deeds.{Deeds}
+use Rattle.crew_turns.specs.declared.deeds.Halves.{Halves}
+use Rattle.crew_turns.specs.Deeds.{halves_weight, EachHalf, Flow, on_nodes, no_deeds, IsDone}
+use Rattle.search_crew.specs.Starts.{IsUnused}
 use Rattle.search_crew.specs.Ends.{halves_in, IsRest}
-use Rattle.search_crew.proofs.Handled.{rebalanced, ticket_drawn, node_left, node_left_too, nothing_done}
+use Rattle.crew_turns.proofs.Handled.{rebalanced, ticket_drawn, node_left, node_left_too, nothing_done}
 
 weigh_halves : (h : Node → ℕ) (o : Option Halves) → weigh h (halves_in o) ≡ halves_weight h o
 weigh_halves h None = refl

@@ -12,15 +12,16 @@ use Rattle.node_racks.specs.declared.racks.Pass.{Pass}
 use Rattle.node_racks.specs.declared.racks.Rack.{Rack}
 use Rattle.node_racks.specs.Racks.{IsPassAt, took_weight, put_weight, all_took, all_put}
 use Rattle.steal_pool.specs.declared.found.Found.{Found}
-use Rattle.search_crew.specs.declared.deeds.Deeds.{Deeds}
-use Rattle.search_crew.specs.declared.deeds.Halves.{Halves}
+use Rattle.crew_turns.specs.declared.deeds.Deeds.{Deeds}
+use Rattle.crew_turns.specs.declared.deeds.Halves.{Halves}
 use Rattle.search_crew.specs.declared.joining.AllDeeds.{AllDeeds}
 use Rattle.search_crew.specs.declared.joining.Ended.{Ended}
 use Rattle.search_crew.specs.declared.places.Back.{Back}
 use Rattle.search_crew.specs.declared.places.Post.{Post}
 use Rattle.node_work.specs.Work.{IsNode, most_rehandles}
-use Rattle.search_crew.specs.Deeds.{box_of, Weight, Flow, on_nodes, IsDone}
-use Rattle.search_crew.specs.Jobs.{Means, IsUnused, seed}
+use Rattle.crew_turns.specs.Deeds.{box_of, Weight, Flow, on_nodes, IsDone}
+use Rattle.crew_turns.specs.Jobs.{Means, seed}
+use Rattle.search_crew.specs.Starts.{IsUnused}
 
 -- what workers did, with all journals as one
 abbrev pub deeds_of : AllDeeds → Deeds

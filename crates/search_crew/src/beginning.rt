@@ -4,11 +4,11 @@ ghost use Rattle.certificate.specs.declared.journals.Node.{Node};
 ghost use Rattle.node_racks.specs.Racks.{IsPassAt, IsFresh, number_of, took_weight, put_weight};
 ghost use Rattle.search_machine.specs.Bags.{weigh, Every};
 ghost use Rattle.search_crew.specs.Ends.{IsPosted, post_number};
-ghost use Rattle.search_crew.specs.Jobs.{IsMaker, first_node, seed_at};
+ghost use Rattle.search_crew.specs.Starts.{IsMaker, first_node, seed_at};
 
 use crate::places::Post;
-use crate::taking::lay;
 use certificate::{Node, Path, RecordList};
+use crew_turns::lay;
 use incumbent_word::{Board, Owner};
 use node_racks::{Pass, Rack, Wanted};
 use node_work::Tables;

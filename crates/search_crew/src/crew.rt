@@ -3,17 +3,13 @@ ghost use Rattle.std.specs.Prelude.{◌≡◌, All, IfOk, Ok, map};
 ghost use Rattle.node_racks.specs.Rounds.{Each};
 ghost use Rattle.search_crew.specs.Ends.{IsPosted, IsReturned};
 
-use crate::deeds::Deeds;
-use crate::job::Job;
 use crate::places::{Back, Post};
-use crate::serving::serve;
-use crate::turning::Signs;
+use crew_turns::{Deeds, Job, Signs, serve};
 use incumbent_word::Board;
 use node_racks::{Rack, Wanted};
 use node_work::{Desk, Tables};
 use std::alloc::Global;
 use std::sync::Wait;
-use std::sync::atomic::Ordering;
 use std::thread;
 use std::thread::Threads;
 use stow_data::NoMemory;
@@ -93,7 +89,7 @@ fn man<M: Wanted, G: Gate, R: Wait>(
 {
     let back = take_turns(rt, alloc, tables, ground, gate, post);
     if back.is_err() {
-        ground.signs.stop.store(true, Ordering::SeqCst);
+        ground.signs.stop();
     }
     back
 }

@@ -1,7 +1,7 @@
 //! What a worker is given, and what it brings back. Neither has a desk, which is made where the worker runs.
 
-use crate::deeds::Deeds;
 use certificate::Node;
+use crew_turns::Deeds;
 use incumbent_word::Seat;
 use node_racks::{Pass, Wanted};
 use voyage_guess::Planner;
