@@ -9,7 +9,7 @@ use Rattle.proof_trees.specs.Boxes.{Box}
 use Rattle.proof_trees.specs.Multipliers.{Multipliers}
 use Rattle.proof_trees.specs.Trees.{End, Leaf, Left, Branch, Entry, root}
 use Rattle.certificate.specs.declared.tree.Record.{Record}
-use Rattle.certificate.specs.declared.journals.Node.{Node}
+use Rattle.search_nodes.specs.declared.nodes.Node.{Node}
 use Rattle.certificate.specs.Entries.{same_row, number_of, entry_of}
 use Rattle.search_machine.specs.Bags.{weigh, Every}
 use Rattle.search_machine.specs.Journals.{Path, Placed, branches, is_left, Anything, EndAllowed, box_after, multipliers_after}

@@ -1,7 +1,7 @@
 -- A worker's job, as nodes come to it, are handled and go on.
 use Rattle.std.proofs.Common.{◌≡◌, ℕ, ◌+◌, [], ◌∷◌, ◌++◌, Option, Some, None, sym, subst, ap, ◌∙◌, arith}
 use Rattle.zero_one_rows.specs.Variables.{Voyage}
-use Rattle.certificate.specs.declared.journals.Node.{Node}
+use Rattle.search_nodes.specs.declared.nodes.Node.{Node}
 use Rattle.search_machine.specs.Bags.{weigh, Every}
 use Rattle.incumbent_word.specs.declared.view.View.{View}
 use Rattle.incumbent_word.specs.Rule.{with_ticket, one_over}

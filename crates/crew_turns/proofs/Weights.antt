@@ -1,6 +1,6 @@
 -- Weights of lists of nodes that grow at their end.
 use Rattle.std.proofs.Common.{◌≡◌, ℕ, ◌+◌, List, [], ◌∷◌, ◌++◌, Result, Ok, Err, OnOk, ap, subst, arith}
-use Rattle.certificate.specs.declared.journals.Node.{Node}
+use Rattle.search_nodes.specs.declared.nodes.Node.{Node}
 use Rattle.search_machine.specs.Bags.{weigh, Every}
 use Rattle.search_machine.proofs.Weights.{weigh_append, every_right}
 

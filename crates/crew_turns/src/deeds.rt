@@ -2,7 +2,8 @@
 ghost use Rattle.std.specs.Prelude.{◌≡◌};
 ghost use Rattle.crew_turns.specs.Deeds.{no_deeds};
 
-use certificate::{Journal, Node, PathList};
+use certificate::{Journal, PathList};
+use search_nodes::Node;
 use std::alloc::Global;
 use zero_one_model::Box01;
 

@@ -4,52 +4,43 @@ ghost use Rattle.crew_turns.specs.Deeds.{Did, half_at, halves_at};
 ghost use Rattle.steal_pool.specs.UnderWay.{entry_at};
 
 use crate::deeds::{Deeds, Halves, Solution};
-use certificate::{Entry, Node, Path, Record, RecordList};
+use certificate::{Entry, Path, Record};
 use node_work::Worked;
+use search_nodes::{Node, SharedRecord, share_all};
 use std::alloc::Global;
 use stow_data::NoMemory;
 
-// A copy of records.
-fn copy_records(alloc: Global, records: &[Record]) -> Result<RecordList, NoMemory>
-    ensures { IfOk result (λ copy. copy ≡ records.now) }
-{
-    let mut copy = RecordList::new(alloc);
-    for record in records {
-        copy.push(record.copy(alloc)?)?;
-    }
-    Ok(copy)
-}
-
 // The half of a node at a value of its branch.
-fn half(alloc: Global, node: &Node, ends: &Record, value: bool) -> Result<Node, NoMemory>
+fn half(alloc: Global, node: &Node, ends: &SharedRecord, value: bool) -> Result<Node, NoMemory>
     ensures { IfOk result (λ half. half ≡ half_at node.now ends.now value) }
 {
     let mut path = node.path.copy(alloc)?;
     path.push(value)?;
-    let mut trail = copy_records(alloc, node.trail.as_slice())?;
-    trail.push(ends.copy(alloc)?)?;
+    let mut trail = share_all(alloc, node.trail.as_slice())?;
+    trail.push(ends.share()?)?;
     Ok(Node { path, trail })
 }
 
 // The half of a node at value 1, which takes the node's records over.
-fn last_half(alloc: Global, node: Node, ends: &Record) -> Result<Node, NoMemory>
-    ensures { IfOk result (λ half. half ≡ half_at node ends.now true) }
+fn last_half(node: Node, ends: SharedRecord) -> Result<Node, NoMemory>
+    ensures { IfOk result (λ half. half ≡ half_at node ends true) }
 {
     let Node {
         mut path,
         mut trail,
     } = node;
     path.push(true)?;
-    trail.push(ends.copy(alloc)?)?;
+    trail.push(ends)?;
     Ok(Node { path, trail })
 }
 
-// Both halves of a node.
+// Both halves of a node, which share the records above them.
 fn divide(alloc: Global, node: Node, ends: &Record) -> Result<Halves, NoMemory>
     ensures { IfOk result (λ halves. halves ≡ halves_at node ends.now) }
 {
-    let zero = half(alloc, &node, ends, false)?;
-    let one = last_half(alloc, node, ends)?;
+    let ends = SharedRecord::new(alloc, ends.copy(alloc)?)?;
+    let zero = half(alloc, &node, &ends, false)?;
+    let one = last_half(node, ends)?;
     Ok(Halves { zero, one })
 }
 

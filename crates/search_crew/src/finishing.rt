@@ -7,10 +7,10 @@ ghost use Rattle.crew_turns.specs.Deeds.{Flow, IsDone, on_nodes};
 ghost use Rattle.search_crew.specs.Ends.{IsRest, IsLive, halves_in};
 ghost use Rattle.search_crew.specs.Starts.{IsUnused};
 
-use certificate::Node;
 use crew_turns::{Deeds, Halves, handle};
 use incumbent_word::{Board, Seat};
 use node_work::{Desk, Tables};
+use search_nodes::Node;
 use std::alloc::Global;
 use std::sync::Wait;
 use stow_data::NoMemory;

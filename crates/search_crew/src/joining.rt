@@ -9,10 +9,11 @@ ghost use Rattle.search_crew.specs.Starts.{IsUnused};
 ghost use Rattle.search_crew.specs.Together.{both, cheaper_of};
 
 use crate::places::Back;
-use certificate::{JournalList, Node, PathList};
+use certificate::{JournalList, PathList};
 use crew_turns::{Deeds, Solution};
 use incumbent_word::{Board, Owner};
 use node_racks::{Pass, Wanted};
+use search_nodes::Node;
 use std::alloc::Global;
 use stow_data::NoMemory;
 
