@@ -27,11 +27,11 @@ pub type Trail = Seq<SharedRecord>;
 
 impl SharedRecord {
     /// A record, to be shared.
-    pub fn new(alloc: Global, record: Record) -> Result<SharedRecord, NoMemory>
-        ensures { IfOk result (λ shared. shared ≡ record) }
+    pub fn new(alloc: Global, kept: Record) -> Result<SharedRecord, NoMemory>
+        ensures { IfOk result (λ shared. shared ≡ kept) }
     {
         Ok(SharedRecord {
-            record: Arc::new(alloc, record)?,
+            record: Arc::new(alloc, kept)?,
         })
     }
 
