@@ -15,7 +15,7 @@ pub record IsAsked (m : Voyage) (workers budget start : ℕ) : Type 0 where
   pub some : 0 < workers
   pub few : workers ≤ 16
   pub nodes : budget ≤ 100000
-  pub start : start ≤ most_rehandles m + 1
+  pub low : start ≤ most_rehandles m + 1
 
 abbrev pub first_node : Node
 first_node = record { path = []; trail = [] }
