@@ -23,3 +23,11 @@ pub struct Back<M: Wanted> {
     pub deeds: Deeds,
     pub aside: Vec<Node>,
 }
+
+/// A worker's place: what it is given, and then what it brings back. It is empty where memory was wanting to the worker.
+#[derive(Drop)]
+pub enum Place<M: Wanted> {
+    Given(Post<M>),
+    Done(Back<M>),
+    Empty,
+}
