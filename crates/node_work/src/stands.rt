@@ -203,7 +203,8 @@ impl<'a> Stand<'a> {
         requires divides { Divides (whole model.now) self.old.kept.known (end_of (number_of model.now) entry.now.end) }
         ensures { IsStand model.now self.new }
     {
-        let entry = SharedRecord::new(alloc, entry.copy(alloc)?)?;
+        let copy = entry.copy(alloc)?;
+        let entry = SharedRecord::new(alloc, copy)?;
         let mark = self.kept.fixed().len();
         let value = true;
         self.frames.push(Frame { entry, value, mark })?;
