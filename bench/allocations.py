@@ -23,6 +23,7 @@ SHIM = r'''
 #include <errno.h>
 #include <fcntl.h>
 #include <stdlib.h>
+#include <sys/syscall.h>
 #include <unistd.h>
 
 extern void *__libc_malloc(size_t);
@@ -60,6 +61,9 @@ __attribute__((destructor)) static void tell(void) {
     if (write(file, text + at, 24 - at) < 0) { }
     close(file);
 }
+
+/* by this call the program ends, and destructors don't run */
+void _exit(int status) { tell(); for (;;) syscall(SYS_exit_group, status); }
 '''
 
 CERTIFICATE = """stow-cert 1
@@ -111,7 +115,7 @@ def run(program, words, folder, shim, failing, counted=None):
     environment = {"LD_PRELOAD": shim, "FAILING_ALLOCATION": str(failing)}
     if counted:
         environment["ALLOCATIONS_FILE"] = counted
-    done = subprocess.run([program] + words, cwd=folder, env=environment, stdout=subprocess.PIPE, stderr=subprocess.PIPE)
+    done = subprocess.run([program] + words, cwd=folder, env=environment, stdout=subprocess.PIPE, stderr=subprocess.PIPE, timeout=60)
     return done.returncode, done.stdout
 
 
