@@ -8,6 +8,8 @@ PROGRAM is the built program `stow`, which takes its memory from `malloc` and it
 over a short and a long stack with 1, 2 and 16 workers, and a check, each over files of an earlier voyage. Of each run all allocations
 fail in turn, or MOST (all) of them evenly spread. The status has to be 8, with `memory` printed, or that of the run where none fails,
 with the same printed; each file is as it was or as the run writes it, and where the status is the run's own, as the run writes it.
+Several workers may find another tree and other plans in each run: of theirs the printed outcome, rehandles and bound have to be the
+same, and where the status is the run's own, `check` has to say yes to the files, with these numbers. No run may take a minute.
 """
 import os
 import shutil
@@ -23,6 +25,7 @@ SHIM = r'''
 #include <errno.h>
 #include <fcntl.h>
 #include <stdlib.h>
+#include <sys/syscall.h>
 #include <unistd.h>
 
 extern void *__libc_malloc(size_t);
@@ -60,6 +63,9 @@ __attribute__((destructor)) static void tell(void) {
     if (write(file, text + at, 24 - at) < 0) { }
     close(file);
 }
+
+/* by this call the program ends, and destructors don't run */
+void _exit(int status) { tell(); for (;;) syscall(SYS_exit_group, status); }
 '''
 
 CERTIFICATE = """stow-cert 1
@@ -111,15 +117,24 @@ def run(program, words, folder, shim, failing, counted=None):
     environment = {"LD_PRELOAD": shim, "FAILING_ALLOCATION": str(failing)}
     if counted:
         environment["ALLOCATIONS_FILE"] = counted
-    done = subprocess.run([program] + words, cwd=folder, env=environment, stdout=subprocess.PIPE, stderr=subprocess.PIPE)
+    done = subprocess.run([program] + words, cwd=folder, env=environment, stdout=subprocess.PIPE, stderr=subprocess.PIPE, timeout=60)
     return done.returncode, done.stdout
 
 
-def is_right(own, now, status, printed, before, after, found):
+def is_right(own, status, printed, before, after, found):
     """Whether a run ended as it should, with its files as they were or as the run writes them."""
     if status == 8:
         return printed in (b"memory\n", b"") and all(found[name] in (before[name], after[name]) for name in found)
     return (status, printed) == own and found == after
+
+
+def is_alike(program, folder, words, own, status, printed, before, found):
+    """The same for a run of several workers, each of which may find another tree and other plans."""
+    if status == 8:
+        return printed in (b"memory\n", b"") and found.keys() == before.keys()
+    told = own[1].splitlines()[:3]
+    checked = subprocess.run([program, "check"] + words[1:4], cwd=folder, stdout=subprocess.PIPE).stdout.splitlines()
+    return status == own[0] and printed.splitlines()[:3] == told and checked == [b"check yes"] + told[1:]
 
 
 def measure(program, shim, top, most, name, example, words, checked):
@@ -140,7 +155,11 @@ def measure(program, shim, top, most, name, example, words, checked):
         put(folder, before)
         status, printed = run(program, words, folder, shim, failing)
         found = written(folder)
-        if not is_right(own, None, status, printed, before, after, found):
+        if "--workers" in words and words[-1] != "1":
+            right = is_alike(program, folder, words, own, status, printed, before, found)
+        else:
+            right = is_right(own, status, printed, before, after, found)
+        if not right:
             print(f"{name}: allocation {failing}: status {status}, {printed!r}")
             sys.exit(1)
         tally[status] = tally.get(status, 0) + 1

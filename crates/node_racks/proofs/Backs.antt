@@ -1,6 +1,6 @@
 -- Deques as their tokens come back.
 use Rattle.std.proofs.Common.{◌≡◌, ◌+◌, ◌<◌, ℕ, List, [], ◌∷◌, ◌++◌, length, Option, Some, None, option_to_list, ap, sym, subst, refl, arith}
-use Rattle.certificate.specs.declared.journals.Node.{Node}
+use Rattle.search_nodes.specs.declared.nodes.Node.{Node}
 use Rattle.node_racks.specs.declared.rule.Hand.{Hand}
 use Rattle.search_machine.specs.Bags.{weigh, Every}
 use Rattle.search_machine.proofs.Weights.{every_append}

@@ -6,7 +6,7 @@ use lib.ListN.{get_elem?}
 use Rattle.crossbeam_deque.specs.Tasks.{Pushes, Takes, Pops, Forks, Merges, Learns}
 use Rattle.crossbeam_deque.proofs.Lists.{at_set, at_snoc}
 use Rattle.std.proofs.Common.{Option, Some, None, IfSome}
-use Rattle.certificate.specs.declared.journals.Node.{Node}
+use Rattle.search_nodes.specs.declared.nodes.Node.{Node}
 use Rattle.node_racks.specs.Rounds.{Each}
 use Rattle.node_racks.specs.declared.rule.Hand.{Hand}
 use Rattle.search_machine.specs.Bags.{weigh, Every}

@@ -3,7 +3,7 @@ use Rattle.std.specs.Prelude.{cond, nat_lt, ◌≡◌, ℕ, ◌+◌, ◌≤◌, 
 use mathlib.Core.Option.{some}
 use lib.ListN.{get_elem?}
 use Rattle.search_machine.specs.Bags.{weigh, Every}
-use Rattle.certificate.specs.declared.journals.Node.{Node}
+use Rattle.search_nodes.specs.declared.nodes.Node.{Node}
 use Rattle.node_racks.specs.declared.rule.Hand.{Hand}
 
 abbrev pub hand : ℕ → List Node → List Node → Hand

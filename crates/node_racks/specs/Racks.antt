@@ -1,7 +1,7 @@
 -- A rack of deques, and the pass of one worker.
 use Rattle.std.specs.Prelude.{◌≡◌, ℕ, zero, suc, ◌+◌, ◌<◌, ◌≤◌, List, [], ◌∷◌, length, map, All, slice_index_or}
 use Rattle.crossbeam_deque.specs.Handles.{Pass, view, IsPassOf, worker_flavor, worker_view, worker_deque, stealer_deque, stealer_flavor}
-use Rattle.certificate.specs.declared.journals.Node.{Node}
+use Rattle.search_nodes.specs.declared.nodes.Node.{Node}
 use Rattle.node_racks.specs.declared.rule.Hand.{Hand}
 use Rattle.node_racks.specs.declared.racks.Rack.{Rack}
 use Rattle.node_racks.specs.declared.racks.Pass.{Pass as Passes}

@@ -9,7 +9,7 @@ use Rattle.proof_trees.specs.Multipliers.{Multipliers}
 use Rattle.proof_trees.specs.Boxes.{Box}
 use Rattle.proof_trees.specs.Trees.{Pending, root}
 use Rattle.certificate.specs.declared.tree.Record.{Record}
-use Rattle.certificate.specs.declared.journals.Node.{Node}
+use Rattle.search_nodes.specs.declared.nodes.Node.{Node}
 use Rattle.certificate.specs.Entries.{same_row, entry_of, raise_of}
 use Rattle.search_machine.specs.Journals.{Path, child, after, known}
 use Rattle.search_machine.specs.Machine.{IsTrail}

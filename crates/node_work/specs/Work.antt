@@ -8,7 +8,7 @@ use Rattle.proof_trees.specs.Boxes.{Box}
 use Rattle.proof_trees.specs.Multipliers.{Multipliers, worth, Closes, raised}
 use Rattle.proof_trees.specs.Trees.{Leaf, Entry, Pending, root, begun}
 use Rattle.certificate.specs.declared.tree.Record.{Record}
-use Rattle.certificate.specs.declared.journals.Node.{Node}
+use Rattle.search_nodes.specs.declared.nodes.Node.{Node}
 use Rattle.certificate.specs.Entries.{same_row, entry_of}
 use Rattle.search_machine.specs.Journals.{Path, branches, box_after, multipliers_after, known, Anything, Allowed}
 use Rattle.search_machine.specs.Machine.{begins, IsTrail, is_full, price}

@@ -14,6 +14,7 @@ ghost use Rattle.node_work.specs.Scales.{Leads, AreNamed, IsScale};
 
 use certificate::Record;
 use dual_bound::{AddNo, Gauge, Raised, RowTable};
+use search_nodes::SharedRecord;
 use std::alloc::Global;
 use stow_data::{NoMemory, VarNo};
 use zero_one_model::{Box01, Model};
@@ -63,15 +64,16 @@ fn past(made: &[Raise], from: usize, raises: &[Raise]) -> Option<usize>
 }
 
 // Whether these are the raises of records, none of which begins from none.
-fn leads_along(made: &[Raise], trail: &[Record]) -> bool
+fn leads_along(made: &[Raise], trail: &[SharedRecord]) -> bool
     ensures { result ≡ true → Leads made.now trail.now }
 {
     let mut at = 0;
     for entry in trail {
-        if entry.from_zero {
+        let record = entry.record();
+        if record.from_zero {
             return false;
         }
-        match past(made, at, entry.raises.as_slice()) {
+        match past(made, at, record.raises.as_slice()) {
             Some(to) => at = to,
             None => return false,
         }
@@ -244,7 +246,7 @@ impl<'a> Scale<'a> {
         alloc: Global,
         model: &Model,
         table: &RowTable,
-        trail: &[Record],
+        trail: &[SharedRecord],
     ) -> Result<(), NoMemory>
         requires table { table.now ≡ model.now }
         requires scale { IsScale model.now self.old }
@@ -256,13 +258,13 @@ impl<'a> Scale<'a> {
         self.gauge.clear(alloc);
         self.made = Some(RaiseList::new(alloc));
         for entry in trail {
-            self.go_on(alloc, model, table, entry)?;
+            self.go_on(alloc, model, table, entry.record())?;
         }
         Ok(())
     }
 
     // Whether the multipliers are known to be those after these records.
-    fn stands_at(&self, trail: &[Record]) -> bool
+    fn stands_at(&self, trail: &[SharedRecord]) -> bool
         ensures { result ≡ true → (made : List Change) × (self.now.made ≡ Some made) × Leads made trail.now }
     {
         match &self.made {
@@ -277,7 +279,7 @@ impl<'a> Scale<'a> {
         alloc: Global,
         model: &Model,
         table: &RowTable,
-        trail: &[Record],
+        trail: &[SharedRecord],
     ) -> Result<(), NoMemory>
         requires table { table.now ≡ model.now }
         requires scale { IsScale model.now self.old }

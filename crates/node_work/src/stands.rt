@@ -20,6 +20,7 @@ use crate::worked::Worked;
 use certificate::Record;
 use dual_bound::RowTable;
 use kept_box::{BaseMatrix, KeptBox};
+use search_nodes::SharedRecord;
 use std::alloc::Global;
 use stow_data::NoMemory;
 use voyage_guess::{Planner, Wanted};
@@ -28,7 +29,7 @@ use zero_one_model::Model;
 /// A record on the way to a node, the value of the branch that was taken from it, and how many variables were fixed after its steps.
 #[derive(Drop)]
 pub struct Frame {
-    pub entry: Record,
+    pub entry: SharedRecord,
     pub value: bool,
     pub mark: usize,
 }
@@ -41,7 +42,7 @@ pub struct Stand<'a> {
 }
 
 /// How many of the first frames are of the node's first records: their records are the same, and the values too, but for the last.
-fn in_common(frames: &[Frame], path: &[bool], trail: &[Record]) -> usize
+fn in_common(frames: &[Frame], path: &[bool], trail: &[SharedRecord]) -> usize
     requires { length trail.now ≡ length path.now }
     ensures frames { result ≤ length frames.now }
     ensures records { result ≤ length trail.now }
@@ -52,7 +53,7 @@ fn in_common(frames: &[Frame], path: &[bool], trail: &[Record]) -> usize
         if depth >= trail.len() {
             return depth;
         }
-        if !frame.entry.is_same(&trail[depth]) {
+        if !frame.entry.record().is_same(trail[depth].record()) {
             return depth;
         }
         if frame.value != path[depth] {
@@ -98,7 +99,7 @@ impl<'a> Stand<'a> {
             unreachable!()
         };
         self.back_to(model, frame.mark);
-        halve(model, &mut self.kept, &frame.entry.end, value);
+        halve(model, &mut self.kept, &frame.entry.record().end, value);
         self.frames.push(Frame {
             entry: frame.entry,
             value,
@@ -112,7 +113,7 @@ impl<'a> Stand<'a> {
         &mut self,
         alloc: Global,
         model: &Model,
-        entry: &Record,
+        entry: &SharedRecord,
         value: bool,
     ) -> Result<(), NoMemory>
         requires stand { IsStand model.now self.old }
@@ -123,10 +124,11 @@ impl<'a> Stand<'a> {
         ensures frames { OnOk result ((f : Frames) × (f.entry ≡ entry.now) × (f.value ≡ value) × (self.new.frames.items ≡ self.old.frames.items ++ f ∷ [])) }
         ensures at_half { OnOk result (self.new.kept.known ≡ box_along model.now (free_box (whole model.now)) self.new.frames.items) }
     {
-        let entry = entry.copy(alloc)?;
-        retighten(alloc, model, &mut self.kept, entry.steps.as_slice())?;
+        let entry = entry.share()?;
+        let record = entry.record();
+        retighten(alloc, model, &mut self.kept, record.steps.as_slice())?;
         let mark = self.kept.fixed().len();
-        halve(model, &mut self.kept, &entry.end, value);
+        halve(model, &mut self.kept, &record.end, value);
         self.frames.push(Frame { entry, value, mark })?;
         Ok(())
     }
@@ -157,7 +159,7 @@ impl<'a> Stand<'a> {
         model: &Model,
         depth: usize,
         path: &[bool],
-        trail: &[Record],
+        trail: &[SharedRecord],
     ) -> Result<(), NoMemory>
         requires stand { IsStand model.now self.old }
         requires trail { IsTrail same_row (whole model.now) (root (whole model.now)) path.now (map (entry_of model.now) trail.now) }
@@ -181,7 +183,7 @@ impl<'a> Stand<'a> {
         alloc: Global,
         model: &Model,
         path: &[bool],
-        trail: &[Record],
+        trail: &[SharedRecord],
     ) -> Result<(), NoMemory>
         requires stand { IsStand model.now self.old }
         requires trail { IsTrail same_row (whole model.now) (root (whole model.now)) path.now (map (entry_of model.now) trail.now) }
@@ -201,7 +203,8 @@ impl<'a> Stand<'a> {
         requires divides { Divides (whole model.now) self.old.kept.known (end_of (number_of model.now) entry.now.end) }
         ensures { IsStand model.now self.new }
     {
-        let entry = entry.copy(alloc)?;
+        let copy = entry.copy(alloc)?;
+        let entry = SharedRecord::new(alloc, copy)?;
         let mark = self.kept.fixed().len();
         let value = true;
         self.frames.push(Frame { entry, value, mark })?;

@@ -3,7 +3,7 @@ use Rattle.std.proofs.Common.{◌≡◌, ◌⊎◌, inl, inr, ℕ, zero, suc, �
 use Rattle.std.proofs.lemmas.Bool.Decides.{nat_tests}
 use Rattle.std.proofs.lemmas.List.{map-append}
 use Rattle.zero_one_rows.specs.Variables.{Voyage}
-use Rattle.certificate.specs.declared.journals.Node.{Node}
+use Rattle.search_nodes.specs.declared.nodes.Node.{Node}
 use Rattle.search_machine.specs.Bags.{weigh, Every}
 use Rattle.search_machine.specs.Machine.{root_node}
 use Rattle.search_machine.specs.Outcomes.{path_of}
@@ -19,17 +19,20 @@ use Rattle.node_racks.proofs.Dealing.{every_at}
 use Rattle.steal_pool.specs.Found.{IsFound}
 use Rattle.steal_pool.specs.UnderWay.{AllowedFrom}
 use Rattle.steal_pool.proofs.Findings.{IsBest, best_there, same_length}
-use Rattle.search_crew.specs.declared.deeds.Deeds.{Deeds}
-use Rattle.search_crew.specs.declared.job.Job.{Job}
+use Rattle.crew_turns.specs.declared.deeds.Deeds.{Deeds}
+use Rattle.crew_turns.specs.declared.job.Job.{Job}
 use Rattle.search_crew.specs.declared.places.Back.{Back}
 use Rattle.search_crew.specs.declared.places.Post.{Post}
 use Rattle.search_crew.specs.declared.joining.AllDeeds.{AllDeeds}
 use Rattle.search_crew.specs.declared.joining.Ended.{Ended}
-use Rattle.search_crew.specs.Deeds.{box_of, both, no_deeds, Weight, on_nodes, IsDone}
-use Rattle.search_crew.specs.Jobs.{seed, seed_at, IsJob, IsServed, IsMaker, IsUnused, came_to, went_from}
+use Rattle.crew_turns.specs.Deeds.{box_of, no_deeds, Weight, on_nodes, IsDone}
+use Rattle.crew_turns.specs.Jobs.{seed, IsJob, IsServed, came_to, went_from}
+use Rattle.search_crew.specs.Starts.{seed_at, IsMaker, IsUnused}
+use Rattle.search_crew.specs.Together.{both}
 use Rattle.search_crew.specs.Ends.{deeds_of, found_of, pass_of, post_number, came_with, went_with, came_to_all, went_from_all, IsPosted, IsBack, IsReturned, IsJoined, IsEnd}
-use Rattle.search_crew.proofs.Weights.{weigh_snoc}
-use Rattle.search_crew.proofs.Handled.{rebalanced, joins, nothing_done, split_off}
+use Rattle.crew_turns.proofs.Weights.{weigh_snoc}
+use Rattle.crew_turns.proofs.Handled.{rebalanced, nothing_done, split_off}
+use Rattle.search_crew.proofs.Together.{joins}
 
 length_map : {A B : Type 0} (f : A → B) (xs : List A) → length (map f xs) ≡ length xs
 length_map f [] = refl

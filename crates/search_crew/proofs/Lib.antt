@@ -1,7 +1,4 @@
-pub mod Weights
-pub mod Offers
-pub mod Handled
-pub mod Jobs
 mod Pairs
+mod Together
 mod Rests
 mod Ends

@@ -1,19 +1,34 @@
 -- What holds at each place of two lists.
-use Rattle.std.proofs.Common.{◌≡◌, ℕ, zero, suc, ◌<◌, List, [], ◌∷◌, length, map, get_or, Result, Ok, IfOk, subst, arith}
+use Rattle.std.proofs.Common.{◌≡◌, ℕ, zero, suc, ◌<◌, List, [], ◌∷◌, length, map, slice_index_or, subst, arith}
+use Rattle.zero_one_rows.specs.Variables.{Voyage}
+use Rattle.incumbent_word.specs.Tokens.{BoardToken}
+use Rattle.search_nodes.specs.declared.nodes.Node.{Node}
+use Rattle.node_racks.specs.declared.racks.Rack.{Rack}
 use Rattle.node_racks.specs.Rounds.{Each}
+use Rattle.search_crew.specs.declared.places.Back.{Back}
+use Rattle.search_crew.specs.declared.places.Post.{Post}
+use Rattle.search_crew.specs.declared.places.Place.{Place}
+use Rattle.search_crew.specs.declared.places.Place.TheVariants.{Given, Done}
+use Rattle.search_crew.specs.Ends.{IsReturned, Brings}
 
-abbrev oks : {B E : Type 0} → List B → List (Result B E)
-oks rs = map (λ j. Ok j) rs
+module _ {M : Type 0} (meets : Node → Type 0) (r : Rack M) (b : BoardToken) (m : Voyage) where
+  abbrev given : List (Post M) → List (Place M)
+  given ps = map (λ post. Given post) ps
 
-each_ok : {A B E : Type 0} (R : A → B → Type 0) (js : List A) (rs : List B) → length (oks {B = B} {E = E} rs) ≡ length js
-    → ((i : ℕ) (d : A) (e : Result B E) → i < length js → IfOk (get_or (oks {B = B} {E = E} rs) i e) (λ k. R (get_or js i d) k)) → Each R js rs
-each_ok R [] [] l f = tt
-each_ok R [] (y ∷ ys) l f = absurd (omega (arith, l))
-each_ok R (x ∷ xs) [] l f = absurd (omega (arith, l))
-each_ok R (x ∷ xs) (y ∷ ys) l f = (f zero x (Ok y) (omega arith), each_ok R xs ys (omega (arith, l)) (λ i d e lt. f (suc i) d e (omega (arith, lt))))
+  abbrev done : List (Back M) → List (Place M)
+  done ks = map (λ back. Done back) ks
 
-pub done_each : {A B E : Type 0} (R : A → B → Type 0) (js : List A) (done : List (Result B E)) (rs : List B) → length done ≡ length js → done ≡ map (λ j. Ok j) rs
-    → ((i : ℕ) (d : A) (e : Result B E) → i < length js → IfOk (get_or done i e) (λ k. R (get_or js i d) k)) → Each R js rs
-done_each {A} {B} {E} R js done rs l is f =
-    each_ok R js rs (subst (λ (xs : List (Result B E)). length xs ≡ length js) is l)
-    (subst (λ (xs : List (Result B E)). (i : ℕ) (d : A) (e : Result B E) → i < length js → IfOk (get_or xs i e) (λ k. R (get_or js i d) k)) is f)
+  abbrev BringsAt : List (Place M) → List (Place M) → Type 0
+  BringsAt xs ys = (i : ℕ) (d : Place M) → i < length xs → Brings meets r b m (slice_index_or xs i d) (slice_index_or ys i d)
+
+  each_done : (ps : List (Post M)) (ks : List (Back M)) → length (done ks) ≡ length (given ps) → BringsAt (given ps) (done ks) → Each (IsReturned meets r b m) ps ks
+  each_done [] [] l f = tt
+  each_done [] (k ∷ ks) l f = absurd (omega (arith, l))
+  each_done (p ∷ ps) [] l f = absurd (omega (arith, l))
+  each_done (p ∷ ps) (k ∷ ks) l f = (f zero (Given p) (omega arith), each_done ps ks (omega (arith, l)) (λ i d lt. f (suc i) d (omega (arith, lt))))
+
+  -- where all workers brought something back
+  pub all_done : (ps : List (Post M)) (ks : List (Back M)) (xs ys : List (Place M)) → xs ≡ map (λ post. Given post) ps → ys ≡ map (λ back. Done back) ks → length ys ≡ length xs → BringsAt xs ys → Each (IsReturned meets r b m) ps ks
+  all_done ps ks xs ys given_is done_is l f =
+      each_done ps ks (subst (λ (zs : List (Place M)). length zs ≡ length (given ps)) done_is (subst (λ (zs : List (Place M)). length ys ≡ length zs) given_is l))
+      (subst (λ (zs : List (Place M)). BringsAt (given ps) zs) done_is (subst (λ (zs : List (Place M)). BringsAt zs ys) given_is f))

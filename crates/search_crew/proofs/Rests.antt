@@ -2,18 +2,18 @@
 use Rattle.std.proofs.Common.{◌≡◌, ℕ, ◌+◌, ◌<◌, true, List, [], ◌∷◌, ◌++◌, length, Option, Some, None, refl, sym, subst, ap, arith}
 use Rattle.std.specs.Prelude.{is_some, IfSome}
 use Rattle.zero_one_rows.specs.Variables.{Voyage}
-use Rattle.certificate.specs.declared.journals.Node.{Node}
+use Rattle.search_nodes.specs.declared.nodes.Node.{Node}
 use Rattle.search_machine.specs.Bags.{weigh, Every}
 use Rattle.search_machine.proofs.Weights.{weigh_append, every_append, every_left, every_right}
 use Rattle.incumbent_word.specs.declared.view.View.{View}
 use Rattle.incumbent_word.specs.Rule.{with_ticket, one_over}
 use Rattle.node_work.specs.Work.{node_of, IsNode}
-use Rattle.search_crew.specs.declared.deeds.Deeds.{Deeds}
-use Rattle.search_crew.specs.declared.deeds.Halves.{Halves}
-use Rattle.search_crew.specs.Deeds.{halves_weight, EachHalf, Flow, on_nodes, no_deeds, IsDone}
-use Rattle.search_crew.specs.Jobs.{IsUnused}
+use Rattle.crew_turns.specs.declared.deeds.Deeds.{Deeds}
+use Rattle.crew_turns.specs.declared.deeds.Halves.{Halves}
+use Rattle.crew_turns.specs.Deeds.{halves_weight, EachHalf, Flow, on_nodes, no_deeds, IsDone}
+use Rattle.search_crew.specs.Starts.{IsUnused}
 use Rattle.search_crew.specs.Ends.{halves_in, IsRest}
-use Rattle.search_crew.proofs.Handled.{rebalanced, ticket_drawn, node_left, node_left_too, nothing_done}
+use Rattle.crew_turns.proofs.Handled.{rebalanced, ticket_drawn, node_left, node_left_too, nothing_done}
 
 weigh_halves : (h : Node → ℕ) (o : Option Halves) → weigh h (halves_in o) ≡ halves_weight h o
 weigh_halves h None = refl

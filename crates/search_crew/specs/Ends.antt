@@ -2,7 +2,7 @@
 use Rattle.std.specs.Prelude.{◌≡◌, ℕ, ◌+◌, ◌<◌, ◌≤◌, Bool, true, false, List, [], ◌∷◌, Option, Some, None}
 use Rattle.stow_data.specs.Shipment.{IsCargo}
 use Rattle.zero_one_rows.specs.Variables.{Voyage}
-use Rattle.certificate.specs.declared.journals.Node.{Node}
+use Rattle.search_nodes.specs.declared.nodes.Node.{Node}
 use Rattle.search_machine.specs.Bags.{weigh, Every}
 use Rattle.incumbent_word.specs.declared.view.View.{View}
 use Rattle.incumbent_word.specs.Rule.{none_yet}
@@ -12,15 +12,18 @@ use Rattle.node_racks.specs.declared.racks.Pass.{Pass}
 use Rattle.node_racks.specs.declared.racks.Rack.{Rack}
 use Rattle.node_racks.specs.Racks.{IsPassAt, took_weight, put_weight, all_took, all_put}
 use Rattle.steal_pool.specs.declared.found.Found.{Found}
-use Rattle.search_crew.specs.declared.deeds.Deeds.{Deeds}
-use Rattle.search_crew.specs.declared.deeds.Halves.{Halves}
+use Rattle.crew_turns.specs.declared.deeds.Deeds.{Deeds}
+use Rattle.crew_turns.specs.declared.deeds.Halves.{Halves}
 use Rattle.search_crew.specs.declared.joining.AllDeeds.{AllDeeds}
 use Rattle.search_crew.specs.declared.joining.Ended.{Ended}
 use Rattle.search_crew.specs.declared.places.Back.{Back}
 use Rattle.search_crew.specs.declared.places.Post.{Post}
+use Rattle.search_crew.specs.declared.places.Place.{Place}
+use Rattle.search_crew.specs.declared.places.Place.TheVariants.{Given, Done, Empty}
 use Rattle.node_work.specs.Work.{IsNode, most_rehandles}
-use Rattle.search_crew.specs.Deeds.{box_of, Weight, Flow, on_nodes, IsDone}
-use Rattle.search_crew.specs.Jobs.{Means, IsUnused, seed}
+use Rattle.crew_turns.specs.Deeds.{box_of, Weight, Flow, on_nodes, IsDone}
+use Rattle.crew_turns.specs.Jobs.{Means, seed}
+use Rattle.search_crew.specs.Starts.{IsUnused}
 
 -- what workers did, with all journals as one
 abbrev pub deeds_of : AllDeeds → Deeds
@@ -100,6 +103,20 @@ module _ {M : Type 0} where
     pub pass : IsPassAt r k.pass
     pub number : k.pass.number ≡ p.pass.number
     pub board : k.seat.board ≡ b.id
+
+  -- a place at which a worker is given what it begins with
+  abbrev pub IsGiven : (meets : Node → Type 0) (r : Rack M) (b : BoardToken) (m : Voyage) → Place M → Type 0
+  IsGiven meets r b m (Given p) = IsPosted meets r b m p
+  IsGiven meets r b m (Done k) = ⊥
+  IsGiven meets r b m Empty = ⊥
+
+  -- and how its worker leaves it: with what it brings back, or empty
+  abbrev pub Brings : (meets : Node → Type 0) (r : Rack M) (b : BoardToken) (m : Voyage) → Place M → Place M → Type 0
+  Brings meets r b m (Given p) (Given q) = ⊥
+  Brings meets r b m (Given p) (Done k) = IsReturned meets r b m p k
+  Brings meets r b m (Given p) Empty = Unit {0}
+  Brings meets r b m (Done k) place = ⊥
+  Brings meets r b m Empty place = ⊥
 
   -- what was brought back fits what the owner of the board knows
   pub record IsEnd (meets : Node → Type 0) (b : BoardToken) (m : Voyage) (v : View) (e : Ended M) : Type 0 where

@@ -1,3 +1,3 @@
-pub mod Deeds
 pub mod Ends
-pub mod Jobs
+pub mod Starts
+pub mod Together

@@ -1,17 +1,18 @@
 //! What workers are given, before any node is handled.
 ghost use Rattle.std.specs.Prelude.{◌≡◌, ◌+◌, ◌<◌, ◌≤◌, ℕ, IfOk, OnOk, length, map};
-ghost use Rattle.certificate.specs.declared.journals.Node.{Node};
+ghost use Rattle.search_nodes.specs.declared.nodes.Node.{Node};
 ghost use Rattle.node_racks.specs.Racks.{IsPassAt, IsFresh, number_of, took_weight, put_weight};
 ghost use Rattle.search_machine.specs.Bags.{weigh, Every};
 ghost use Rattle.search_crew.specs.Ends.{IsPosted, post_number};
-ghost use Rattle.search_crew.specs.Jobs.{IsMaker, first_node, seed_at};
+ghost use Rattle.search_crew.specs.Starts.{IsMaker, first_node, seed_at};
 
 use crate::places::Post;
-use crate::taking::lay;
-use certificate::{Node, Path, RecordList};
+use certificate::Path;
+use crew_turns::lay;
 use incumbent_word::{Board, Owner};
 use node_racks::{Pass, Rack, Wanted};
 use node_work::Tables;
+use search_nodes::{Node, Trail};
 use std::alloc::Global;
 use stow_data::NoMemory;
 use voyage_guess::Planner;
@@ -22,7 +23,7 @@ fn root(alloc: Global) -> Node
 {
     Node {
         path: Path::new(alloc),
-        trail: RecordList::new(alloc),
+        trail: Trail::new(alloc),
     }
 }
 

@@ -3,15 +3,17 @@ ghost use Rattle.std.specs.Prelude.{◌≡◌, ◌+◌, ◌++◌, ◌∷◌, [],
 ghost use Rattle.zero_one_rows.specs.Variables.{Voyage};
 ghost use Rattle.search_machine.specs.Bags.{Every};
 ghost use Rattle.incumbent_word.specs.Rule.{joined, none_yet};
-ghost use Rattle.search_crew.specs.Deeds.{both, no_deeds};
+ghost use Rattle.crew_turns.specs.Deeds.{no_deeds};
 ghost use Rattle.search_crew.specs.Ends.{IsBack, IsEnd, deeds_of, pass_of};
-ghost use Rattle.search_crew.specs.Jobs.{IsUnused};
+ghost use Rattle.search_crew.specs.Starts.{IsUnused};
+ghost use Rattle.search_crew.specs.Together.{both, cheaper_of};
 
-use crate::deeds::{Deeds, Solution, cheaper};
 use crate::places::Back;
-use certificate::{JournalList, Node, PathList};
+use certificate::{JournalList, PathList};
+use crew_turns::{Deeds, Solution};
 use incumbent_word::{Board, Owner};
 use node_racks::{Pass, Wanted};
+use search_nodes::Node;
 use std::alloc::Global;
 use stow_data::NoMemory;
 
@@ -29,6 +31,17 @@ pub struct Ended<M: Wanted> {
     pub passes: Vec<Pass<M>>,
     pub aside: Vec<Node>,
     pub all: AllDeeds,
+}
+
+// The cheaper one of two solutions.
+fn cheaper(a: Option<Solution>, b: Option<Solution>) -> Option<Solution>
+    ensures { result ≡ cheaper_of a b }
+{
+    match (a, b) {
+        (None, other) => other,
+        (Some(a), None) => Some(a),
+        (Some(a), Some(b)) => { if b.cost < a.cost { Some(b) } else { Some(a) } }
+    }
 }
 
 /// Adds nodes to a list.

@@ -3,16 +3,9 @@
 
 mod beginning;
 mod crew;
-mod deeds;
-mod ending;
 mod finishing;
-mod handling;
-mod job;
 mod joining;
 mod places;
 mod searching;
-mod serving;
-mod taking;
-mod turning;
 
 pub use searching::search;

@@ -1,9 +1,9 @@
 //! What a worker is given, and what it brings back. Neither has a desk, which is made where the worker runs.
 
-use crate::deeds::Deeds;
-use certificate::Node;
+use crew_turns::Deeds;
 use incumbent_word::Seat;
 use node_racks::{Pass, Wanted};
+use search_nodes::Node;
 use voyage_guess::Planner;
 
 /// What a worker is given: its pass to the rack, its seat at the board, a planner for its desk, and the nodes that its deque refused.
@@ -22,4 +22,12 @@ pub struct Back<M: Wanted> {
     pub seat: Seat,
     pub deeds: Deeds,
     pub aside: Vec<Node>,
+}
+
+/// A worker's place: what it is given, and then what it brings back. It is empty where memory was wanting to the worker.
+#[derive(Drop)]
+pub enum Place<M: Wanted> {
+    Given(Post<M>),
+    Done(Back<M>),
+    Empty,
 }

@@ -5,23 +5,22 @@ ghost use Rattle.node_racks.specs.Racks.{AreAll, IsPassAt};
 ghost use Rattle.node_work.specs.Work.{most_rehandles};
 ghost use Rattle.search_machine.specs.Bags.{Every};
 ghost use Rattle.steal_pool.specs.Found.{IsFound};
-ghost use Rattle.search_crew.specs.Deeds.{box_of};
+ghost use Rattle.crew_turns.specs.Deeds.{box_of};
 ghost use Rattle.search_crew.specs.Ends.{IsEnd, IsJoined, found_of};
-ghost use Rattle.search_crew.specs.Jobs.{Means};
+ghost use Rattle.crew_turns.specs.Jobs.{Means};
+ghost use Rattle.search_crew.specs.Starts.{IsAsked};
 
 use crate::beginning::begin_all;
 use crate::crew::{Ground, serve_all};
-use crate::deeds::Solution;
 use crate::finishing::finish_all;
 use crate::joining::{AllDeeds, Ended, pour, take_in_all};
-use crate::turning::Signs;
+use crew_turns::{Signs, Solution};
 use incumbent_word::{Board, Owner, Totals};
 use node_racks::{Rack, Wanted};
 use node_work::Tables;
 use std::alloc::Global;
 use std::marker::Brand;
 use std::sync::Wait;
-use std::sync::atomic::{AtomicBool, AtomicU64};
 use std::thread::Threads;
 use steal_pool::{Found, search as search_alone};
 use stow_data::NoMemory;
@@ -104,20 +103,17 @@ fn search_as<M: Wanted + Send + Sync, G: Gate + Sync, R: Threads + Wait + Sync>(
     gate: &G,
 ) -> Result<Found, NoMemory>
     requires means { Means M.meets tables.now }
-    requires cargo { IsCargo tables.now.cargo }
-    requires workers { (0 < workers) × (workers ≤ 16) }
-    requires nodes { budget ≤ 100000 }
-    requires start { start ≤ most_rehandles tables.now + 1 }
+    requires asked { IsAsked tables.now workers budget start }
     ensures { IfOk result (IsFound tables.now start budget) }
 {
     let (board, mut owner) = Board::new(alloc, start, budget)?;
     let (rack, passes) = Rack::<M>::new(alloc, workers, ROOM)?;
     let posts = begin_all(alloc, tables, &rack, &board, &mut owner, passes, planner)?;
-    let signs = Signs {
-        open: AtomicU64::new(1),
-        stop: AtomicBool::new(false),
+    let ground = Ground {
+        rack,
+        board,
+        signs: Signs::new(),
     };
-    let ground = Ground { rack, board, signs };
     let backs = serve_all(rt, alloc, tables, &ground, gate, posts)?;
     let Ground {
         rack,
@@ -139,10 +135,7 @@ fn search_together<G: Gate + Sync, R: Threads + Wait + Sync>(
     start: u64,
     gate: &G,
 ) -> Result<Found, NoMemory>
-    requires cargo { IsCargo tables.now.cargo }
-    requires workers { (0 < workers) × (workers ≤ 16) }
-    requires nodes { budget ≤ 100000 }
-    requires start { start ≤ most_rehandles tables.now + 1 }
+    requires { IsAsked tables.now workers budget start }
     ensures { IfOk result (IsFound tables.now start budget) }
 {
     search_as::<Brand, G, R>(rt, alloc, tables, planner, workers, budget, start, gate)

@@ -9,7 +9,7 @@ use Rattle.zero_one_rows.specs.Variables.{Voyage}
 use Rattle.proof_trees.specs.Trees.{Entry}
 use Rattle.certificate.specs.declared.tree.Record.{Record}
 use Rattle.certificate.specs.Entries.{entry_of}
-use Rattle.certificate.specs.declared.journals.Node.{Node as Full}
+use Rattle.search_nodes.specs.declared.nodes.Node.{Node as Full}
 use Rattle.certificate.specs.declared.journals.Entry.{Entry as Journaled}
 use Rattle.search_machine.specs.Bags.{Every}
 use Rattle.search_machine.specs.Journals.{Path}

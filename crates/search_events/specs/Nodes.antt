@@ -4,7 +4,7 @@ use Rattle.zero_one_rows.specs.declared.program.Row.{Row}
 use Rattle.zero_one_rows.specs.Variables.{Voyage}
 use Rattle.proof_trees.specs.Trees as trees
 use Rattle.certificate.specs.declared.tree.Record.{Record}
-use Rattle.certificate.specs.declared.journals.Node.{Node as Full}
+use Rattle.search_nodes.specs.declared.nodes.Node.{Node as Full}
 use Rattle.certificate.specs.declared.journals.Entry.{Entry}
 use Rattle.certificate.specs.Entries.{entry_of}
 use Rattle.search_machine.specs.Journals.{Placed}

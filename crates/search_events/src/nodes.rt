@@ -9,8 +9,9 @@ ghost use Rattle.search_core.specs.Told.{InTable, NameEarlier, told};
 ghost use Rattle.search_events.specs.Cores.{node_at};
 ghost use Rattle.search_events.specs.Nodes.{value_of, entry_in, along, told_node, placed, told_entry};
 
-use certificate::{Entry, Journal, Node, Path, PathList, Record, RecordList};
+use certificate::{Entry, Journal, Path, PathList, Record};
 use search_core::{Done, NodeKey};
+use search_nodes::{Node, SharedRecord, Trail};
 use std::alloc::Global;
 use stow_data::NoMemory;
 
@@ -93,15 +94,16 @@ pub(crate) fn path_of(
 }
 
 // The records of ended nodes on a way.
-fn records_on(alloc: Global, ended: &[Done<Record>], way: &[Step]) -> Result<RecordList, NoMemory>
+fn records_on(alloc: Global, ended: &[Done<Record>], way: &[Step]) -> Result<Trail, NoMemory>
     requires earlier { NameEarlier ended.now }
     requires inside { All (λ s. s.entry < length ended.now) way.now }
     ensures { IfOk result (λ records. (m : Voyage) → map (entry_of m) records ≡ map (entry_in (told (entry_of m) ended.now)) way.now) }
 {
-    let mut records = RecordList::new(alloc);
+    let mut records = Trail::new(alloc);
     for k in 0..way.len() {
         let step = item_at(way, k);
-        records.push(ended[step.entry].entry.copy(alloc)?)?;
+        let copy = ended[step.entry].entry.copy(alloc)?;
+        records.push(SharedRecord::new(alloc, copy)?)?;
     }
     Ok(records)
 }

@@ -6,7 +6,7 @@ use Rattle.zero_one_rows.specs.Rows.{whole}
 use Rattle.program_rows.specs.Counted.{base_rows}
 use Rattle.proof_trees.specs.Boxes.{Box}
 use Rattle.proof_trees.specs.Trees.{Entry, Pending, root}
-use Rattle.certificate.specs.declared.journals.Node.{Node}
+use Rattle.search_nodes.specs.declared.nodes.Node.{Node}
 use Rattle.certificate.specs.declared.journals.Entry.{Entry as Line}
 use Rattle.certificate.specs.Entries.{same_row, number_of}
 use Rattle.search_machine.specs.Journals.{Path, Placed, all_nodes, nothing_done, Whole, EachAllowed, Gathers, Tree, preorder}

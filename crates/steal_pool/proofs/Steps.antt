@@ -11,7 +11,7 @@ use Rattle.proof_trees.specs.Multipliers.{Multipliers, Closes}
 use Rattle.proof_trees.proofs.Duality.{length_tightened}
 use Rattle.proof_trees.specs.Trees.{End, Leaf, Entry, Pending, root}
 use Rattle.certificate.specs.declared.tree.Record.{Record}
-use Rattle.certificate.specs.declared.journals.Node.{Node}
+use Rattle.search_nodes.specs.declared.nodes.Node.{Node}
 use Rattle.certificate.specs.declared.journals.Entry.{Entry as Line}
 use Rattle.certificate.specs.Entries.{same_row, number_of, entry_of}
 use Rattle.search_machine.specs.Journals.{Path, Placed, branches, child}

@@ -1,7 +1,7 @@
 -- Open nodes, by where they lie beside the way to the node that was taken last.
 use Rattle.std.specs.Prelude.{◌+◌, ◌<◌, ◌≤◌, List, [], ◌∷◌, ◌++◌, length, take}
 use Rattle.certificate.specs.declared.tree.Record.{Record}
-use Rattle.certificate.specs.declared.journals.Node.{Node}
+use Rattle.search_nodes.specs.declared.nodes.Node.{Node}
 use Rattle.search_machine.specs.Bags.{Every}
 use Rattle.search_machine.specs.Journals.{Path}
 use Rattle.steal_pool.specs.declared.opens.Open.{Open}

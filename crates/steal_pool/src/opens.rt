@@ -2,7 +2,8 @@
 ghost use Rattle.std.specs.Prelude.{◌≡◌, ◌≤◌, ◌∷◌, [], ◌++◌, IfOk, length, take};
 ghost use Rattle.steal_pool.specs.Opens.{path_at, trail_at, HasRecord, IsOnWay};
 
-use certificate::{Path, RecordList};
+use certificate::Path;
+use search_nodes::Trail;
 use std::alloc::Global;
 use stow_data::NoMemory;
 
@@ -26,7 +27,7 @@ fn branch_off(alloc: Global, way: &[bool], above: usize, value: bool) -> Result<
 }
 
 /// The first records, so many. The others go.
-fn first_records(alloc: Global, records: RecordList, count: usize) -> Result<RecordList, NoMemory>
+fn first_records(alloc: Global, records: Trail, count: usize) -> Result<Trail, NoMemory>
     ensures { IfOk result (λ first. first ≡ take count records) }
 {
     if records.len() <= count {
@@ -34,7 +35,7 @@ fn first_records(alloc: Global, records: RecordList, count: usize) -> Result<Rec
     }
     let mut items = records.into_items();
     items.truncate(count);
-    let mut first = RecordList::new(alloc);
+    let mut first = Trail::new(alloc);
     for record in items {
         first.push(record)?;
     }
@@ -54,12 +55,12 @@ impl Open {
     }
 
     /// The records above the node, of those along the way.
-    pub fn trail(self, alloc: Global, records: RecordList) -> Result<RecordList, NoMemory>
+    pub fn trail(self, alloc: Global, records: Trail) -> Result<Trail, NoMemory>
         requires { HasRecord records self }
         ensures { IfOk result (λ trail. trail ≡ trail_at records self) }
     {
         match self {
-            Open::Root => Ok(RecordList::new(alloc)),
+            Open::Root => Ok(Trail::new(alloc)),
             Open::Half { above, .. } => first_records(alloc, records, above + 1),
         }
     }

@@ -11,9 +11,10 @@ ghost use Rattle.incumbent_word.specs.Rule.{none_yet};
 
 use crate::found::Found;
 use crate::opens::Open;
-use certificate::{Entry, Journal, JournalList, Node, Path, PathList, Record, RecordList};
+use certificate::{Entry, Journal, JournalList, Path, PathList, Record};
 use incumbent_word::{Board, Seat};
 use node_work::{Desk, Worked};
+use search_nodes::{Node, SharedRecord, Trail};
 use std::alloc::Global;
 use std::mem;
 use stow_data::NoMemory;
@@ -79,7 +80,7 @@ impl Run {
             start,
             here: Node {
                 path: Path::new(alloc),
-                trail: RecordList::new(alloc),
+                trail: Trail::new(alloc),
             },
             opens,
             full: None,
@@ -104,7 +105,7 @@ impl Run {
             unreachable!()
         };
         let path = next.path(alloc, self.here.path.as_slice())?;
-        let records = mem::replace(&mut self.here.trail, RecordList::new(alloc));
+        let records = mem::replace(&mut self.here.trail, Trail::new(alloc));
         let trail = next.trail(alloc, records)?;
         self.here = Node { path, trail };
         Ok(())
@@ -125,7 +126,8 @@ impl Run {
         ensures { OnOk result (self.new ≡ record self.old { here = divided_by self.old.here ends.now; opens = self.old.opens ++ halves_of self.old.here }) }
     {
         let above = self.here.path.len();
-        self.here.trail.push(ends.copy(alloc)?)?;
+        let shared = SharedRecord::new(alloc, ends.copy(alloc)?)?;
+        self.here.trail.push(shared)?;
         self.opens.push(Open::Half {
             above,
             value: false,

@@ -1,5 +1,5 @@
 use Rattle.std.proofs.Common.{◌≡◌, ◌+◌, ◌++◌, ℕ}
-use Rattle.certificate.specs.declared.journals.Node.{Node}
+use Rattle.search_nodes.specs.declared.nodes.Node.{Node}
 use Rattle.search_machine.specs.Bags.{Every}
 use Rattle.node_racks.specs.Racks.{stolen_weight}
 use Rattle.node_racks.specs.Rounds.{Each, IsHeld, Fits, deques, own_put, own_took}

@@ -2,7 +2,7 @@ use Rattle.std.proofs.Common.{◌≡◌, ◌≤◌, ◌+◌, List, subst, sym, �
 use Rattle.search_machine.proofs.Weights.{every_append}
 use Rattle.node_racks.proofs.Keeps.{learns, found_all, took_all, took_more}
 use Rattle.crossbeam_deque.specs.Handles.{worker_view}
-use Rattle.certificate.specs.declared.journals.Node.{Node}
+use Rattle.search_nodes.specs.declared.nodes.Node.{Node}
 use Rattle.search_machine.specs.Bags.{weigh, Every}
 use Rattle.node_racks.proofs.deques.rest.Goals as goal
 

@@ -2,7 +2,7 @@ use Rattle.std.proofs.Common.{◌≡◌, ◌+◌, ◌++◌, length, map}
 use Rattle.search_machine.specs.Bags.{Every}
 use Rattle.node_racks.specs.Racks.{IsPassAt, IsFresh, number_of}
 use Rattle.search_crew.specs.Ends.{IsPosted, post_number}
-use Rattle.search_crew.specs.Jobs.{IsMaker}
+use Rattle.search_crew.specs.Starts.{IsMaker}
 use Rattle.search_crew.proofs.beginning.begin_all.Given as goal
 
 abbrev pub invariant-loop-pass : goal.invariant-loop-pass

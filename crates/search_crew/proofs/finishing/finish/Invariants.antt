@@ -1,6 +1,6 @@
 use Rattle.std.proofs.Common.{◌≡◌}
 use Rattle.search_machine.specs.Bags.{weigh}
-use Rattle.search_crew.specs.Deeds.{on_nodes}
+use Rattle.crew_turns.specs.Deeds.{on_nodes}
 use Rattle.search_crew.specs.Ends.{IsRest, IsLive}
 use Rattle.search_crew.proofs.finishing.finish.Given as goal
 

@@ -7,7 +7,7 @@ use Rattle.search_crew.proofs.Ends.{passes_many, posts_many, all_joined, all_ret
 use Rattle.search_crew.proofs.searching.search_as.Goals as goal
 
 pub begin_all-requires-clause-room : goal.begin_all-requires-clause-room
-begin_all-requires-clause-room g c = omega (arith, ap (λ (v : View). v.made) c.in_ok-board.ensures.owner.1, passes_many c.in_ok-rack.rack c.in_ok-rack.passes.items c.in_ok-rack.ensures.all, c.in_ok-rack.ensures.workers, c.requires.workers.1)
+begin_all-requires-clause-room g c = omega (arith, ap (λ (v : View). v.made) c.in_ok-board.ensures.owner.1, passes_many c.in_ok-rack.rack c.in_ok-rack.passes.items c.in_ok-rack.ensures.all, c.in_ok-rack.ensures.workers, c.requires.asked.few)
 
 pub take_in_all-requires-clause-seats : goal.take_in_all-requires-clause-seats
 take_in_all-requires-clause-seats g c = all_seated g.M.Wanted.meets c.in_ok-rack.rack c.in_ok-board.board c.args.tables.now c.in_ok-posts.posts.items c.in_ok-backs.backs.items c.in_ok-backs.ensures
@@ -18,7 +18,7 @@ conclude-requires-clause-owner g c =
     let first : c.begin_all.new.owner.view.made ≡ length c.in_ok-rack.passes.items = omega (arith, ap (λ (v : View). v.made) c.in_ok-board.ensures.owner.1, c.in_ok-posts.ensures.made) in
     let same : length c.in_ok-backs.backs.items ≡ length c.in_ok-rack.passes.items
     = each_length g.M.Wanted.meets c.in_ok-rack.rack c.in_ok-board.board c.args.tables.now c.in_ok-posts.posts.items c.in_ok-backs.backs.items c.in_ok-backs.ensures ∙ posts_many c.in_ok-posts.posts.items c.in_ok-rack.passes.items c.in_ok-posts.ensures.numbers in
-    let few : length c.in_ok-rack.passes.items ≤ 16 = omega (arith, many, c.in_ok-rack.ensures.workers, c.requires.workers.1) in
+    let few : length c.in_ok-rack.passes.items ≤ 16 = omega (arith, many, c.in_ok-rack.ensures.workers, c.requires.asked.few) in
     all_joined g.M.Wanted.meets c.in_ok-board.board c.args.tables.now c.begin_all.new.owner c.take_in_all.new.owner (length c.in_ok-rack.passes.items) (length c.in_ok-backs.backs.items) c.in_ok-posts.ensures.maker c.in_ok-ended.ensures.owner
     c.in_ok-ended.ensures.made c.in_ok-ended.ensures.taken first same few
 

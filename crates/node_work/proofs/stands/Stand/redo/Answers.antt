@@ -3,6 +3,7 @@ use Rattle.zero_one_rows.specs.Rows.{whole}
 use Rattle.proof_trees.specs.Boxes.{Box, tightened}
 use Rattle.certificate.specs.declared.tree.Record.{Record}
 use Rattle.certificate.specs.Entries.{end_of, number_of}
+use Rattle.search_machine.specs.Journals.{divided}
 use Rattle.search_machine.specs.Machine.{Divides}
 use Rattle.partial_plan.proofs.Freeing.{noted_more}
 use Rattle.node_work.specs.declared.stands.Frame.{Frame}
@@ -15,9 +16,10 @@ returns-in_err-retighten-clause-stand c = let n = c.in_err-retighten.ensures.not
 
 pub halve-requires-clause-divides : goal.halve-requires-clause-divides
 halve-requires-clause-divides c =
-    let e : c.retighten.new.kept.known ≡ tightened (whole c.args.model.now) c.args.self.now.kept.known c.args.entry.now.steps = c.in_ok-retighten.ensures.tight ∙ ap (tightened (whole c.args.model.now) c.args.self.now.kept.known) (c.as_slice.ensures ∙ ap (λ (r : Record). r.steps) c.in_ok-entry.ensures) in
-    subst (λ (b : Box). Divides (whole c.args.model.now) b (end_of (number_of c.args.model.now) c.in_ok-entry.entry.end)) (sym e)
-    (subst (λ (r : Record). Divides (whole c.args.model.now) (tightened (whole c.args.model.now) c.args.self.now.kept.known c.args.entry.now.steps) (end_of (number_of c.args.model.now) r.end)) (sym c.in_ok-entry.ensures) c.requires.divides)
+    let same : c.record-record.result.now ≡ c.args.entry.now = c.record-record.ensures ∙ c.in_ok-entry.ensures in
+    let e : c.retighten.new.kept.known ≡ tightened (whole c.args.model.now) c.args.self.now.kept.known c.args.entry.now.steps = c.in_ok-retighten.ensures.tight ∙ ap (tightened (whole c.args.model.now) c.args.self.now.kept.known) (c.as_slice.ensures ∙ ap (λ (r : Record). r.steps) same) in
+    subst (λ (b : Box). Divides (whole c.args.model.now) b (end_of (number_of c.args.model.now) c.record-record.result.now.end)) (sym e)
+    (subst (λ (r : Record). Divides (whole c.args.model.now) (tightened (whole c.args.model.now) c.args.self.now.kept.known c.args.entry.now.steps) (end_of (number_of c.args.model.now) r.end)) (sym same) c.requires.divides)
 
 pub returns-in_err-push-clause-stand : goal.returns-in_err-push-clause-stand
 returns-in_err-push-clause-stand c =
@@ -31,11 +33,11 @@ returns-clause-stand c =
     let u : Stand = record { kept = c.retighten.new.kept; frames = c.args.self.now.frames } in
     let t : Stand = record { kept = c.halve.new.kept; frames = c.push.new.self } in
     let f : Frame = record { entry = c.in_ok-entry.entry; value = c.args.value; mark = length c.fixed-mark.result.now } in
-    let e : c.retighten.new.kept.known ≡ tightened (whole c.args.model.now) c.args.self.now.kept.known c.args.entry.now.steps = c.in_ok-retighten.ensures.tight ∙ ap (tightened (whole c.args.model.now) c.args.self.now.kept.known) (c.as_slice.ensures ∙ ap (λ (r : Record). r.steps) c.in_ok-entry.ensures) in
+    let e : c.retighten.new.kept.known ≡ tightened (whole c.args.model.now) c.args.self.now.kept.known c.args.entry.now.steps = c.in_ok-retighten.ensures.tight ∙ ap (tightened (whole c.args.model.now) c.args.self.now.kept.known) (c.as_slice.ensures ∙ ap (λ (r : Record). r.steps) (c.record-record.ensures ∙ c.in_ok-entry.ensures)) in
     let divides : Divides (whole c.args.model.now) c.retighten.new.kept.known (end_of (number_of c.args.model.now) c.in_ok-entry.entry.end) =
     subst (λ (b : Box). Divides (whole c.args.model.now) b (end_of (number_of c.args.model.now) c.in_ok-entry.entry.end)) (sym e)
     (subst (λ (r : Record). Divides (whole c.args.model.now) (tightened (whole c.args.model.now) c.args.self.now.kept.known c.args.entry.now.steps) (end_of (number_of c.args.model.now) r.end)) (sym c.in_ok-entry.ensures) c.requires.divides) in
-    redone c.args.model.now c.args.self.now u t f c.requires.stand n.0 k.0 c.requires.at c.in_ok-retighten.ensures.same (c.in_ok-retighten.ensures.tight ∙ ap (tightened (whole c.args.model.now) c.args.self.now.kept.known) c.as_slice.ensures) n.1 n.2 refl
+    redone c.args.model.now c.args.self.now u t f c.requires.stand n.0 k.0 c.requires.at c.in_ok-retighten.ensures.same (c.in_ok-retighten.ensures.tight ∙ ap (tightened (whole c.args.model.now) c.args.self.now.kept.known) (c.as_slice.ensures ∙ ap (λ (r : Record). r.steps) c.record-record.ensures)) n.1 n.2 refl
     c.halve.ensures.same (sym (ap (λ (us : List ℕ). length us) c.fixed-mark.ensures)) divides k.1 k.2 c.in_ok-push.ensures.items
 
 pub returns-clause-at_half : goal.returns-clause-at_half
@@ -44,5 +46,5 @@ returns-clause-at_half c =
     let u : Stand = record { kept = c.retighten.new.kept; frames = c.args.self.now.frames } in
     let t : Stand = record { kept = c.halve.new.kept; frames = c.push.new.self } in
     let f : Frame = record { entry = c.in_ok-entry.entry; value = c.args.value; mark = length c.fixed-mark.result.now } in
-    redone_at c.args.model.now c.args.self.now u t f c.requires.stand n.0 [] c.requires.at c.in_ok-retighten.ensures.same (c.in_ok-retighten.ensures.tight ∙ ap (tightened (whole c.args.model.now) c.args.self.now.kept.known) c.as_slice.ensures) n.1 n.2 refl
-    c.halve.ensures.half c.in_ok-push.ensures.items
+    redone_at c.args.model.now c.args.self.now u t f c.requires.stand n.0 [] c.requires.at c.in_ok-retighten.ensures.same (c.in_ok-retighten.ensures.tight ∙ ap (tightened (whole c.args.model.now) c.args.self.now.kept.known) (c.as_slice.ensures ∙ ap (λ (r : Record). r.steps) c.record-record.ensures)) n.1 n.2 refl
+    (c.halve.ensures.half ∙ ap (λ (r : Record). divided c.retighten.new.kept.known (end_of (number_of c.args.model.now) r.end) c.args.value) c.record-record.ensures) c.in_ok-push.ensures.items

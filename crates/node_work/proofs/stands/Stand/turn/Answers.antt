@@ -1,4 +1,9 @@
-use Rattle.std.proofs.Common.{◌≡◌, refl, ap, ◌∙◌, List, ◌∷◌, [], ◌++◌}
+use Rattle.std.proofs.Common.{◌≡◌, refl, ap, sym, subst, ◌∙◌, List, ◌∷◌, [], ◌++◌}
+use Rattle.zero_one_rows.specs.Rows.{whole}
+use Rattle.certificate.specs.declared.tree.Record.{Record}
+use Rattle.certificate.specs.Entries.{end_of, number_of}
+use Rattle.search_machine.specs.Journals.{divided}
+use Rattle.search_machine.specs.Machine.{Divides}
 use Rattle.node_work.specs.declared.stands.Frame.{Frame}
 use Rattle.node_work.specs.declared.stands.Stand.{Stand}
 use Rattle.node_work.proofs.Standing.{deepest, stand_less, low_marks, may_halve, turned, turned_at, stand_fixed}
@@ -14,7 +19,9 @@ pub back_to-requires-clause-low : goal.back_to-requires-clause-low
 back_to-requires-clause-low c = low_marks c.args.model.now c.args.self.now c.pop.new.self.items c.in-Some.frame c.requires.stand c.in-Some.ensures.items
 
 pub halve-requires-clause-divides : goal.halve-requires-clause-divides
-halve-requires-clause-divides c = may_halve c.args.model.now c.args.self.now c.pop.new.self.items c.in-Some.frame c.requires.stand c.in-Some.ensures.items c.back_to.new.self c.back_to.ensures.freed
+halve-requires-clause-divides c =
+    subst (λ (r : Record). Divides (whole c.args.model.now) c.back_to.new.self.kept.known (end_of (number_of c.args.model.now) r.end)) (sym c.record.ensures)
+    (may_halve c.args.model.now c.args.self.now c.pop.new.self.items c.in-Some.frame c.requires.stand c.in-Some.ensures.items c.back_to.new.self c.back_to.ensures.freed)
 
 pub returns-in_err-push-clause-stand : goal.returns-in_err-push-clause-stand
 returns-in_err-push-clause-stand c =
@@ -33,5 +40,5 @@ pub returns-clause-at_half : goal.returns-clause-at_half
 returns-clause-at_half c =
     let t : Stand = record { kept = c.halve.new.kept; frames = c.push.new.self } in
     let same : c.back_to.new.self.frames.items ≡ c.pop.new.self.items = ap (λ v. v.items) c.back_to.ensures.frames in
-    turned_at c.args.model.now c.args.self.now c.pop.new.self.items c.in-Some.frame c.requires.stand c.in-Some.ensures.items c.back_to.new.self t c.args.value c.back_to.ensures.freed c.halve.ensures.half
+    turned_at c.args.model.now c.args.self.now c.pop.new.self.items c.in-Some.frame c.requires.stand c.in-Some.ensures.items c.back_to.new.self t c.args.value c.back_to.ensures.freed (c.halve.ensures.half ∙ ap (λ (r : Record). divided c.back_to.new.self.kept.known (end_of (number_of c.args.model.now) r.end) c.args.value) c.record.ensures)
     (c.in_ok-push.ensures.items ∙ ap (λ (gs : List Frame). gs ++ record { entry = c.in-Some.frame.entry; value = c.args.value; mark = c.in-Some.frame.mark } ∷ []) same)

@@ -1,6 +1,6 @@
 use Rattle.std.proofs.Common.{sym, subst}
 use Rattle.steal_pool.proofs.Steps.{on_ok}
-use Rattle.search_crew.specs.declared.deeds.Deeds.{Deeds}
+use Rattle.crew_turns.specs.declared.deeds.Deeds.{Deeds}
 use Rattle.search_crew.specs.Ends.{IsRest}
 use Rattle.search_crew.proofs.Rests.{rest_settled}
 use Rattle.search_crew.proofs.finishing.Rest.settle.Goals as goal

@@ -3,7 +3,7 @@ use Rattle.std.specs.Prelude.{is_some}
 use Rattle.incumbent_word.specs.declared.view.View.{View}
 use Rattle.incumbent_word.specs.Rule.{one_over}
 use Rattle.incumbent_word.specs.Tokens.{SeatToken}
-use Rattle.search_crew.specs.declared.deeds.Deeds.{Deeds}
+use Rattle.crew_turns.specs.declared.deeds.Deeds.{Deeds}
 use Rattle.search_crew.specs.Ends.{IsRest}
 use Rattle.search_crew.proofs.Rests.{some_drawn, rest_drawn, rest_left, rest_left_too}
 use Rattle.search_crew.proofs.finishing.Rest.step.Goals.{then-live+else-is_some, else-live}

@@ -1,0 +1,3 @@
+pub mod Weights
+pub mod Handled
+pub mod Jobs

@@ -1,0 +1,18 @@
+//! What one worker has.
+
+use crate::deeds::Deeds;
+use incumbent_word::Seat;
+use node_racks::{Pass, Wanted};
+use node_work::Desk;
+use search_nodes::Node;
+
+/// What one worker has: its pass to the rack, its seat at the board, its desk, the number of its turns, what it did, and the nodes that its deque refused.
+#[derive(Drop)]
+pub struct Job<'a, M: Wanted> {
+    pub pass: Pass<M>,
+    pub seat: Seat,
+    pub desk: Desk<'a>,
+    pub turns: u64,
+    pub deeds: Deeds,
+    pub aside: Vec<Node>,
+}

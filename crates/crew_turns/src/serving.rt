@@ -1,0 +1,49 @@
+//! A worker's turns, one after another.
+ghost use Rattle.std.specs.Prelude.{◌≡◌, [], IfOk};
+ghost use Rattle.crew_turns.specs.Jobs.{IsJob, IsServed};
+
+use crate::job::Job;
+use crate::signs::Signs;
+use crate::turning::{Turned, turn};
+use incumbent_word::Board;
+use node_racks::{Rack, Wanted};
+use std::alloc::Global;
+use std::sync::Wait;
+use std::thread;
+use stow_data::NoMemory;
+use stow_io::Gate;
+
+/// Takes turns until no node is open, no ticket is left, memory is wanting or all are to stop. Where no ticket is left, all stop. Where memory is wanting, the caller is to stop the others: the nodes that the worker had are gone.
+pub fn serve<'a, M: Wanted, G: Gate, R: Wait>(
+    rt: &R,
+    alloc: Global,
+    rack: &Rack<M>,
+    board: &Board,
+    signs: &Signs,
+    gate: &G,
+    mut job: Job<'a, M>,
+) -> Result<Job<'a, M>, NoMemory>
+    requires job { IsJob M.meets rack.now board.now job.desk 0 [] job }
+    requires none_over { job.seat.view.over ≡ 0 }
+    ensures { IfOk result (λ served. IsServed M.meets rack.now board.now job.entry served) }
+{
+    for _ in rt.forever() {
+        if signs.is_stopped() {
+            return Ok(job);
+        }
+        match turn(alloc, rack, board, signs, gate, &mut job)? {
+            Turned::Handled => {}
+            Turned::Nothing => {
+                if signs.none_open() {
+                    return Ok(job);
+                }
+                thread::yield_now();
+            }
+            Turned::Spent => {
+                signs.stop();
+                return Ok(job);
+            }
+        }
+    }
+    Ok(job)
+}

@@ -1,0 +1,14 @@
+//! Nodes of a search.
+
+use crate::trails::Trail;
+use certificate::Path;
+
+/// A node of a search.
+#[derive(Debug, Drop)]
+pub struct Node {
+    /// The value of each branch from the root down to the node.
+    pub path: Path,
+
+    /// The records of its ancestors, the root's first. Each ends in a branch.
+    pub trail: Trail,
+}
