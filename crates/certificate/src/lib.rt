@@ -18,7 +18,7 @@ mod writing;
 
 pub use faults::CertFault;
 pub use few::Few;
-pub use journals::{Entry, Journal, JournalList, Node, Path, PathList, RecordList};
+pub use journals::{Entry, Journal, JournalList, Path, PathList};
 pub use laws::answers_are_determined;
 pub use lines::Line;
 pub use reading::read_cert;
