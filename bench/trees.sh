@@ -4,8 +4,14 @@
 #   deep:   a ship of one kind that sails twelve calls: 100,321 records over 50,160 variables, and 1,003,185 over 125,400;
 #           each half of value 1 is a leaf, or is divided again by the next two variables;
 #   short:  the same ship, all halves of 19 variables, whose numbers have one digit: 1,048,575 records, the shortest that a tree can have,
-#           and the same with a step, and with a raise, in each record;
+#           and the same with one to three steps, and with a raise, in each record;
+#   waits:  the same ship, one branch whose half of value 1 has two million raises while the other waits;
 #   zero:   the feeder, whose root raises 960 rows and all of whose 2,305 leaves are from zero;
+#   nested: the feeder, 1,900 boxes that wait one behind the other, each from zero with a raise; behind them a record that raises 960 rows, and
+#           all halves of the next twelve variables, each leaf from zero;
+#   chains: the deep ship, 20,000 boxes that wait one behind the other, each from zero with a raise; and the feeder, all halves of six variables,
+#           in each of them 2,200 such boxes;
+#   turns:  the deep ship, whose root raises 10,000 rows, and all halves of eleven variables, in each of them 40 such boxes;
 #   made:   the ship of `stow make 1`, with steps and raises by rows of five families: 64 MB, or as many as the first word says.
 # Aims: the feeder in at most 1 s, also where its leaves are from zero, the deep trees linear in their records, the made ship in at most
 # 10 s and 1 GiB with 64 MB; and for trees of a million records and the made ship with 512 MB (the most that is read) at most 8 times the
@@ -103,6 +109,41 @@ def write_zero(name, variables, rows):
             file.write(f"n 0\n{raises}{divided(variable)}n 1\nl\n")
         file.write("n 1\nl\nend\n")
 
+def write_waits(name, variable, count):
+    """The half of value 1 has so many raises, while the other waits."""
+    with open(name + ".cert", "w") as file:
+        file.write(head(3) + f"n 0\n{divided(variable)}n 0\n")
+        for _ in range(count // 1000):
+            file.write("r 1 cell 9 2\nr -1 cell 9 2\n" * 500)
+        file.write("l\nn 0\nl\nend\n")
+
+def write_nested(name, variables, layers, rows, width):
+    """So many boxes wait one behind the other, each from zero; behind them a record that raises rows, and all halves of some variables."""
+    with open(name + ".cert", "w") as file:
+        file.write(head(2 * layers + 2 ** (width + 1) - 1))
+        for variable in variables[:layers]:
+            file.write(f"n 1\nr 1 {rows[0]}\n{divided(variable)}")
+        file.write("n 1\n" + "".join(f"r 1 {it}\n" for it in rows))
+        levels = [divided(variable) for variable in variables[layers : layers + width]]
+        for half in range(2 ** (width - 1)):
+            begun = len(levels) - 1 if half == 0 else (half & -half).bit_length() - 1
+            for level in range(len(levels) - 1 - begun, len(levels)):
+                file.write(("" if half == 0 and level == 0 else "n 0\n") + levels[level])
+            file.write(2 * "n 1\nl\n")
+        file.write(layers * "n 1\nl\n" + "end\n")
+
+def write_chains(name, variables, width, layers, row, rows=()):
+    """The root raises these rows. All halves of some variables; in each so many boxes wait one behind the other, each from zero with a raise."""
+    raises = "".join(f"r 1 {it}\n" for it in rows)
+    levels = [f"n 0\n{'' if at else raises}{divided(variable)}" for at, variable in enumerate(variables[:width])]
+    chain = "".join(f"n 1\nr 1 {row}\n{divided(variable)}" for variable in variables[width : width + layers]) + (layers + 1) * "n 1\nl\n"
+    with open(name + ".cert", "w") as file:
+        file.write(head(2**width - 1 + 2**width * (2 * layers + 1)))
+        for half in range(2**width):
+            begun = width if half == 0 else (half & -half).bit_length() - 1
+            file.write("".join(levels[width - begun :]) + chain)
+        file.write("end\n")
+
 r = random.Random(1)
 def row():
     # a half-cell of 32 stacks with three tiers and two sides
@@ -142,11 +183,21 @@ measure("deep")
 write_wide("deep", deep(380))
 measure("deep")
 short = [variable for variable in deep(380) if variable[2] < 10 and variable[3] < 10][:19]
-for lines in "", "s cell 9 2\n", "r 0 cell 9 2\n":
+for lines in "", "s cell 9 2\n", "r 0 cell 9 2\n", 2 * "s cell 9 2\n", 3 * "s cell 9 2\n":
     write_short("deep", short, lines)
     measure("deep")
 write_zero("feeder", variables(kinds("feeder"), 96, ()), [f"cell {call} {half}" for call in range(1, 6) for half in range(192)])
 measure("feeder")
+write_nested("feeder", variables(kinds("feeder"), 96, ()), 1900, [f"cell {call} {half}" for call in range(1, 6) for half in range(192)], 12)
+measure("feeder")
+write_chains("deep", deep(380), 0, 20_000, "cell 9 2")
+measure("deep")
+write_chains("feeder", variables(kinds("feeder"), 96, ()), 6, 2200, "cell 1 0")
+measure("feeder")
+write_chains("deep", deep(380), 11, 40, "cell 9 2", [f"cell {call} {half}" for call in range(5, 8) for half in range(3800)][:10_000])
+measure("deep")
+write_waits("deep", short[0], 2_000_000)
+measure("deep")
 if os.path.exists("made.profile.toml"):
     made = variables(kinds("made"), 96, {3 * stack for stack in range(16, 32)})
     each = megabytes * 1_000_000 // (len(made) * 93)

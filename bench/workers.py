@@ -1,7 +1,7 @@
 #!/usr/bin/env python3
 """Measures the nodes a second of `stow plan` with several workers, beside those with one.
 
-    bench/workers.py INSTANCES [--numbers FIRST COUNT] [--budget N] [--groups NAME,..] [--workers N,..] [--program FILE]
+    bench/workers.py INSTANCES [--numbers FIRST COUNT] [--budget N] [--groups NAME,..] [--workers N,..] [--runs N] [--program FILE]
 
 INSTANCES is a folder with `instances.py`, which makes the ships (`instances.py list` names the groups, `instances.py GROUP FIRST
 COUNT FOLDER` writes them). Ships that need fewer than 2,000 nodes with one worker are left out. From each run one with a budget of
@@ -13,6 +13,7 @@ clock, so nothing else is to run; "us a node" is the processor time of all worke
 --budget N              the nodes of each search (100000 where it is missing)
 --groups NAME,..        these groups alone
 --workers N,..          these numbers of workers (1,2,4 where it is missing); the first is what the others stand beside
+--runs N                how often each run is made (1 where it is missing); the middle one by its nodes a second counts
 --program FILE          the program that is measured, in place of the built one
 """
 import argparse
@@ -43,20 +44,29 @@ class Run:
         self.nodes = int(said.get("nodes", 0))
 
 
-def measured(args, folder, ship):
-    """The row of one ship: its nodes a second with each number of workers; None where it is left out."""
-    row, speeds = [ship], []
-    for workers in args.workers:
+class Speed:
+    """What a search did past its first nodes: the nodes, those a second by the clock, and the processor time of each."""
+
+    def __init__(self, args, folder, ship, workers):
         first = Run(args.program, folder, ship, FIRST, workers)
-        if not speeds and first.nodes < FIRST:
-            return None
         whole = Run(args.program, folder, ship, args.budget, workers)
         nodes = whole.nodes - first.nodes
-        if not speeds and nodes < 1000:
+        self.first, self.nodes, self.past = first.nodes, whole.nodes, nodes
+        self.rate = nodes / max(whole.seconds - first.seconds, 0.001)
+        self.used = 1e6 * (whole.used - first.used) / max(nodes, 1)
+
+
+def measured(args, folder, ship):
+    """The row of one ship: its nodes a second with each number of workers; None where it is left out."""
+    row, least = [ship], None
+    for workers in args.workers:
+        speeds = [Speed(args, folder, ship, workers)]
+        if least is None and (speeds[0].first < FIRST or speeds[0].past < 1000):
             return None
-        speeds.append(nodes / max(whole.seconds - first.seconds, 0.001))
-        used = 1e6 * (whole.used - first.used) / max(nodes, 1)
-        row += [str(whole.nodes), f"{speeds[-1]:.0f}", f"{speeds[-1] / speeds[0]:.2f}", f"{used:.0f}"]
+        speeds += [Speed(args, folder, ship, workers) for _ in range(args.runs - 1)]
+        middle = sorted(speeds, key=lambda speed: speed.rate)[args.runs // 2]
+        least = least or middle.rate
+        row += [str(middle.nodes), f"{middle.rate:.0f}", f"{middle.rate / least:.2f}", f"{middle.used:.0f}"]
     return row
 
 
@@ -67,6 +77,7 @@ def main():
     asked.add_argument("--budget", type=int, default=100000)
     asked.add_argument("--groups")
     asked.add_argument("--workers", default="1,2,4")
+    asked.add_argument("--runs", type=int, default=1)
     asked.add_argument("--program", default=f"{ROOT}/crates/stow_main/out/stow_main")
     args = asked.parse_args()
     args.workers = [int(n) for n in args.workers.split(",")]

@@ -15,3 +15,6 @@ pub mod Walks
 pub mod Following
 pub mod FewRecords
 mod Named
+mod GivingBack
+mod LettingGo
+mod TakingOut

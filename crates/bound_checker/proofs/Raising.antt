@@ -12,6 +12,7 @@ use Rattle.dual_bound.specs.Adding.{in_range}
 use Rattle.dual_bound.specs.Costs.{AreSmall, Priced}
 use Rattle.dual_bound.proofs.Multiplied.{changed_is}
 use Rattle.dual_bound.proofs.Pricing.{value_is}
+use Rattle.dual_bound.specs.declared.costs.Costs.{Costs}
 use Rattle.bound_checker.specs.declared.blank.Blank.{Blank}
 use Rattle.bound_checker.specs.declared.sums.Sums.{Sums}
 use Rattle.bound_checker.specs.declared.prices.Change.{Change}
@@ -24,6 +25,15 @@ use Rattle.certificate.proofs.RowsAlike.{same_equal}
 use Rattle.bound_checker.proofs.Multiplied.{amount_with, amount_low}
 use Rattle.bound_checker.proofs.Alike.{dot_alike}
 use Rattle.bound_checker.proofs.Waiting.{moves_alike}
+
+-- the costs are those of other multipliers that are alike
+pub priced_alike : (m : Voyage) (b : Box) (ms : Multipliers Row) (c : Costs) → Priced m b ms c → (ns : Multipliers Row) → AreSmall m ns → ((r : Row) → amount_of same_row ns r ≡ amount_of same_row ms r) → Priced m b ns c
+priced_alike m b ms c priced ns small same = record {
+  gauged = priced.gauged;
+  right = priced.right ∙ sym (dot_alike m (whole m).rhs ns ms small priced.small same);
+  reduced = λ v lt. priced.reduced v lt ∙ ap (λ (z : ℤ). pos 16 *ℤ (whole m).cost v -ℤ z) (sym (dot_alike m (λ r. (whole m).coef r v) ns ms small priced.small same));
+  small = small;
+}
 
 module _ (m : Voyage) (b : Box) (ms : Multipliers Row) (s : Sums) (carries : Carries m b ms s) where
   pub amounts_low : (r : Row) → amount_of same_row s.amounts r ≤ 2 ^ 40
@@ -61,12 +71,7 @@ module _ (m : Voyage) (b : Box) (ms : Multipliers Row) (s : Sums) (carries : Car
   carries_alike ns small same = record {
     whole = carries.whole;
     amounts = λ r. carries.amounts r ∙ sym (same r);
-    priced = record {
-      gauged = carries.priced.gauged;
-      right = carries.priced.right ∙ sym (dot_alike m (whole m).rhs ns ms small carries.priced.small same);
-      reduced = λ v lt. carries.priced.reduced v lt ∙ ap (λ (z : ℤ). pos 16 *ℤ (whole m).cost v -ℤ z) (sym (dot_alike m (λ r. (whole m).coef r v) ns ms small carries.priced.small same));
-      small = small;
-    };
+    priced = priced_alike m b ms s.costs carries.priced ns small same;
     blank = carries.blank;
     rows = carries.rows;
   }

@@ -1,5 +1,6 @@
 -- The boxes of a tree that wait, kept as one box with what was fixed and changed since. No public clause cites this module.
-use Rattle.std.specs.Prelude.{◌≡◌, ℕ, ◌<◌, ◌≤◌, ◌^◌, true, false, cond, All, IfSome, List, [], ◌∷◌, ◌++◌, Option, Some, None, length, take, drop}
+use Rattle.std.specs.Prelude.{◌≡◌, ℕ, ◌<◌, ◌≤◌, ◌^◌, true, false, cond, All, IfSome, List, [], ◌∷◌, ◌++◌, Option, Some, None, length, take, drop, ◌⊎◌}
+use Rattle.std.specs.Option.{option_map}
 use Rattle.proof_trees.specs.Boxes.{Box, at, fixed}
 use Rattle.proof_trees.specs.Multipliers.{Multipliers, amount_of}
 use Rattle.proof_trees.specs.Trees.{Pending}
@@ -50,6 +51,20 @@ pub record Waits (m : Voyage) (b : Box) (undo : List ℕ) (ms : Multipliers Row)
   pub amounts : (r : Row) → back_at r (amount_of same_row ms r) (drop f.changes k) ≡ amount_of same_row (in_hand f.aside q.multipliers) r
   pub aside : IfSome f.aside (IsAside m (released b undo f.mark) q.multipliers)
   pub small : AreSmall m q.multipliers
+
+-- the same frame, where no costs are kept aside
+abbrev pub without_costs : Aside → Aside
+without_costs a = record { amounts = a.amounts; costs = None }
+
+abbrev pub bare : Frame → Frame
+bare f = record { var = f.var; mark = f.mark; changes = f.changes; aside = option_map without_costs f.aside }
+
+-- the same frames, where some may have become bare
+abbrev pub AreBarer : List Frame → List Frame → Type 0
+AreBarer [] [] = Unit {0}
+AreBarer [] (g ∷ gs) = ⊥
+AreBarer (f ∷ fs) [] = ⊥
+AreBarer (f ∷ fs) (g ∷ gs) = ((g ≡ f) ⊎ (g ≡ bare f)) × AreBarer fs gs
 
 -- the boxes that wait, the last frame first
 abbrev pub AllWait : Voyage → Box → List ℕ → Multipliers Row → List Change → List Frame → List (Pending Row) → Type 0

@@ -12,7 +12,10 @@ use zero_one_rows::Row;
 /// The multipliers of rows; a row that isn't there has 0.
 #[derive(Drop)]
 pub struct Amounts {
-    by_row: BTreeMap<Row, u64>,
+    pub by_row: BTreeMap<Row, u64>,
+
+    /// What it took to give them: for each time that a row was given one, its variables and one more.
+    pub work: usize,
 }
 
 impl Model for Amounts {
@@ -31,6 +34,7 @@ impl Amounts {
     {
         Amounts {
             by_row: BTreeMap::new(alloc),
+            work: 0,
         }
     }
 
@@ -41,11 +45,12 @@ impl Amounts {
         self.by_row.get(row).copied().unwrap_or(0)
     }
 
-    /// Gives a row this multiplier.
-    pub fn set(&mut self, row: &Row, amount: u64) -> Result<(), NoMemory>
+    /// Gives a row of so many variables this multiplier.
+    pub fn set(&mut self, row: &Row, amount: u64, count: usize) -> Result<(), NoMemory>
         ensures { OnOk result ((r : Row) → amount_of same_row self.new r ≡ cond (same_row row.now r) amount (amount_of same_row self.old r)) }
     {
         self.by_row.insert(copy_of(row)?, amount)?;
+        self.work = self.work.saturating_add(count).saturating_add(1);
         Ok(())
     }
 }

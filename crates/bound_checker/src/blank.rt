@@ -3,7 +3,7 @@ ghost use Rattle.std.specs.Prelude.{◌≡◌, ◌<◌, IfOk, IfSome, length, sl
 ghost use Rattle.proof_trees.specs.Boxes.{Box};
 ghost use Rattle.zero_one_rows.specs.Variables.{Voyage, variables};
 ghost use Rattle.dual_bound.specs.Costs.{Priced};
-ghost use Rattle.bound_checker.specs.Sums.{IsBlank, IsClean};
+ghost use Rattle.bound_checker.specs.Sums.{IsBlank, IsClean, IsZero};
 
 use dual_bound::Costs;
 use std::alloc::Global;
@@ -22,8 +22,22 @@ pub struct Blank {
     /// Those that no layer uses now. Their dual values are of other boxes.
     pub spare: Vec<Costs>,
 
+    /// The box in which each variable is 0. Costs are worth their right sides there, whatever they were worth elsewhere.
+    pub zero: Box01,
+
     /// How many more numbers may be made.
     pub room: usize,
+}
+
+// The box in which each variable is 0.
+fn zero_box(alloc: Global, model: &Model) -> Result<Box01, NoMemory>
+    ensures { IfOk result (IsZero model.now) }
+{
+    let mut b = Box01::free(alloc, model)?;
+    for v in 0..model.vars() {
+        b.fix(VarNo(v), false);
+    }
+    Ok(b)
 }
 
 impl Blank {
@@ -35,6 +49,7 @@ impl Blank {
         Ok(Blank {
             costs: Costs::start(alloc, model, b)?,
             spare: Vec::new(alloc),
+            zero: zero_box(alloc, model)?,
             room: MOST_NUMBERS,
         })
     }
@@ -71,6 +86,11 @@ impl Blank {
         let costs = Costs::start(alloc, model, b)?;
         self.room -= count;
         Ok(Some(costs))
+    }
+
+    /// Whether costs for so many variables are left, or room for them.
+    pub fn is_left(&self, count: usize) -> bool {
+        !self.spare.as_slice().is_empty() || self.room >= count
     }
 
     /// Keeps costs without multipliers for a later layer, where there is memory.

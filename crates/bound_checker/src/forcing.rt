@@ -3,7 +3,8 @@ ghost use Rattle.std.specs.Prelude.{◌≡◌, ℕ, ◌+◌, ◌<◌, ◌≤◌,
 ghost use Rattle.proof_trees.specs.Boxes.{at, greatest, most, tight};
 ghost use Rattle.zero_one_rows.specs.Variables.{variables};
 ghost use Rattle.zero_one_rows.specs.Rows.{whole};
-ghost use Rattle.dual_bound.specs.Costs.{AreTerms, IsListed};
+ghost use Rattle.base_matrix.specs.Terms.{AreTerms};
+ghost use Rattle.dual_bound.specs.Costs.{IsListed};
 ghost use Rattle.partial_plan.specs.Fixing.{Fixes};
 ghost use Rattle.partial_plan.specs.Forced.{stepped};
 
@@ -16,13 +17,13 @@ use zero_one_rows::Row;
 #[tactic(auto, using(std::proofs::lemmas::Option::get_or_from_slice_get))]
 // What a term brings to the greatest value of its row.
 fn part(b: &Box01, term: Term) -> i64
-    requires var { term.var < length b.now }
-    requires small { unsigned_abs term.coef ≤ 2 ^ 17 }
-    ensures value { result ≡ greatest (at b.now term.var) term.coef }
+    requires var { term.at < length b.now }
+    requires small { unsigned_abs term.by ≤ 2 ^ 17 }
+    ensures value { result ≡ greatest (at b.now term.at) term.by }
     ensures size { unsigned_abs result ≤ 2 ^ 17 }
 {
-    let by = term.coef as i64;
-    match b.at(term.var) {
+    let by = term.by as i64;
+    match b.at(term.at) {
         None => { if by < 0 { 0 } else { by } }
         Some(true) => by,
         Some(false) => 0,
@@ -67,14 +68,14 @@ fn slack_of(model: &Model, b: &Box01, listed: Listed) -> i128
 #[tactic(auto, using(std::proofs::lemmas::Option::get_or_from_slice_get, partial_plan::proofs::Walking::not_stepped, partial_plan::proofs::Freeing::noted_none))]
 // Fixes a term's variable where its row with this slack forces it, and notes it.
 fn note_one(b: &mut Box01, undo: &mut UndoList, slack: i128, term: Term) -> Result<(), NoMemory>
-    requires { term.var < length b.old }
-    ensures stepped { OnOk result (b.new ≡ stepped slack b.old term.var term.coef) }
+    requires { term.at < length b.old }
+    ensures stepped { OnOk result (b.new ≡ stepped slack b.old term.at term.by) }
     ensures noted { (xs : List ℕ) × (undo.new ≡ undo.old ++ xs) × Fixes b.old b.new xs }
 {
-    let by = term.coef as i64;
-    if b.at(term.var).is_none() && slack < by.unsigned_abs() as i128 {
-        undo.push(term.var)?;
-        b.fix(term.var, by > 0);
+    let by = term.by as i64;
+    if b.at(term.at).is_none() && slack < by.unsigned_abs() as i128 {
+        undo.push(term.at)?;
+        b.fix(term.at, by > 0);
     }
     Ok(())
 }

@@ -4,7 +4,9 @@
 mod amounts;
 mod blank;
 mod check;
+mod cleaning;
 mod forcing;
+mod holders;
 mod laws;
 mod named_rows;
 mod priced_box;

@@ -1,16 +1,19 @@
 //! The rows that a tree's lines name, with their right sides and terms, kept for the next line that names them.
-ghost use Rattle.std.specs.Prelude.{◌≡◌, true, IfOk, IfSome};
-ghost use Rattle.zero_one_rows.specs.Variables.{Voyage};
+ghost use Rattle.std.specs.Prelude.{◌≡◌, ℕ, ◌≤◌, ◌^◌, true, IfOk, IfSome, OnOk, length, pos, ◌+ℤ◌, unsigned_abs};
+ghost use Rattle.proof_trees.specs.Multipliers.{Multipliers, amount_of, with_amount};
+ghost use Rattle.zero_one_rows.specs.declared.program.Row.{Row as Rows};
+ghost use Rattle.zero_one_rows.specs.Variables.{Voyage, variables};
 ghost use Rattle.zero_one_rows.specs.Rows.{whole};
-ghost use Rattle.dual_bound.specs.Costs.{IsListed};
+ghost use Rattle.certificate.specs.Entries.{same_row};
+ghost use Rattle.dual_bound.specs.Costs.{IsListed, Priced, PricedSome};
 ghost use Rattle.bound_checker.specs.Named.{IsNamed};
 
 use crate::amounts::copy_of;
-use dual_bound::{Listed, Term, list_row, terms_of};
+use dual_bound::{Costs, Listed, Term, list_row, terms_of};
 use std::alloc::Global;
 use std::collections::BTreeMap;
 use stow_data::{NoMemory, Seq};
-use zero_one_model::Model;
+use zero_one_model::{Box01, Model};
 use zero_one_rows::Row;
 
 /// The most terms that are kept: 2^24, which are 128 MiB.
@@ -119,5 +122,36 @@ impl<'a> NamedRows<'a> {
         } else {
             None
         }
+    }
+
+    /// Adds so many times a row to costs, and counts its variables. It takes their time.
+    pub fn add_row(
+        &mut self,
+        alloc: Global,
+        model: &Model,
+        b: &Box01,
+        costs: &mut Costs,
+        row: &Row,
+        by: i64,
+    ) -> Result<usize, NoMemory>
+        requires row { (whole model.now).has row.now ≡ true }
+        requires by { unsigned_abs by ≤ 2 ^ 40 }
+        requires whole { length b.now ≡ length (variables model.now) }
+        requires rows { self.old ≡ model.now }
+        requires priced { PricedSome model.now b.now costs.old }
+        ensures rows { self.new ≡ self.old }
+        ensures priced { (ms : Multipliers Rows) (n : ℕ) → Priced model.now b.now ms costs.old → pos (amount_of same_row ms row.now) +ℤ by ≡ pos n → n ≤ 2 ^ 40
+            → OnOk result (Priced model.now b.now (with_amount same_row ms row.now n) costs.new) }
+    {
+        let place = self.place(alloc, row)?;
+        if let Some(listed) = self.at(place, row) {
+            let count = listed.terms.len();
+            costs.add_row(model, b, listed, by);
+            return Ok(count);
+        }
+        let terms = terms_of(alloc, model, row)?;
+        let listed = list_row(model, row, terms.as_slice());
+        costs.add_row(model, b, listed, by);
+        Ok(terms.len())
     }
 }

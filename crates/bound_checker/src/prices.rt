@@ -1,5 +1,5 @@
 //! Multipliers that are changed, and taken back.
-ghost use Rattle.std.specs.Prelude.{◌≡◌, ℕ, ◌<◌, ◌≤◌, ◌^◌, true, false, All, OnOk, IfOk, Ok, List, [], length, map, take, pos, ◌+ℤ◌, unsigned_abs};
+ghost use Rattle.std.specs.Prelude.{◌≡◌, ℕ, ◌<◌, ◌≤◌, ◌^◌, true, false, All, OnOk, IfOk, Ok, List, [], length, map, take};
 ghost use Rattle.proof_trees.specs.Multipliers.{Multipliers, with_amount};
 ghost use Rattle.zero_one_rows.specs.declared.program.Row.{Row as Rows};
 ghost use Rattle.zero_one_rows.specs.Variables.{variables};
@@ -12,9 +12,9 @@ ghost use Rattle.bound_checker.specs.Sums.{Carries, CarriesSome};
 ghost use Rattle.bound_checker.specs.Waits.{IsSound, Before};
 ghost use Rattle.bound_checker.specs.Prices.{Holds, HoldsSome, Ends};
 
-use crate::amounts::copy_of;
+use crate::cleaning::turned;
 use crate::sums::{Sums, changed};
-use certificate::BoundNo;
+use certificate::{BoundNo, KeptRaise, KeptRow};
 use std::alloc::Global;
 use stow_data::NoMemory;
 use zero_one_model::{Box01, Model};
@@ -23,7 +23,7 @@ use zero_one_rows::{Raise, Row};
 /// A row whose multiplier was changed, and its multiplier before.
 #[derive(Drop)]
 pub struct Change {
-    pub row: Row,
+    pub row: KeptRow,
     pub old: u64,
 }
 
@@ -32,15 +32,6 @@ pub struct Change {
 pub struct Prices<'a> {
     pub sums: Sums<'a>,
     pub changes: Vec<Change>,
-}
-
-// A multiplier with the sign turned.
-fn turned(amount: u64) -> i64
-    requires { amount ≤ 2 ^ 40 }
-    ensures value { pos amount +ℤ result ≡ pos 0 }
-    ensures size { unsigned_abs result ≤ 2 ^ 40 }
-{
-    -(amount as i64)
 }
 
 impl<'a> Prices<'a> {
@@ -72,10 +63,8 @@ impl<'a> Prices<'a> {
     {
         let old = self.sums.amounts.at(row);
         self.sums.give(alloc, model, b, row, amount)?;
-        self.changes.push(Change {
-            row: copy_of(row)?,
-            old,
-        })?;
+        let row = KeptRow::of(alloc, row)?;
+        self.changes.push(Change { row, old })?;
         Ok(())
     }
 
@@ -101,20 +90,36 @@ impl<'a> Prices<'a> {
         Ok(())
     }
 
+    // One raise as a record keeps it.
+    fn raise_kept(
+        &mut self,
+        alloc: Global,
+        model: &Model,
+        b: &Box01,
+        kept: &KeptRaise,
+        node: u32,
+    ) -> Result<(), BoundNo>
+        requires carries { CarriesSome model.now b.now self.old.sums }
+        ensures { (first ms : Multipliers Rows) (k : List Changes) → Holds model.now b.now first k ms self.old → Ends (λ ns. Holds model.now b.now first k ns self.new) (raised_row (whole model.now) node ms (raise_of kept.now)) result }
+    {
+        let raise = kept.raise();
+        self.raise(alloc, model, b, &raise, node)
+    }
+
     /// Raises in order.
     pub fn raise_all(
         &mut self,
         alloc: Global,
         model: &Model,
         b: &Box01,
-        raises: &[Raise],
+        raises: &[KeptRaise],
         node: u32,
     ) -> Result<(), BoundNo>
         requires carries { CarriesSome model.now b.now self.old.sums }
         ensures { (first ms : Multipliers Rows) (k : List Changes) → Holds model.now b.now first k ms self.old → Ends (λ ns. Holds model.now b.now first k ns self.new) (raised_rows (whole model.now) node (Ok ms) (map raise_of raises.now)) result }
     {
         for raise in raises {
-            self.raise(alloc, model, b, raise, node)?;
+            self.raise_kept(alloc, model, b, raise, node)?;
         }
         Ok(())
     }
@@ -131,6 +136,7 @@ impl<'a> Prices<'a> {
         };
         if amount > 0 {
             self.sums.add_row(alloc, model, b, &row, turned(amount))?;
+            let row = KeptRow::of(alloc, &row)?;
             self.changes.push(Change { row, old: amount })?;
         }
         Ok(true)
@@ -145,6 +151,24 @@ impl<'a> Prices<'a> {
         while more {
             more = self.clear_one(alloc, model, b)?;
         }
+        Ok(())
+    }
+
+    // Gives a row the multiplier that it had before a change.
+    fn undo(
+        &mut self,
+        alloc: Global,
+        model: &Model,
+        b: &Box01,
+        change: Change,
+    ) -> Result<(), NoMemory>
+        requires sound { IsSound model.now change }
+        requires carries { CarriesSome model.now b.now self.old.sums }
+        ensures changes { self.new.changes ≡ self.old.changes }
+        ensures carries { (ms : Multipliers Rows) → Carries model.now b.now ms self.old.sums → OnOk result (Carries model.now b.now (with_amount same_row ms change.row change.old) self.new.sums) }
+    {
+        let row = change.row.row();
+        self.sums.give(alloc, model, b, &row, change.old)?;
         Ok(())
     }
 
@@ -164,7 +188,7 @@ impl<'a> Prices<'a> {
     {
         while self.changes.len() > to {
             if let Some(change) = self.changes.pop() {
-                self.sums.give(alloc, model, b, &change.row, change.old)?;
+                self.undo(alloc, model, b, change)?;
             }
         }
         Ok(())

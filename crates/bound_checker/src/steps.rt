@@ -8,7 +8,7 @@ ghost use Rattle.bound_checker.specs.Faults.{step_fault};
 
 use crate::forcing::tighten_listed;
 use crate::named_rows::NamedRows;
-use certificate::BoundNo;
+use certificate::{BoundNo, KeptRow};
 use partial_plan::{UndoList, tighten_by};
 use std::alloc::Global;
 use zero_one_model::{Box01, Model};
@@ -44,6 +44,28 @@ fn tighten_one(
     Ok(())
 }
 
+// One step as a record keeps it.
+fn take_step(
+    alloc: Global,
+    model: &Model,
+    rows: &mut NamedRows,
+    b: &mut Box01,
+    undo: &mut UndoList,
+    kept: &KeptRow,
+    node: u32,
+) -> Result<(), BoundNo>
+    requires whole { length b.old ≡ length (variables model.now) }
+    requires rows { rows.old ≡ model.now }
+    ensures rows { rows.new ≡ rows.old }
+    ensures has { OnOk result ((whole model.now).has kept.now ≡ true) }
+    ensures tight { OnOk result (b.new ≡ tight (whole model.now) b.old kept.now) }
+    ensures noted { (xs : List ℕ) × (undo.new ≡ undo.old ++ xs) × Fixes b.old b.new xs }
+    ensures refused { IfErr result (λ f. f ≢ BoundNo.NoMemory → ((whole model.now).has kept.now ≡ false) × (f ≡ BoundNo.StepRow node)) }
+{
+    let row = kept.row();
+    tighten_one(alloc, model, rows, b, undo, &row, node)
+}
+
 /// The steps of a record, in order.
 pub fn tighten_all(
     alloc: Global,
@@ -51,7 +73,7 @@ pub fn tighten_all(
     rows: &mut NamedRows,
     b: &mut Box01,
     undo: &mut UndoList,
-    steps: &[Row],
+    steps: &[KeptRow],
     node: u32,
 ) -> Result<(), BoundNo>
     requires whole { length b.old ≡ length (variables model.now) }
@@ -63,7 +85,7 @@ pub fn tighten_all(
     ensures refused { IfErr result (λ f. f ≢ BoundNo.NoMemory → step_fault (whole model.now) node steps.now ≡ Some f) }
 {
     for row in steps {
-        tighten_one(alloc, model, rows, b, undo, row, node)?;
+        take_step(alloc, model, rows, b, undo, row, node)?;
     }
     Ok(())
 }

@@ -1,5 +1,5 @@
 //! A tree in preorder, walked with one box and one set of multipliers.
-ghost use Rattle.std.specs.Prelude.{◌≡◌, ◌≢◌, ℕ, ◌<◌, ◌≤◌, ◌≤ℤ◌, true, false, All, List, [], ◌∷◌, ◌++◌, length, take, drop, slice_get, OnOk, IfOk, IfErr, MatchResult, None, Some};
+ghost use Rattle.std.specs.Prelude.{◌≡◌, ◌≢◌, ℕ, ◌<◌, ◌≤◌, ◌≤ℤ◌, true, false, All, List, [], ◌∷◌, ◌++◌, length, take, drop, slice_get, OnOk, IfOk, IfErr, IfSome, MatchResult, None, Some};
 ghost use Rattle.proof_trees.specs.Boxes.{Box, fixed};
 ghost use Rattle.proof_trees.specs.Multipliers.{Multipliers};
 ghost use Rattle.proof_trees.specs.Trees.{Pending, begun, root};
@@ -8,22 +8,25 @@ ghost use Rattle.zero_one_rows.specs.declared.program.Row.{Row as Rows};
 ghost use Rattle.zero_one_rows.specs.Variables.{Voyage, variables};
 ghost use Rattle.zero_one_rows.specs.Rows.{whole};
 ghost use Rattle.partial_plan.specs.Fixing.{released};
+ghost use Rattle.bound_checker.specs.declared.walk.Frame.{Frame as Frames};
+ghost use Rattle.bound_checker.specs.Waits.{AreBarer, bare};
 ghost use Rattle.certificate.specs.Entries.{entry_of, end_of, number_of};
 ghost use Rattle.bound_checker.specs.Faults.{needed, short_fault, step_fault};
-ghost use Rattle.bound_checker.specs.Sums.{Carries, IsClean};
+ghost use Rattle.bound_checker.specs.Sums.{Carries, CarriesSome, IsAsideSome, IsClean};
 ghost use Rattle.bound_checker.specs.Walks.{IsPriced, Goes, Tightens, frame_of, StandsWith, StandsSomeWith, Stands, StandsSome, without, IsAt, IsSomewhere, Narrows, Opens, Closes, Takes};
 
+use crate::holders::Holders;
 use crate::priced_box::{allow, follow, free_all};
 use crate::prices::Prices;
 use crate::steps::tighten_all;
 use crate::sums::{Aside, Sums};
-use certificate::{BoundNo, End, Record};
+use certificate::{BoundNo, End, KeptRow, Record};
 use dual_bound::Costs;
 use partial_plan::{UndoList, undo};
 use std::alloc::Global;
 use stow_data::{NoMemory, VarNo};
 use zero_one_model::{Box01, Model};
-use zero_one_rows::{Row, Var};
+use zero_one_rows::Var;
 
 /// A variable whose half of value 0 waits, and how much was fixed and changed before it.
 #[derive(Drop)]
@@ -46,6 +49,9 @@ pub struct Walk<'a> {
     pub priced: Box01,
     pub prices: Prices<'a>,
     pub frames: Vec<Frame>,
+
+    /// The frames that keep costs aside.
+    pub holders: Holders,
 
     /// No box is left.
     pub done: bool,
@@ -99,6 +105,66 @@ fn close_box(sums: &Sums, bounds: Bounds, node: u32) -> Result<u64, BoundNo>
     Ok(closing_bound(value, bounds.high))
 }
 
+// What the costs that a box waits with took to make; None where it waits without.
+fn kept_work(frame: &Frame) -> Option<usize> {
+    match &frame.aside {
+        Some(aside) => aside.kept_work(),
+        None => None,
+    }
+}
+
+// Looks at boxes that wait with costs, from the lowest on, until one of them is to let go of its own.
+fn look_for_room(frames: &[Frame], holders: &mut Holders) -> Result<Option<usize>, NoMemory> {
+    for place in holders.next..frames.len() {
+        if let Some(work) = kept_work(&frames[place]) {
+            if let Some(below) = holders.look_at(place, work)? {
+                return Ok(Some(below));
+            }
+        }
+    }
+    Ok(holders.take_highest(frames.len()))
+}
+
+// The place of the box that is to let go of the costs that it waits with; None where none waits with costs.
+fn place_of_room(frames: &[Frame], holders: &mut Holders) -> Result<Option<usize>, NoMemory>
+    ensures { IfOk result (λ found. IfSome found (λ place. place < length frames.now)) }
+{
+    match look_for_room(frames, holders)? {
+        Some(place) if place < frames.len() => Ok(Some(place)),
+        _ => Ok(None),
+    }
+}
+
+// A box that waits lets go of its costs.
+fn let_go(alloc: Global, model: &Model, sums: &mut Sums, frame: &mut Frame) -> Result<(), NoMemory>
+    requires carries { (b : Box) × CarriesSome model.now b sums.old }
+    requires aside { IfSome frame.old.aside (IsAsideSome model.now) }
+    ensures bare { frame.new ≡ bare frame.old }
+    ensures carries { (b : Box) (ms : Multipliers Rows) → Carries model.now b ms sums.old → OnOk result (Carries model.now b ms sums.new) }
+{
+    match &mut frame.aside {
+        Some(aside) => sums.let_go(alloc, model, aside),
+        None => Ok(()),
+    }
+}
+
+// The box that waits at this place lets go of its costs.
+fn let_go_at(
+    alloc: Global,
+    model: &Model,
+    sums: &mut Sums,
+    frames: &mut Vec<Frame>,
+    place: usize,
+) -> Result<(), NoMemory>
+    requires place { place < length frames.old.items }
+    requires carries { (b : Box) × CarriesSome model.now b sums.old }
+    requires aside { All (λ f. IfSome f.aside (IsAsideSome model.now)) frames.old.items }
+    ensures barer { AreBarer frames.old.items frames.new.items }
+    ensures carries { (b : Box) (ms : Multipliers Rows) → Carries model.now b ms sums.old → OnOk result (Carries model.now b ms sums.new) }
+{
+    let_go(alloc, model, sums, &mut frames[place])
+}
+
 // What was noted past a place of the list.
 fn past(undo: &UndoList, mark: usize) -> &[VarNo]
     requires { mark ≤ length undo.now }
@@ -120,6 +186,7 @@ impl<'a> Walk<'a> {
             priced,
             prices,
             frames: Vec::new(alloc),
+            holders: Holders::none(alloc),
             done: false,
         })
     }
@@ -165,7 +232,8 @@ impl<'a> Walk<'a> {
         };
         self.release(model, frame.mark);
         self.prices.take_back(alloc, model, &self.b, frame.changes)?;
-        self.prices.sums.bring_back(frame.aside);
+        let sums = &mut self.prices.sums;
+        sums.bring_back(alloc, model, &self.b, frame.aside)?;
         self.halve(model, frame.var, false)?;
         Ok(())
     }
@@ -250,7 +318,7 @@ impl<'a> Walk<'a> {
         &mut self,
         alloc: Global,
         model: &Model,
-        steps: &[Row],
+        steps: &[KeptRow],
         node: u32,
     ) -> Result<(), BoundNo>
         requires whole { length self.old.b ≡ length (variables model.now) }
@@ -326,6 +394,21 @@ impl<'a> Walk<'a> {
         }
     }
 
+    // Where a box is to put its multipliers aside, and neither costs to go on with are left nor room for them, one that waits with costs lets go of its own.
+    fn make_room(&mut self, alloc: Global, model: &Model, frame: &Frame) -> Result<(), NoMemory>
+        requires stands { (f : Frames) × StandsSomeWith model.now self.old (self.old.frames.items ++ f ∷ []) }
+        ensures { (f : Frames) (q : Pending Rows) (qs : List (Pending Rows)) → StandsWith model.now self.old (self.old.frames.items ++ f ∷ []) q qs → OnOk result (StandsWith model.now self.new (self.new.frames.items ++ f ∷ []) q qs) }
+    {
+        let sums = &mut self.prices.sums;
+        if frame.aside.is_some() || sums.blank.is_left(model.vars() as usize) {
+            return Ok(());
+        }
+        if let Some(place) = place_of_room(self.frames.as_slice(), &mut self.holders)? {
+            let_go_at(alloc, model, sums, &mut self.frames, place)?;
+        }
+        Ok(())
+    }
+
     // Begins with the multipliers in hand, or without any.
     fn begin(&mut self, alloc: Global, model: &Model, from_zero: bool) -> Result<(), NoMemory>
         requires stands { StandsSome model.now self.old }
@@ -335,7 +418,10 @@ impl<'a> Walk<'a> {
             return Ok(());
         }
         match self.frames.pop() {
-            Some(frame) => self.begin_behind(alloc, model, frame),
+            Some(frame) => {
+                self.make_room(alloc, model, &frame)?;
+                self.begin_behind(alloc, model, frame)
+            }
             None => {
                 self.prices.clear(alloc, model, &self.b)?;
                 Ok(())
@@ -347,6 +433,7 @@ impl<'a> Walk<'a> {
     fn forget(&mut self)
         ensures { (m : Voyage) (q : Pending Rows) (qs : List (Pending Rows)) → Stands m self.old q qs → Stands m self.new q qs }
     {
+        self.holders.look_again(self.frames.len().saturating_sub(1));
         if self.frames.as_slice().is_empty() {
             self.prices.changes.clear();
         }

@@ -2,46 +2,30 @@
 ghost use Rattle.std.specs.Prelude.{◌≡◌, IfOk, true};
 
 use crate::few::Few;
+use crate::kept_rows::{KeptRaise, KeptRaiseList, KeptRow, KeptRowList};
 use crate::tree::Record;
 use std::alloc::Global;
 use stow_data::NoMemory;
-use zero_one_rows::{Raise, RaiseList, Row, RowList};
+use zero_one_rows::Row;
 
 // A copy of rows.
-fn copy_rows(alloc: Global, rows: &[Row]) -> Result<Few<Row>, NoMemory>
+fn copy_rows(alloc: Global, rows: &[KeptRow]) -> Result<Few<KeptRow>, NoMemory>
     ensures { IfOk result (λ copy. copy ≡ rows.now) }
 {
-    let mut copy = RowList::new(alloc);
+    let mut copy = KeptRowList::new(alloc);
     for row in rows {
-        copy.push(copy_row(row)?)?;
+        copy.push(KeptRow::of(alloc, &row.row())?)?;
     }
     Few::of(alloc, copy)
 }
 
-// A copy of a row.
-fn copy_row(row: &Row) -> Result<Row, NoMemory>
-    ensures { IfOk result (λ copy. copy ≡ row.now) }
-{
-    Ok(row.clone()?)
-}
-
-// A copy of a raise.
-fn copy_raise(raise: &Raise) -> Result<Raise, NoMemory>
-    ensures { IfOk result (λ copy. copy ≡ raise.now) }
-{
-    Ok(Raise {
-        row: copy_row(&raise.row)?,
-        amount: raise.amount,
-    })
-}
-
 // A copy of raises.
-fn copy_raises(alloc: Global, raises: &[Raise]) -> Result<Few<Raise>, NoMemory>
+fn copy_raises(alloc: Global, raises: &[KeptRaise]) -> Result<Few<KeptRaise>, NoMemory>
     ensures { IfOk result (λ copy. copy ≡ raises.now) }
 {
-    let mut copy = RaiseList::new(alloc);
+    let mut copy = KeptRaiseList::new(alloc);
     for raise in raises {
-        copy.push(copy_raise(raise)?)?;
+        copy.push(KeptRaise::of(alloc, &raise.raise())?)?;
     }
     Few::of(alloc, copy)
 }
@@ -53,10 +37,18 @@ fn same_row(a: &Row, b: &Row) -> bool
     a == b
 }
 
-// Whether two raises are the same.
-fn same_raise(a: &Raise, b: &Raise) -> bool
+// Whether two kept rows are the same.
+fn same_kept(a: &KeptRow, b: &KeptRow) -> bool
     ensures { result ≡ true → a.now ≡ b.now }
 {
+    same_row(&a.row(), &b.row())
+}
+
+// Whether two raises are the same.
+fn same_raise(a: &KeptRaise, b: &KeptRaise) -> bool
+    ensures { result ≡ true → a.now ≡ b.now }
+{
+    let (a, b) = (a.raise(), b.raise());
     if a.amount != b.amount {
         return false;
     }
@@ -64,14 +56,14 @@ fn same_raise(a: &Raise, b: &Raise) -> bool
 }
 
 // Whether two lists of rows are the same.
-fn same_rows(a: &[Row], b: &[Row]) -> bool
+fn same_rows(a: &[KeptRow], b: &[KeptRow]) -> bool
     ensures { result ≡ true → a.now ≡ b.now }
 {
     if a.len() != b.len() {
         return false;
     }
     for (index, row) in a.iter().enumerate() {
-        if !same_row(row, &b[index]) {
+        if !same_kept(row, &b[index]) {
             return false;
         }
     }
@@ -79,7 +71,7 @@ fn same_rows(a: &[Row], b: &[Row]) -> bool
 }
 
 // Whether two lists of raises are the same.
-fn same_raises(a: &[Raise], b: &[Raise]) -> bool
+fn same_raises(a: &[KeptRaise], b: &[KeptRaise]) -> bool
     ensures { result ≡ true → a.now ≡ b.now }
 {
     if a.len() != b.len() {

@@ -1,12 +1,13 @@
 //! Lists that are made once, and are mostly short.
-ghost use Rattle.std.specs.Prelude.{◌≡◌, ◌<◌, [], length, slice_get, Some, IfOk};
+ghost use Rattle.std.specs.Prelude.{◌≡◌, [], length, IfOk};
 ghost use Rattle.certificate.specs.Few.{items_of};
 
+use crate::kept_rows::{KeptRaise, KeptRow};
 use std::alloc::Global;
 use std::marker::Model;
 use std::slice;
 use stow_data::{NoMemory, Seq};
-use zero_one_rows::{Raise, Row};
+use zero_one_rows::{RaiseList, RowList};
 
 /// A list that stays as it is made. It takes two words and the room of its items, and from two items on three words more; no room is spare. Contracts see the list of its items.
 #[derive(Debug, Drop)]
@@ -68,9 +69,9 @@ fn kept_of<T: Drop>(alloc: Global, items: Seq<T>) -> Result<Kept<T>, NoMemory>
     }
 }
 
-impl Few<Row> {
+impl Few<KeptRow> {
     /// The items.
-    pub fn as_slice(&self) -> &[Row]
+    pub fn as_slice(&self) -> &[KeptRow]
         ensures { result.now ≡ self.now }
     {
         match &self.kept {
@@ -85,12 +86,30 @@ impl Few<Row> {
         ensures { result ≡ length self.now }
     {
         self.as_slice().len()
+    }
+
+    /// The rows in a list.
+    pub fn to_list(&self, alloc: Global) -> Result<RowList, NoMemory>
+        ensures { IfOk result (λ rows. rows ≡ self.now) }
+    {
+        list_rows(alloc, self.as_slice())
     }
 }
 
-impl Few<Raise> {
+// Kept rows in a list.
+fn list_rows(alloc: Global, kept: &[KeptRow]) -> Result<RowList, NoMemory>
+    ensures { IfOk result (λ rows. rows ≡ kept.now) }
+{
+    let mut rows = RowList::new(alloc);
+    for row in kept {
+        rows.push(row.row())?;
+    }
+    Ok(rows)
+}
+
+impl Few<KeptRaise> {
     /// The items.
-    pub fn as_slice(&self) -> &[Raise]
+    pub fn as_slice(&self) -> &[KeptRaise]
         ensures { result.now ≡ self.now }
     {
         match &self.kept {
@@ -107,11 +126,21 @@ impl Few<Raise> {
         self.as_slice().len()
     }
 
-    /// The item at an index, from 0.
-    pub fn at(&self, i: usize) -> &Raise
-        requires { i < length self.now }
-        ensures { slice_get self.now i ≡ Some result.now }
+    /// The raises in a list.
+    pub fn to_list(&self, alloc: Global) -> Result<RaiseList, NoMemory>
+        ensures { IfOk result (λ raises. raises ≡ self.now) }
     {
-        &self.as_slice()[i]
+        list_raises(alloc, self.as_slice())
     }
+}
+
+// Kept raises in a list.
+fn list_raises(alloc: Global, kept: &[KeptRaise]) -> Result<RaiseList, NoMemory>
+    ensures { IfOk result (λ raises. raises ≡ kept.now) }
+{
+    let mut raises = RaiseList::new(alloc);
+    for raise in kept {
+        raises.push(raise.raise())?;
+    }
+    Ok(raises)
 }

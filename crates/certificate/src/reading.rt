@@ -13,11 +13,11 @@ ghost use Rattle.certificate.specs.Reading.{IsLine, Fails, body_lines};
 ghost use Rattle.certificate.specs.Reading.Place.{InSteps, Between};
 
 use crate::faults::CertFault;
+use crate::kept_rows::{KeptRaise, KeptRaiseList, KeptRow, KeptRowList};
 use crate::line_reader::read_line;
 use crate::lines::Line;
 use crate::tree::{Head, Outcome, Record, Tree};
 use std::alloc::Global;
-use zero_one_rows::{RaiseList, RowList};
 
 /// Reads a certificate of at most 2^29 bytes, the greatest that is written. The text is not copied.
 ///
@@ -230,8 +230,8 @@ fn read_record(
     ensures count { IfOk result (λ x. (x.2 ≡ before + length (body_lines x.0)) × (x.2 ≤ x.1)) }
     ensures fault { IfErr result (λ e. Fails (drop from bytes.now) InSteps before e) }
 {
-    let mut steps = RowList::new(alloc);
-    let mut raises = RaiseList::new(alloc);
+    let mut steps = KeptRowList::new(alloc);
+    let mut raises = KeptRaiseList::new(alloc);
     let mut at = from;
     let mut lines = before;
     loop {
@@ -241,10 +241,10 @@ fn read_record(
         lines += 1;
         at = next;
         match line {
-            Line::Step(row) if raises.is_empty() => steps.push(row)?,
-            Line::Change(raise) => raises.push(raise)?,
+            Line::Step(row) if raises.is_empty() => steps.push(KeptRow::of(alloc, &row)?)?,
+            Line::Change(raise) => raises.push(KeptRaise::of(alloc, &raise)?)?,
             Line::Ends(end) => {
-                let item = Record::of(alloc, from_zero, steps, raises, end)?;
+                let item = Record::kept(alloc, from_zero, steps, raises, end)?;
                 return Ok((item, at, lines));
             }
             _ => return Err(CertFault::BadLine { line: lines }),

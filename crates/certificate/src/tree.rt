@@ -2,6 +2,7 @@
 ghost use Rattle.std.specs.Prelude.{◌≡◌, IfOk};
 
 use crate::few::Few;
+use crate::kept_rows::{KeptRaise, KeptRaiseList, KeptRow, KeptRowList};
 use std::alloc::Global;
 use stow_data::{NoMemory, Seq};
 use zero_one_rows::{Raise, RaiseList, Row, RowList, Var};
@@ -21,10 +22,10 @@ pub enum End {
 #[derive(Debug, Drop)]
 pub struct Record {
     /// The rows that tighten the box, in order.
-    pub steps: Few<Row>,
+    pub steps: Few<KeptRow>,
 
     /// The changes of the multipliers, in order.
-    pub raises: Few<Raise>,
+    pub raises: Few<KeptRaise>,
     pub end: End,
 
     /// The multipliers start from zero, and not from those of the parent. It stands last, where it takes the room behind the end.
@@ -42,6 +43,21 @@ impl Record {
     ) -> Result<Record, NoMemory>
         ensures { IfOk result (λ r. r ≡ record { from_zero = from_zero; steps = steps; raises = raises; end = end }) }
     {
+        let steps = keep_rows(alloc, steps.as_slice())?;
+        let raises = keep_raises(alloc, raises.as_slice())?;
+        Record::kept(alloc, from_zero, steps, raises, end)
+    }
+
+    /// A record of lists that are kept already.
+    pub fn kept(
+        alloc: Global,
+        from_zero: bool,
+        steps: KeptRowList,
+        raises: KeptRaiseList,
+        end: End,
+    ) -> Result<Record, NoMemory>
+        ensures { IfOk result (λ r. r ≡ record { from_zero = from_zero; steps = steps; raises = raises; end = end }) }
+    {
         Ok(Record {
             steps: Few::of(alloc, steps)?,
             raises: Few::of(alloc, raises)?,
@@ -49,6 +65,28 @@ impl Record {
             from_zero,
         })
     }
+}
+
+// Rows, kept.
+fn keep_rows(alloc: Global, rows: &[Row]) -> Result<KeptRowList, NoMemory>
+    ensures { IfOk result (λ kept. kept ≡ rows.now) }
+{
+    let mut kept = KeptRowList::new(alloc);
+    for row in rows {
+        kept.push(KeptRow::of(alloc, row)?)?;
+    }
+    Ok(kept)
+}
+
+// Raises, kept.
+fn keep_raises(alloc: Global, raises: &[Raise]) -> Result<KeptRaiseList, NoMemory>
+    ensures { IfOk result (λ kept. kept ≡ raises.now) }
+{
+    let mut kept = KeptRaiseList::new(alloc);
+    for raise in raises {
+        kept.push(KeptRaise::of(alloc, raise)?)?;
+    }
+    Ok(kept)
 }
 
 /// The records of a proof tree in preorder.

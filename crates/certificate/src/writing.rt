@@ -4,6 +4,7 @@ ghost use Rattle.std.specs.Fmt.{decimal};
 ghost use Rattle.certificate.specs.declared.lines.Line.TheVariants as line;
 ghost use Rattle.certificate.specs.Text.{whole, numbers, row_text, outcome_text, head_lines, record_lines, cert_text, text_of};
 
+use crate::kept_rows::{KeptRaise, KeptRow};
 use crate::tree::{End, Head, Outcome, Record, Tree};
 use itoa::Buffer;
 use std::alloc::Global;
@@ -146,30 +147,44 @@ fn write_node(out: &mut Bytes, from_zero: bool) -> Result<(), NoMemory>
     }
 }
 
-/// Appends the lines of steps.
+/// Appends the line of a step.
 #[tactic(auto, unfolding(crate::specs::Text::line_text))]
-fn write_steps(out: &mut Bytes, steps: &[Row]) -> Result<(), NoMemory>
+fn write_step(out: &mut Bytes, row: &Row) -> Result<(), NoMemory>
+    ensures { OnOk result (out.new ≡ out.old ++ whole (line.Step row.now)) }
+{
+    out.extend(b"s ")?;
+    write_row(out, row)?;
+    out.extend(b"\n")
+}
+
+/// Appends the lines of steps.
+fn write_steps(out: &mut Bytes, steps: &[KeptRow]) -> Result<(), NoMemory>
     ensures { OnOk result (out.new ≡ out.old ++ flat_map (λ row. whole (line.Step row)) steps.now) }
 {
     for row in steps {
-        out.extend(b"s ")?;
-        write_row(out, row)?;
-        out.extend(b"\n")?;
+        write_step(out, &row.row())?;
     }
     Ok(())
 }
 
-/// Appends the lines of raises.
+/// Appends the line of a raise.
 #[tactic(auto, unfolding(crate::specs::Text::line_text))]
-fn write_raises(out: &mut Bytes, raises: &[Raise]) -> Result<(), NoMemory>
+fn write_raise(out: &mut Bytes, raise: &Raise) -> Result<(), NoMemory>
+    ensures { OnOk result (out.new ≡ out.old ++ whole (line.Change raise.now)) }
+{
+    out.extend(b"r ")?;
+    out.extend(Buffer::new().format(raise.amount).as_bytes())?;
+    out.extend(b" ")?;
+    write_row(out, &raise.row)?;
+    out.extend(b"\n")
+}
+
+/// Appends the lines of raises.
+fn write_raises(out: &mut Bytes, raises: &[KeptRaise]) -> Result<(), NoMemory>
     ensures { OnOk result (out.new ≡ out.old ++ flat_map (λ raise. whole (line.Change raise)) raises.now) }
 {
     for raise in raises {
-        out.extend(b"r ")?;
-        out.extend(Buffer::new().format(raise.amount).as_bytes())?;
-        out.extend(b" ")?;
-        write_row(out, &raise.row)?;
-        out.extend(b"\n")?;
+        write_raise(out, &raise.raise())?;
     }
     Ok(())
 }
@@ -201,8 +216,8 @@ fn write_family(out: &mut Bytes, name: &[u8], items: &[u32]) -> Result<(), NoMem
     Ok(())
 }
 
-/// Appends the text of a row.
-fn write_row(out: &mut Bytes, row: &Row) -> Result<(), NoMemory>
+/// Appends the text of a row, as certificates name it.
+pub fn write_row(out: &mut Bytes, row: &Row) -> Result<(), NoMemory>
     ensures { OnOk result (out.new ≡ out.old ++ row_text row.now) }
 {
     match row {

@@ -1,5 +1,5 @@
 -- When all rows are flat: the base rows one by one, and the crossing rows by the most that one of them gains.
-use Rattle.std.proofs.Common.{◌≡◌, ℕ, zero, suc, ◌+◌, ◌<◌, ◌≤◌, ◌⊎◌, inl, inr, Bool, true, false, List, [], ◌∷◌, ◌++◌, Some, length, length-append, ℤ, pos, ◌+ℤ◌, ◌*ℤ◌, ◌≤ℤ◌, ◌<ℤ◌, arith, refl, sym, ◌∙◌, ap}
+use Rattle.std.proofs.Common.{◌≡◌, ℕ, zero, suc, ◌<◌, ◌≤◌, ◌⊎◌, inl, inr, Bool, true, false, List, [], ◌∷◌, ◌++◌, Some, length, length-append, ℤ, pos, ◌+ℤ◌, ◌*ℤ◌, ◌≤ℤ◌, arith, refl, sym, ap}
 use Rattle.std.specs.Prelude.{slice_get}
 use borrow.Author.Differences.{ints}
 use Rattle.zero_one_rows.specs.declared.program.Row.{Row}
@@ -33,7 +33,7 @@ module _ (m : Voyage) where
   unfolding rows_in
   base_few = omega (arith, length-append (base_in (row_lists m)) (cross_rows (row_lists m)))
 
-  base_place : (k : ℕ) (r : Row) → k < length (base_rows m) → slice_get (base_rows m) k ≡ Some r → slice_get (all_rows m) k ≡ Some r
+  pub base_place : (k : ℕ) (r : Row) → k < length (base_rows m) → slice_get (base_rows m) k ≡ Some r → slice_get (all_rows m) k ≡ Some r
   unfolding rows_in
   base_place k r lt e = front_at (base_in (row_lists m)) (cross_rows (row_lists m)) k r lt e
 

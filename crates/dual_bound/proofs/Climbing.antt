@@ -1,5 +1,5 @@
 -- The best of all climbing pairs, call by call.
-use Rattle.std.proofs.Common.{◌≡◌, ◌≢◌, ℕ, zero, suc, ◌+◌, ◌^◌, ◌<◌, ◌≤◌, ◌⊎◌, inl, inr, List, [], ◌∷◌, length, replicate, set, ℤ, pos, ◌+ℤ◌, ◌≤ℤ◌, arith, add-one, refl, sym, ◌∙◌, ap, subst}
+use Rattle.std.proofs.Common.{◌≡◌, ◌≢◌, ℕ, zero, suc, ◌+◌, ◌^◌, ◌<◌, ◌≤◌, ◌⊎◌, inl, inr, List, [], ◌∷◌, length, replicate, set, ℤ, pos, ◌+ℤ◌, ◌≤ℤ◌, arith, add-one, sym, ◌∙◌, ap, subst}
 use Rattle.std.specs.Int.{int_max}
 use borrow.Author.Differences.{ints}
 use Rattle.std.proofs.lemmas.Bool.Decides.{eqb_tells}

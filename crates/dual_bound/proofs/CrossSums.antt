@@ -1,5 +1,5 @@
 -- The gain of a crossing row is the sum over the pairs of its chain, less the price of all columns.
-use Rattle.std.proofs.Common.{◌≡◌, ℕ, zero, suc, ◌+◌, ◌*◌, ◌<◌, ◌≤◌, ◌/◌, ◌%◌, Bool, true, false, ◌&&◌, ◌||◌, List, [], ◌∷◌, length, map, take, drop, Option, ltb, leb, ℤ, pos, ◌+ℤ◌, ◌-ℤ◌, ◌*ℤ◌, arith, refl, sym, ◌∙◌, ap, get_or, sum}
+use Rattle.std.proofs.Common.{◌≡◌, ℕ, zero, suc, ◌+◌, ◌*◌, ◌<◌, ◌≤◌, ◌/◌, ◌%◌, Bool, true, false, ◌&&◌, ◌||◌, List, [], ◌∷◌, length, map, take, drop, ltb, leb, ℤ, pos, ◌+ℤ◌, ◌-ℤ◌, ◌*ℤ◌, arith, refl, ◌∙◌, get_or, sum}
 use Rattle.std.specs.Prelude.{◌==◌}
 use Rattle.std.specs.List.{list_any, zip}
 use borrow.Author.Differences.{ints}
@@ -8,13 +8,13 @@ use Rattle.std.proofs.lemmas.Bool.Decides.{nat_tests}
 use Rattle.std.proofs.lemmas.List.Sums.{sum_by-cons}
 use Rattle.proof_trees.specs.Program.{sum_to}
 use Rattle.proof_trees.specs.Boxes.{Box, at}
-use Rattle.chain_rows.specs.Chains.{rises, is_length, is_chain, pairs_of, is_pair}
+use Rattle.chain_rows.specs.Chains.{rises, is_length, is_chain, pairs_of}
 use Rattle.chain_rows.specs.RightSide.{right_side, all_kept_out, kept_out}
 use Rattle.stow_data.specs.Ship.{same_length}
 use Rattle.zero_one_rows.specs.declared.program.Row.TheVariants.{Cross}
 use Rattle.zero_one_rows.specs.Variables.{Voyage, calls, kind, variables, var, is_rehandled}
 use Rattle.zero_one_rows.specs.Crossing.{columns, tallest, length_of, load_of, crosses, crossing_side}
-use Rattle.zero_one_rows.specs.Rows.{whole, bit}
+use Rattle.zero_one_rows.specs.Rows.{bit}
 use Rattle.dual_bound.specs.Costs.{number_at, gap, gaps_of}
 use Rattle.dual_bound.specs.CrossGains.{gain_of, price_of_all, pair_gain, over_pairs, Climb}
 use Rattle.dual_bound.proofs.Summing.{sum_same, sum_more}

@@ -1,12 +1,13 @@
 -- One more row is kept.
-use Rattle.std.proofs.Common.{◌≡◌, ℕ, zero, suc, ◌+◌, ◌<◌, ◌⊎◌, inl, inr, List, [], ◌∷◌, ◌++◌, length, length-append, get_or, Some, ℤ, pos, arith, refl, sym, ◌∙◌, ap, subst}
+use Rattle.std.proofs.Common.{◌≡◌, ℕ, zero, suc, ◌+◌, ◌<◌, ◌⊎◌, inl, inr, List, [], ◌∷◌, ◌++◌, length, length-append, get_or, Some, arith, refl, sym, ◌∙◌, ap, subst}
 use Rattle.std.specs.Prelude.{slice_get}
+use Rattle.std.proofs.lemmas.Option.{slice_get-get_or}
 use Rattle.zero_one_rows.specs.declared.program.Row.{Row}
+use Rattle.zero_one_rows.specs.declared.program.Row.TheVariants.{Cell}
 use Rattle.zero_one_rows.specs.Variables.{Voyage}
-use Rattle.program_rows.specs.Counted.{all_rows}
-use Rattle.dual_bound.specs.declared.terms.Term.{Term}
-use Rattle.dual_bound.specs.Costs.{IsListed, number_at}
-use Rattle.dual_bound.specs.Kept.{AreKept}
+use Rattle.program_rows.specs.Counted.{all_rows, base_rows}
+use Rattle.base_matrix.specs.Terms.{count, row_at}
+use Rattle.dual_bound.proofs.BaseFlat.{base_place}
 use Rattle.dual_bound.proofs.Flat.{same_place}
 
 at_front : {X : Type 0} (xs : List X) (y d : X) (k : ℕ) → k < length xs → get_or (xs ++ y ∷ []) k d ≡ get_or xs k d
@@ -23,20 +24,19 @@ at_end (x ∷ xs) y d (suc k) e = at_end xs y d k (omega arith)
 front_or_end : (k n : ℕ) → k < n + 1 → (k < n) ⊎ (k ≡ n)
 front_or_end k n lt = grind arith
 
-module _ (m : Voyage) (rights : List ℤ) (lists : List (List Term)) (ts : List Term) (kept : AreKept m rights lists) where
-  -- its terms first
-  pub kept_terms : length rights ≡ length lists → AreKept m rights (lists ++ ts ∷ [])
-  kept_terms same k r lt lt' at = subst (λ (us : List Term). IsListed m r (number_at rights k) us) (sym (at_front lists ts [] k (omega arith))) (kept k r lt (omega arith) at)
+-- ## One more row
 
-  -- and its right side
-  pub kept_both : (row : Row) (side : ℤ) (n : ℕ) → length rights ≡ n → length lists ≡ n → slice_get (all_rows m) n ≡ Some row → IsListed m row side ts → AreKept m (rights ++ side ∷ []) (lists ++ ts ∷ [])
-  kept_both row side n len len' here listed k r lt lt' at = by (front_or_end k n (omega (arith, length-append rights (side ∷ []))))
+module _ (m : Voyage) {X : Type 0} (first : ℕ) (P : Row → X → Type 0) (d : X) where
+  pub one_more : (xs : List X) (x : X) (row : Row) → ((k : ℕ) (r : Row) → k < length xs → slice_get (all_rows m) (first + k) ≡ Some r → P r (get_or xs k d)) → slice_get (all_rows m) (first + length xs) ≡ Some row → P row x
+      → (k : ℕ) (r : Row) → k < length (xs ++ x ∷ []) → slice_get (all_rows m) (first + k) ≡ Some r → P r (get_or (xs ++ x ∷ []) k d)
+  one_more xs x row kept here is k r lt at = by (front_or_end k (length xs) (omega (arith, length-append xs (x ∷ []), lt)))
     where
-      by : (k < n) ⊎ (k ≡ n) → IsListed m r (number_at (rights ++ side ∷ []) k) (get_or (lists ++ ts ∷ []) k [])
-      by (inl h) =
-          subst (λ (z : ℤ). IsListed m r z (get_or (lists ++ ts ∷ []) k [])) (sym (at_front rights side (pos 0) k (omega arith)))
-          (subst (λ (us : List Term). IsListed m r (number_at rights k) us) (sym (at_front lists ts [] k (omega arith))) (kept k r (omega arith) (omega arith) at))
+      by : (k < length xs) ⊎ (k ≡ length xs) → P r (get_or (xs ++ x ∷ []) k d)
+      by (inl h) = subst (λ (y : X). P r y) (sym (at_front xs x d k h)) (kept k r h at)
       by (inr h) =
-          let same : row ≡ r = same_place (all_rows m) n row r here (ap (λ (i : ℕ). slice_get (all_rows m) i) (sym h) ∙ at) in
-          subst (λ (z : ℤ). IsListed m r z (get_or (lists ++ ts ∷ []) k [])) (sym (at_end rights side (pos 0) k (h ∙ sym len)))
-          (subst (λ (us : List Term). IsListed m r side us) (sym (at_end lists ts [] k (h ∙ sym len'))) (subst (λ (q : Row). IsListed m q side ts) same listed))
+          let same : row ≡ r = same_place (all_rows m) (first + length xs) row r here (ap (λ (i : ℕ). slice_get (all_rows m) (first + i)) (sym h) ∙ at) in
+          subst (λ (y : X). P r y) (sym (at_end xs x d k h)) (subst (λ (q : Row). P q x) same is)
+
+-- a base row by its number
+pub base_here : (m : Voyage) (k : ℕ) (r : Row) → k < count m → slice_get (all_rows m) k ≡ Some r → row_at m k ≡ r
+base_here m k r lt at = same_place (all_rows m) k (row_at m k) r (base_place m k (row_at m k) lt (slice_get-get_or (base_rows m) k (Cell 0 0) lt)) at

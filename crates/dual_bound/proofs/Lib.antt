@@ -15,3 +15,5 @@ pub mod PairSums
 pub mod Offering
 pub mod Scoring
 pub mod BaseFlat
+pub mod Leaning
+mod Shortened

@@ -1,11 +1,10 @@
 -- What is offered for crossing rows is no less than what each of them gains.
-use Rattle.std.proofs.Common.{◌≡◌, ℕ, zero, suc, ◌+◌, ◌*◌, ◌<◌, ◌≤◌, ◌^◌, ◌⊎◌, inl, inr, Bool, true, false, ◌&&◌, ◌||◌, List, [], ◌∷◌, length, get_or, Option, ltb, leb, ℤ, pos, ◌+ℤ◌, ◌-ℤ◌, ◌*ℤ◌, ◌≤ℤ◌, arith, add-one, refl, sym, ◌∙◌, ap, subst}
+use Rattle.std.proofs.Common.{◌≡◌, ℕ, zero, suc, ◌+◌, ◌*◌, ◌<◌, ◌≤◌, ◌⊎◌, inl, inr, Bool, true, false, ◌||◌, List, [], ◌∷◌, length, get_or, Option, ltb, leb, ℤ, pos, ◌+ℤ◌, ◌-ℤ◌, ◌*ℤ◌, ◌≤ℤ◌, arith, add-one, refl, sym, ◌∙◌, ap, subst}
 use Rattle.std.specs.Prelude.{◌==◌}
 use Rattle.std.specs.Int.{int_max}
-use Rattle.std.specs.Int.RustNames.{unsigned_abs}
 use borrow.Author.Differences.{ints}
 use Rattle.std.proofs.lemmas.Bool.{and_parts, ltb-true, leb-true, eqb-true}
-use Rattle.proof_trees.specs.Program.{sum_to, where_set}
+use Rattle.proof_trees.specs.Program.{where_set}
 use Rattle.proof_trees.specs.Boxes.{Box, at}
 use Rattle.chain_rows.specs.Chains.{is_chain, pairs_of}
 use Rattle.zero_one_rows.specs.declared.program.Row.{Row}
@@ -18,10 +17,10 @@ use Rattle.dual_bound.specs.declared.pairs.PairTable.{PairTable}
 use Rattle.dual_bound.specs.Costs.{number_at, gap, gaps_of}
 use Rattle.dual_bound.specs.CrossGains.{gain_of, price_of_all, pair_gain, over_pairs, Climb}
 use Rattle.dual_bound.specs.Climbs.{worth_at, AreWorths}
-use Rattle.dual_bound.specs.Pairs.{own_part, AreParts, AreSides, AreKeys, ArePairs, gained, AreGained}
+use Rattle.dual_bound.specs.Pairs.{AreParts, AreSides, ArePairs, AreGained}
 use Rattle.dual_bound.proofs.Summing.{sum_same}
 use Rattle.dual_bound.proofs.Pricing.{gap_none}
-use Rattle.dual_bound.proofs.CrossSums.{AreClimbing, chain_climbs, floor_of, gain_by_pairs}
+use Rattle.dual_bound.proofs.CrossSums.{chain_climbs, floor_of, gain_by_pairs}
 
 -- ## What pairs bring
 

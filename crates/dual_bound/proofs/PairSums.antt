@@ -1,5 +1,5 @@
 -- What pairs bring, filled in one by one.
-use Rattle.std.proofs.Common.{◌≡◌, ◌≢◌, set, sum, mul-le-mul, ◌-ℤ◌, ℕ, zero, suc, ◌+◌, ◌*◌, ◌/◌, ◌%◌, ◌<◌, ◌≤◌, ◌^◌, ◌⊎◌, inl, inr, Bool, true, false, List, [], ◌∷◌, ◌++◌, length, length-append, get_or, replicate, ℤ, pos, ◌+ℤ◌, arith, refl, sym, ◌∙◌, ap, subst}
+use Rattle.std.proofs.Common.{◌≡◌, ◌≢◌, set, sum, mul-le-mul, ◌-ℤ◌, ℕ, zero, suc, ◌+◌, ◌*◌, ◌/◌, ◌%◌, ◌<◌, ◌≤◌, ◌^◌, ◌⊎◌, inl, inr, Bool, true, false, List, [], ◌∷◌, ◌++◌, length, get_or, replicate, ℤ, pos, ◌+ℤ◌, arith, refl, sym, ◌∙◌, ap, subst}
 use Rattle.std.specs.Prelude.{◌==◌}
 use Rattle.std.specs.List.{sum_by}
 use Rattle.std.proofs.lemmas.Bool.Decides.{eqb_tells}
@@ -12,11 +12,11 @@ use Rattle.stow_data.specs.Shipment.{Cargo}
 use Rattle.zero_one_rows.specs.Crossing.{columns, tallest, length_of, load_of, is_of_load, crossing_side}
 use Rattle.std.specs.Int.RustNames.{unsigned_abs}
 use borrow.Author.Differences.{ints}
-use Rattle.proof_trees.specs.Program.{sum_to, where_set}
+use Rattle.proof_trees.specs.Program.{where_set}
 use Rattle.proof_trees.specs.Boxes.{Box, at}
 use Rattle.zero_one_rows.specs.Variables.{Voyage}
 use Rattle.dual_bound.specs.Costs.{number_at, gap}
-use Rattle.dual_bound.specs.Pairs.{own_part, AreParts, gained, AreGained}
+use Rattle.dual_bound.specs.Pairs.{own_part, AreParts, AreGained}
 use Rattle.dual_bound.proofs.Summing.{sum_to_more}
 
 set_small : (s : Bool) (z : ℤ) → unsigned_abs (where_set s z) ≤ unsigned_abs z

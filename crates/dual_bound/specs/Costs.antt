@@ -1,6 +1,5 @@
 -- What is kept beside a box and multipliers: reduced costs and the dual value, and the sizes that keep them in range.
-use Rattle.std.specs.Prelude.{◌≡◌, ◌≢◌, ◌↔◌, ℕ, Bool, ◌+◌, ◌<◌, ◌≤◌, ◌^◌, true, All, Contains, List, [], ◌∷◌, length, map, slice_index_or, Option, ℤ, pos, ◌+ℤ◌, ◌-ℤ◌, ◌*ℤ◌, unsigned_abs}
-use Rattle.std.specs.List.{AllPairs}
+use Rattle.std.specs.Prelude.{◌≡◌, ℕ, Bool, ◌+◌, ◌<◌, ◌≤◌, ◌^◌, true, List, [], ◌∷◌, length, slice_index_or, Option, ℤ, pos, ◌+ℤ◌, ◌-ℤ◌, ◌*ℤ◌, unsigned_abs}
 use Rattle.zero_one_rows.specs.declared.program.Row.{Row}
 use Rattle.zero_one_rows.specs.Variables.{Voyage, variables}
 use Rattle.zero_one_rows.specs.Rows.{whole}
@@ -9,8 +8,8 @@ use Rattle.proof_trees.specs.Boxes.{Box, at}
 use Rattle.proof_trees.specs.Multipliers.{Multipliers, amount_of, with_amount, least, weighed, weighed_rhs, worth}
 use Rattle.certificate.specs.Entries.{same_row}
 use Rattle.dual_bound.specs.Raising.{Lacks}
-use Rattle.zero_one_model.specs.Indexed.{Touches}
-use Rattle.dual_bound.specs.declared.terms.Term.{Term}
+use Rattle.base_matrix.specs.declared.entries.Term.{Term}
+use Rattle.base_matrix.specs.Terms.{AreTerms}
 use Rattle.dual_bound.specs.declared.costs.Costs.{Costs}
 
 abbrev pub number_at : List ℤ → ℕ → ℤ
@@ -26,13 +25,6 @@ pub record IsSmall (m : Voyage) (r : Row) : Type 0 where
 abbrev pub AreSmall : Voyage → Multipliers Row → Type 0
 AreSmall m [] = Unit {0}
 AreSmall m (x ∷ xs) = IsSmall m x.0 × (x.1 ≤ 2 ^ 40) × Lacks xs x.0 × AreSmall m xs
-
--- these are a row's variables, each once, with their coefficients
-pub record AreTerms (m : Voyage) (r : Row) (ts : List Term) : Type 0 where
-  pub each : (x : ℕ) → Contains (map (λ t. t.var) ts) x ↔ Touches m r x
-  pub once : AllPairs (λ x y. x ≢ y) (map (λ t. t.var) ts)
-  pub coefs : All (λ t. t.coef ≡ (whole m).coef r t.var) ts
-  pub small : All (λ t. unsigned_abs t.coef ≤ 2 ^ 17) ts
 
 -- a row of the program with its right side and terms
 pub record IsListed (m : Voyage) (r : Row) (side : ℤ) (ts : List Term) : Type 0 where

@@ -1,5 +1,5 @@
 -- What the fields of a gauge mean.
-use Rattle.std.specs.Prelude.{◌≡◌, length}
+use Rattle.std.specs.Prelude.{◌≡◌, length, IfSome}
 use Rattle.zero_one_rows.specs.Variables.{variables}
 use Rattle.dual_bound.specs.declared.gauge.Gauge.TheInside.{Inside}
 use Rattle.dual_bound.specs.Gauging.{Gauging}
@@ -11,3 +11,4 @@ gauging_of a = record { voyage = a.model.now; box = a.b; multipliers = a.multipl
 pub record IsGauge (a : Inside) : Type 0 where
   pub whole : length a.b ≡ length (variables a.model.now)
   pub priced : Priced a.model.now a.b a.multipliers a.costs
+  pub face : IfSome a.face (λ f. f.voyage ≡ a.model.now)

@@ -1,18 +1,23 @@
 -- What a table keeps of a program's rows. No public clause cites this module.
-use Rattle.std.specs.Prelude.{◌≡◌, ℕ, ◌<◌, List, [], length, slice_get, slice_index_or, Option, Some, IfSome, ℤ}
+use Rattle.std.specs.Prelude.{◌≡◌, ℕ, ◌+◌, ◌<◌, ◌≤◌, ◌^◌, true, List, [], length, slice_get, slice_index_or, Some, ℤ, unsigned_abs}
 use Rattle.zero_one_rows.specs.declared.program.Row.{Row}
 use Rattle.zero_one_rows.specs.Variables.{Voyage}
-use Rattle.program_rows.specs.Counted.{all_rows}
-use Rattle.dual_bound.specs.declared.terms.Term.{Term}
-use Rattle.dual_bound.specs.declared.pairs.PairTable.{PairTable}
-use Rattle.dual_bound.specs.Costs.{IsListed, number_at}
-use Rattle.dual_bound.specs.Pairs.{ArePairs}
+use Rattle.zero_one_rows.specs.Rows.{whole}
+use Rattle.program_rows.specs.Counted.{all_rows, base_rows}
+use Rattle.base_matrix.specs.declared.entries.Term.{Term}
+use Rattle.base_matrix.specs.Terms.{AreTerms}
+use Rattle.dual_bound.specs.Costs.{number_at}
 
--- at each number for which there is a right side and a list of terms they are those of the row with that number
-abbrev pub AreKept : Voyage → List ℤ → List (List Term) → Type 0
-AreKept m rights lists = (k : ℕ) (r : Row) → k < length rights → k < length lists → slice_get (all_rows m) k ≡ Some r → IsListed m r (number_at rights k) (slice_index_or lists k [])
+-- a row of the program with its right side
+pub record IsRight (m : Voyage) (r : Row) (side : ℤ) : Type 0 where
+  pub row : (whole m).has r ≡ true
+  pub right : side ≡ (whole m).rhs r
+  pub low : unsigned_abs side ≤ 2 ^ 37
 
--- and what is kept of pairs of calls is of the voyage
-pub record IsTable (m : Voyage) (rights : List ℤ) (lists : List (List Term)) (pairs : Option PairTable) : Type 0 where
-  pub rows : AreKept m rights lists
-  pub of_pairs : IfSome pairs (ArePairs m)
+-- the right sides of the first rows
+abbrev pub AreRights : Voyage → List ℤ → Type 0
+AreRights m rights = (k : ℕ) (r : Row) → k < length rights → slice_get (all_rows m) k ≡ Some r → IsRight m r (number_at rights k)
+
+-- the terms of the first rows behind the base rows
+abbrev pub AreCrossing : Voyage → List (List Term) → Type 0
+AreCrossing m lists = (k : ℕ) (r : Row) → k < length lists → slice_get (all_rows m) (length (base_rows m) + k) ≡ Some r → AreTerms m r (slice_index_or lists k [])

@@ -3,6 +3,7 @@ pub mod Adding
 pub mod Costs
 pub mod Rising
 pub mod Kept
+pub mod Tables
 pub mod Gauging
 pub mod GaugeRule
 pub mod CrossGains

@@ -1,5 +1,5 @@
 -- What is kept of pairs of calls, for the crossing rows. No public clause cites this module.
-use Rattle.std.specs.Prelude.{◌≡◌, ℕ, ◌+◌, ◌-◌, ◌*◌, ◌/◌, ◌%◌, ◌<◌, ◌≤◌, ◌^◌, ◌==◌, List, [], ◌∷◌, length, slice_index_or, ℤ, pos, ◌+ℤ◌, unsigned_abs}
+use Rattle.std.specs.Prelude.{◌≡◌, ℕ, ◌+◌, ◌*◌, ◌<◌, ◌≤◌, ◌^◌, ◌==◌, List, [], ◌∷◌, length, slice_index_or, ℤ, pos, ◌+ℤ◌, unsigned_abs}
 use Rattle.proof_trees.specs.Program.{sum_to, where_set}
 use Rattle.proof_trees.specs.Boxes.{Box, at}
 use Rattle.stow_data.specs.declared.geometry.Length.{Length}

@@ -6,12 +6,14 @@ ghost use Rattle.zero_one_rows.specs.Variables.{variables};
 ghost use Rattle.zero_one_rows.specs.declared.program.Row.{Row as Rows};
 ghost use Rattle.zero_one_rows.specs.Rows.{whole};
 ghost use Rattle.certificate.specs.Entries.{same_row};
-ghost use Rattle.dual_bound.specs.Costs.{number_at, parts, gap, AreTerms, IsListed, Gauged, Priced, PricedSome, HasRoom, Gains, gaps_of};
+ghost use Rattle.base_matrix.specs.Terms.{AreTerms};
+ghost use Rattle.dual_bound.specs.Costs.{number_at, parts, gap, IsListed, Gauged, Priced, PricedSome, HasRoom, Gains, gaps_of};
 
 use crate::sizes::{
     difference, first_cost, grown, least_of, moved, product, signed, sum_of, swapped,
 };
-use crate::terms::{Listed, Term};
+use crate::terms::Listed;
+use base_matrix::Term;
 use std::alloc::Global;
 use stow_data::{NoMemory, VarNo};
 use zero_one_model::{Box01, Model};
@@ -105,20 +107,20 @@ impl Costs {
 
     // One variable of a row whose multiplier changes.
     fn price_var(&mut self, b: &Box01, term: Term, by: i64)
-        requires var { term.var < length b.now }
+        requires var { term.at < length b.now }
         requires len { length self.old.reduced.items ≡ length b.now }
-        requires small { unsigned_abs (number_at self.old.reduced.items term.var) ≤ 2 ^ 79 }
+        requires small { unsigned_abs (number_at self.old.reduced.items term.at) ≤ 2 ^ 79 }
         requires room { unsigned_abs self.old.value ≤ 2 ^ 122 }
         requires by { unsigned_abs by ≤ 2 ^ 40 }
-        requires coef { unsigned_abs term.coef ≤ 2 ^ 17 }
+        requires coef { unsigned_abs term.by ≤ 2 ^ 17 }
         ensures right { self.new.right ≡ self.old.right }
-        ensures reduced { self.new.reduced.items ≡ slice_set self.old.reduced.items term.var (number_at self.old.reduced.items term.var -ℤ by *ℤ term.coef) }
-        ensures value { self.new.value ≡ self.old.value +ℤ gap (at b.now term.var) (number_at self.old.reduced.items term.var) (by *ℤ term.coef) }
+        ensures reduced { self.new.reduced.items ≡ slice_set self.old.reduced.items term.at (number_at self.old.reduced.items term.at -ℤ by *ℤ term.by) }
+        ensures value { self.new.value ≡ self.old.value +ℤ gap (at b.now term.at) (number_at self.old.reduced.items term.at) (by *ℤ term.by) }
     {
-        let index = term.var.0 as usize;
+        let index = term.at.0 as usize;
         let old = self.reduced[index];
-        let new = moved(old, by, term.coef as i64);
-        self.value = swapped(self.value, part(b, term.var, old), part(b, term.var, new));
+        let new = moved(old, by, term.by as i64);
+        self.value = swapped(self.value, part(b, term.at, old), part(b, term.at, new));
         self.reduced[index] = new;
     }
 
@@ -159,16 +161,16 @@ impl Costs {
 
     // What a variable gains where its reduced cost falls by so many times its coefficient.
     fn gap_at(&self, b: &Box01, term: Term, by: i64) -> i128
-        requires var { term.var < length b.now }
+        requires var { term.at < length b.now }
         requires len { length self.now.reduced.items ≡ length b.now }
-        requires small { unsigned_abs (number_at self.now.reduced.items term.var) ≤ 2 ^ 79 }
+        requires small { unsigned_abs (number_at self.now.reduced.items term.at) ≤ 2 ^ 79 }
         requires by { unsigned_abs by ≤ 2 ^ 40 }
-        requires coef { unsigned_abs term.coef ≤ 2 ^ 17 }
-        ensures { result ≡ gap (at b.now term.var) (number_at self.now.reduced.items term.var) (by *ℤ term.coef) }
+        requires coef { unsigned_abs term.by ≤ 2 ^ 17 }
+        ensures { result ≡ gap (at b.now term.at) (number_at self.now.reduced.items term.at) (by *ℤ term.by) }
     {
-        let old = self.reduced[term.var.0 as usize];
-        let new = moved(old, by, term.coef as i64);
-        difference(part(b, term.var, new), part(b, term.var, old))
+        let old = self.reduced[term.at.0 as usize];
+        let new = moved(old, by, term.by as i64);
+        difference(part(b, term.at, new), part(b, term.at, old))
     }
 
     // What the variables of a row gain where its multiplier rises by so much.

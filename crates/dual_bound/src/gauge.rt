@@ -1,5 +1,5 @@
 //! A box and multipliers, with the dual value kept from step to step.
-ghost use Rattle.std.specs.Prelude.{◌≡◌, true, ◌+◌, ◌<◌, length, slice_get, slice_set, Some, None, [], IfOk};
+ghost use Rattle.std.specs.Prelude.{◌≡◌, true, ◌+◌, ◌<◌, length, slice_get, slice_set, take, Some, None, [], IfOk, if◌then◌else◌};
 ghost use Rattle.proof_trees.specs.Multipliers.{worth, raised};
 ghost use Rattle.certificate.specs.Entries.{same_row};
 ghost use Rattle.zero_one_rows.specs.Variables.{variables};
@@ -13,6 +13,7 @@ use crate::costs::Costs;
 use crate::multipliers::{AddNo, Multipliers};
 use crate::raising::{Raised, raise_kept};
 use crate::table::RowTable;
+use kept_box::{BaseMatrix, LooseBox};
 use std::alloc::Global;
 use stow_data::{NoMemory, VarNo};
 use zero_one_model::{Box01, Model};
@@ -25,6 +26,7 @@ pub struct Gauge<'a> {
     b: Box01,
     multipliers: Multipliers,
     costs: Costs,
+    face: Option<LooseBox<'a>>,
 }
 
 impl<'a> std::marker::Model for Gauge<'a> {
@@ -51,6 +53,27 @@ impl<'a> Gauge<'a> {
             b,
             multipliers: Multipliers::zero(alloc),
             costs,
+            face: None,
+        })
+    }
+
+    /// A box without multipliers, which also keeps by how much base rows are met where the reduced costs are least, while there is memory for it: raises then pass by all rows that gain nothing for that.
+    pub fn start_over(
+        alloc: Global,
+        matrix: &'a BaseMatrix<'a>,
+        b: Box01,
+    ) -> Result<Gauge<'a>, NoMemory>
+        requires { length b ≡ length (variables matrix.now) }
+        ensures { IfOk result (λ g. g ≡ record { voyage = matrix.now; box = b; multipliers = [] }) }
+    {
+        let model = matrix.model();
+        let costs = Costs::start(alloc, model, &b)?;
+        Ok(Gauge {
+            model,
+            b,
+            multipliers: Multipliers::zero(alloc),
+            costs,
+            face: LooseBox::free(alloc, matrix).ok(),
         })
     }
 
@@ -134,6 +157,13 @@ impl<'a> Gauge<'a> {
         self.costs.clear(self.model, &self.b);
     }
 
+    /// Forgets the rows behind the first so many, where each of them has the multiplier 0; else nothing is changed. Whether it did. It takes no memory.
+    pub fn shorten(&mut self, count: usize) -> bool
+        ensures { self.new ≡ (if result then record self.old { multipliers = take count self.old.multipliers } else self.old) }
+    {
+        self.multipliers.shorten(count)
+    }
+
     /// Raises multipliers until the box closes at the cut, or no multiplier raised by 1 raises the dual value, or `most` raises are made. Each raise is appended to the list, also where memory is wanting after it.
     pub fn raise(
         &mut self,
@@ -156,6 +186,7 @@ impl<'a> Gauge<'a> {
             &self.b,
             &mut self.multipliers,
             &mut self.costs,
+            &mut self.face,
             cut,
             most,
             raises,

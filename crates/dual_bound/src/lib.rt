@@ -16,10 +16,11 @@ mod table;
 mod terms;
 mod tracing;
 
+pub use base_matrix::Term;
 pub use costs::Costs;
 pub use gauge::Gauge;
 pub use multipliers::{AddNo, Multipliers};
 pub use plain_value::value;
 pub use raising::{Raised, raise, raise_by};
 pub use table::RowTable;
-pub use terms::{Listed, Term, list_row, terms_of};
+pub use terms::{Listed, list_row, terms_of};

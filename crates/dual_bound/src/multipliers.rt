@@ -1,5 +1,5 @@
 //! The multipliers of rows.
-ghost use Rattle.std.specs.Prelude.{◌≡◌, ℕ, ◌<◌, ◌≤◌, ◌^◌, [], length, pos, ◌+ℤ◌, is_ok, if◌then◌else◌, IfOk, IfSome};
+ghost use Rattle.std.specs.Prelude.{◌≡◌, ℕ, ◌<◌, ◌≤◌, ◌^◌, true, All, [], drop, length, take, pos, ◌+ℤ◌, is_ok, if◌then◌else◌, IfOk, IfSome};
 ghost use Rattle.zero_one_rows.specs.declared.program.Row.{Row as Rows};
 ghost use Rattle.proof_trees.specs.Multipliers.{Multipliers as Prices, amount_of, with_amount, raised};
 ghost use Rattle.certificate.specs.Entries.{same_row};
@@ -57,6 +57,13 @@ fn place_of(entries: &[(Row, u64)], r: &Row) -> Option<usize>
     ensures inside { IfSome result (λ k. k < length entries.now) }
 {
     entries.iter().position(|entry| entry.0 == *r)
+}
+
+// Whether each of these rows has the multiplier 0.
+fn are_zero(entries: &[(Row, u64)]) -> bool
+    ensures { result ≡ true → All (λ e. e.1 ≡ 0) entries.now }
+{
+    entries.iter().all(|entry| entry.1 == 0)
 }
 
 /// A multiplier that is changed, where it stays in 0 to 2^40.
@@ -150,6 +157,21 @@ impl Multipliers {
                 self.entries.pop();
             }
         }
+    }
+
+    /// Forgets the rows behind the first so many, where each of them has the multiplier 0; else nothing is changed. Whether it did. It takes no memory.
+    pub fn shorten(&mut self, count: usize) -> bool
+        ensures shorter { self.new ≡ (if result then take count self.old else self.old) }
+        ensures zero { result ≡ true → All (λ e. e.1 ≡ 0) (drop count self.old) }
+    {
+        if count > self.entries.len() {
+            return false;
+        }
+        let forgotten = are_zero(&self.entries[count..]);
+        if forgotten {
+            self.entries.truncate(count);
+        }
+        forgotten
     }
 
     /// Changes a row's multiplier by an amount. OutOfRange comes exactly where it would leave 0 to 2^40; after a refusal nothing is changed.

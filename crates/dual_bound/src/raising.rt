@@ -5,8 +5,9 @@ ghost use Rattle.certificate.specs.Entries.{same_row};
 ghost use Rattle.zero_one_rows.specs.Variables.{variables};
 ghost use Rattle.zero_one_rows.specs.declared.program.Row.{Row as Rows};
 ghost use Rattle.zero_one_rows.specs.Rows.{whole};
-ghost use Rattle.program_rows.specs.Counted.{all_rows};
+ghost use Rattle.program_rows.specs.Counted.{all_rows, base_rows};
 ghost use Rattle.dual_bound.specs.Raising.{AreMultipliers, IsStuck, Raises};
+ghost use Rattle.kept_box.specs.Leaning.{Leans};
 ghost use Rattle.dual_bound.specs.Costs.{IsListed, Priced, PricedSome};
 ghost use Rattle.dual_bound.specs.Rising.{raised_by, IsFlat, RisesBy, Rises, AreCrossingFlat, Ends};
 
@@ -17,7 +18,9 @@ use crate::offers::choose_crossing;
 use crate::packing::{Wish, wishes};
 use crate::sizes::signed;
 use crate::table::RowTable;
-use crate::terms::{Listed, Term, list_row, terms_of};
+use crate::terms::{Listed, list_row, terms_of};
+use base_matrix::Term;
+use kept_box::LooseBox;
 use std::alloc::Global;
 use stow_data::{NoMemory, Seq};
 use zero_one_model::{Box01, Model};
@@ -31,10 +34,8 @@ const MANY: u32 = 1_000;
 pub enum Raised {
     /// The dual value is above 16 times the cut less 1: the box closes at the cut.
     Reached,
-
     /// It isn't, and no multiplier below 2^40, raised by 1, raises it.
     Stuck,
-
     /// Neither holds, and as many raises are made as are allowed.
     Spent,
     NoMemory,
@@ -285,6 +286,120 @@ fn find_base(
     }
 }
 
+// Looks at a base row, unless it is met where the reduced costs are least: then it gains nothing.
+fn look_unmet(
+    alloc: Global,
+    model: &Model,
+    table: &RowTable,
+    b: &Box01,
+    m: &Multipliers,
+    costs: &Costs,
+    face: &LooseBox,
+    number: u64,
+) -> Result<Option<Rising>, NoMemory>
+    requires number { number < length (base_rows model.now) }
+    requires table { table.now ≡ model.now }
+    requires whole { length b.now ≡ length (variables model.now) }
+    requires priced { Priced model.now b.now m.now costs.now }
+    requires face { face.now.voyage ≡ model.now }
+    requires leans { Leans b.now costs.now.reduced.items face.now.known }
+    ensures none { result ≡ Ok None → (r : Rows) → slice_get (all_rows model.now) number ≡ Some r → IsFlat model.now b.now m.now r }
+    ensures some { IfOk result (λ o. IfSome o (λ c. Rises model.now b.now m.now c)) }
+{
+    if face.is_met(number as usize) {
+        return Ok(None);
+    }
+    look(alloc, model, table, b, m, costs, number)
+}
+
+// The first base row that can be raised with gain, among those with numbers in a range.
+fn find_unmet_between(
+    alloc: Global,
+    model: &Model,
+    table: &RowTable,
+    b: &Box01,
+    m: &Multipliers,
+    costs: &Costs,
+    face: &LooseBox,
+    from: u64,
+    to: u64,
+) -> Result<Option<Rising>, NoMemory>
+    requires to { to ≤ length (base_rows model.now) }
+    requires table { table.now ≡ model.now }
+    requires whole { length b.now ≡ length (variables model.now) }
+    requires priced { Priced model.now b.now m.now costs.now }
+    requires face { face.now.voyage ≡ model.now }
+    requires leans { Leans b.now costs.now.reduced.items face.now.known }
+    ensures none { result ≡ Ok None → (k : ℕ) (r : Rows) → from ≤ k → k < to → slice_get (all_rows model.now) k ≡ Some r → IsFlat model.now b.now m.now r }
+    ensures some { IfOk result (λ o. IfSome o (λ c. Rises model.now b.now m.now c)) }
+{
+    for number in from..to {
+        let found = look_unmet(alloc, model, table, b, m, costs, face, number)?;
+        if found.is_some() {
+            return Ok(found);
+        }
+    }
+    Ok(None)
+}
+
+// As `find_base`, by the box where the reduced costs are least.
+fn find_unmet(
+    alloc: Global,
+    model: &Model,
+    table: &RowTable,
+    b: &Box01,
+    m: &Multipliers,
+    costs: &Costs,
+    face: &LooseBox,
+    from: u64,
+) -> Result<Option<Rising>, NoMemory>
+    requires table { table.now ≡ model.now }
+    requires whole { length b.now ≡ length (variables model.now) }
+    requires priced { Priced model.now b.now m.now costs.now }
+    requires crossing { AreCrossingFlat model.now b.now m.now }
+    requires face { face.now.voyage ≡ model.now }
+    requires leans { Leans b.now costs.now.reduced.items face.now.known }
+    ensures none { result ≡ Ok None → IsStuck model.now b.now m.now }
+    ensures some { IfOk result (λ o. IfSome o (λ c. Rises model.now b.now m.now c)) }
+{
+    let base = model.base_rows();
+    let from = from.min(base);
+    match find_unmet_between(alloc, model, table, b, m, costs, face, from, base)? {
+        Some(rising) => Ok(Some(rising)),
+        None => find_unmet_between(alloc, model, table, b, m, costs, face, 0, from),
+    }
+}
+
+// A base row that can be raised with gain, where no crossing row can.
+fn find_low(
+    alloc: Global,
+    model: &Model,
+    table: &RowTable,
+    b: &Box01,
+    m: &Multipliers,
+    costs: &Costs,
+    face: &mut Option<LooseBox>,
+    from: u64,
+) -> Result<Option<Rising>, NoMemory>
+    requires table { table.now ≡ model.now }
+    requires whole { length b.now ≡ length (variables model.now) }
+    requires priced { Priced model.now b.now m.now costs.now }
+    requires crossing { AreCrossingFlat model.now b.now m.now }
+    requires face { IfSome face.old (λ f. f.voyage ≡ model.now) }
+    ensures face { IfSome face.new (λ f. f.voyage ≡ model.now) }
+    ensures none { result ≡ Ok None → IsStuck model.now b.now m.now }
+    ensures some { IfOk result (λ o. IfSome o (λ c. Rises model.now b.now m.now c)) }
+{
+    match face {
+        Some(loose) => {
+            loose.is_whole();
+            loose.lean(b, costs.reduced.as_slice());
+            find_unmet(alloc, model, table, b, m, costs, loose, from)
+        }
+        None => find_base(alloc, model, table, b, m, costs, from),
+    }
+}
+
 // Looks at a row that may gain, if there is one.
 fn look_at(
     alloc: Global,
@@ -317,11 +432,14 @@ fn find(
     b: &Box01,
     m: &Multipliers,
     costs: &Costs,
+    face: &mut Option<LooseBox>,
     from: u64,
 ) -> Result<Option<Rising>, NoMemory>
     requires table { table.now ≡ model.now }
+    requires face { IfSome face.old (λ f. f.voyage ≡ model.now) }
     requires whole { length b.now ≡ length (variables model.now) }
     requires priced { Priced model.now b.now m.now costs.now }
+    ensures face { IfSome face.new (λ f. f.voyage ≡ model.now) }
     ensures none { result ≡ Ok None → IsStuck model.now b.now m.now }
     ensures some { IfOk result (λ o. IfSome o (λ c. Rises model.now b.now m.now c)) }
 {
@@ -330,7 +448,7 @@ fn find(
     };
     let choice = choose_crossing(model, pairs, b, costs);
     if choice.gain <= 0 {
-        return find_base(alloc, model, table, b, m, costs, from);
+        return find_low(alloc, model, table, b, m, costs, face, from);
     }
     if let Some(rising) = look_at(alloc, model, table, b, m, costs, choice.row)? {
         return Ok(Some(rising));
@@ -402,19 +520,22 @@ fn next(
     b: &Box01,
     m: &Multipliers,
     costs: &Costs,
+    face: &mut Option<LooseBox>,
     from: u64,
     wish: Option<&Wish>,
 ) -> Result<Option<Rising>, NoMemory>
     requires table { table.now ≡ model.now }
+    requires face { IfSome face.old (λ f. f.voyage ≡ model.now) }
     requires whole { length b.now ≡ length (variables model.now) }
     requires priced { Priced model.now b.now m.now costs.now }
+    ensures face { IfSome face.new (λ f. f.voyage ≡ model.now) }
     ensures none { result ≡ Ok None → IsStuck model.now b.now m.now }
     ensures some { IfOk result (λ o. IfSome o (λ c. Rises model.now b.now m.now c)) }
 {
     if let Some(rising) = granted(alloc, model, table, b, m, costs, wish)? {
         return Ok(Some(rising));
     }
-    find(alloc, model, table, b, m, costs, from)
+    find(alloc, model, table, b, m, costs, face, from)
 }
 
 // Makes one raise, and appends it. After want of memory nothing is changed.
@@ -463,17 +584,20 @@ fn last(
     b: &Box01,
     m: &Multipliers,
     costs: &Costs,
+    face: &mut Option<LooseBox>,
     cut: u64,
 ) -> Raised
     requires table { table.now ≡ model.now }
+    requires face { IfSome face.old (λ f. f.voyage ≡ model.now) }
     requires whole { length b.now ≡ length (variables model.now) }
     requires priced { Priced model.now b.now m.now costs.now }
-    ensures { Ends model.now b.now m.now cut result }
+    ensures face { IfSome face.new (λ f. f.voyage ≡ model.now) }
+    ensures ends { Ends model.now b.now m.now cut result }
 {
     if costs.closes(model, b, m, cut) {
         return Raised::Reached;
     }
-    match find(alloc, model, table, b, m, costs, 0) {
+    match find(alloc, model, table, b, m, costs, face, 0) {
         Err(_) => Raised::NoMemory,
         Ok(None) => Raised::Stuck,
         Ok(Some(_)) => Raised::Spent,
@@ -488,14 +612,17 @@ fn turn(
     b: &Box01,
     m: &mut Multipliers,
     costs: &mut Costs,
+    face: &mut Option<LooseBox>,
     cut: u64,
     from: &mut u64,
     wish: Option<&Wish>,
     raises: &mut RaiseList,
 ) -> Option<Raised>
     requires table { table.now ≡ model.now }
+    requires face { IfSome face.old (λ f. f.voyage ≡ model.now) }
     requires whole { length b.now ≡ length (variables model.now) }
     requires priced { Priced model.now b.now m.old costs.old }
+    ensures face { IfSome face.new (λ f. f.voyage ≡ model.now) }
     ensures priced { Priced model.now b.now m.new costs.new }
     ensures raised { IfNone result (Raises model.now b.now 1 m.old m.new raises.old raises.new) }
     ensures one { IfNone result (length raises.new ≡ length raises.old + 1) }
@@ -506,7 +633,7 @@ fn turn(
     if costs.closes(model, b, m, cut) {
         return Some(Raised::Reached);
     }
-    let Ok(found) = next(alloc, model, table, b, m, costs, *from, wish) else {
+    let Ok(found) = next(alloc, model, table, b, m, costs, face, *from, wish) else {
         return Some(Raised::NoMemory);
     };
     let Some(rising) = found else {
@@ -549,13 +676,16 @@ pub fn raise_kept(
     b: &Box01,
     m: &mut Multipliers,
     costs: &mut Costs,
+    face: &mut Option<LooseBox>,
     cut: u64,
     most: u32,
     raises: &mut RaiseList,
 ) -> Raised
     requires table { table.now ≡ model.now }
+    requires face { IfSome face.old (λ f. f.voyage ≡ model.now) }
     requires whole { length b.now ≡ length (variables model.now) }
     requires priced { Priced model.now b.now m.old costs.old }
+    ensures face { IfSome face.new (λ f. f.voyage ≡ model.now) }
     ensures priced { Priced model.now b.now m.new costs.new }
     ensures raised { Raises model.now b.now most m.old m.new raises.old raises.new }
     ensures ends { Ends model.now b.now m.new cut result }
@@ -566,12 +696,12 @@ pub fn raise_kept(
     for made in 0..most {
         let wish = wishes.get(made as usize);
         if let Some(end) = turn(
-            alloc, model, table, b, m, costs, cut, &mut from, wish, raises,
+            alloc, model, table, b, m, costs, face, cut, &mut from, wish, raises,
         ) {
             return end;
         }
     }
-    last(alloc, model, table, b, m, costs, cut)
+    last(alloc, model, table, b, m, costs, face, cut)
 }
 
 // Adds a row without a multiplier to costs, with this one.
@@ -639,7 +769,10 @@ pub fn raise_by(
     let Ok(mut costs) = price(alloc, model, table, b, m) else {
         return Raised::NoMemory;
     };
-    raise_kept(alloc, model, table, b, m, &mut costs, cut, most, raises)
+    let mut face = None;
+    raise_kept(
+        alloc, model, table, b, m, &mut costs, &mut face, cut, most, raises,
+    )
 }
 
 /// Raises multipliers until the box closes at the cut, or no multiplier raised by 1 raises the dual value, or `most` raises are made. Each raise is appended to the list, also where memory is wanting after it.

@@ -1,82 +1,106 @@
 //! The terms of a program's rows, kept.
-ghost use Rattle.std.specs.Prelude.{◌≡◌, ◌+◌, ◌<◌, length, slice_get, Some, OnOk, IfSome};
+ghost use Rattle.std.specs.Prelude.{◌≡◌, ◌+◌, ◌<◌, ◌≤◌, length, slice_get, Some, OnOk, IfSome};
 ghost use Rattle.zero_one_rows.specs.declared.program.Row.{Row as Rows};
-ghost use Rattle.program_rows.specs.Counted.{all_rows};
+ghost use Rattle.program_rows.specs.Counted.{all_rows, base_rows};
+ghost use Rattle.base_matrix.specs.Terms.{count, AreTerms};
 ghost use Rattle.dual_bound.specs.Costs.{IsListed};
-ghost use Rattle.dual_bound.specs.Kept.{AreKept};
+ghost use Rattle.dual_bound.specs.Kept.{AreRights, AreCrossing};
 ghost use Rattle.dual_bound.specs.Pairs.{ArePairs};
 
 use crate::pairs::PairTable;
-use crate::terms::{Term, list_row, terms_of};
+use crate::terms::terms_of;
+use base_matrix::{BaseMatrix, Term};
 use flat_lists::FlatLists;
 use std::alloc::Global;
 use stow_data::{NoMemory, Seq};
 use zero_one_model::Model;
 
-/// The most terms that are kept.
-const MOST_TERMS: usize = 1 << 25;
+/// The most terms of crossing rows that are kept.
+const MOST_TERMS: usize = 1 << 22;
 
-/// The right sides and terms of a program's rows, of as many as there is room for, and what pairs of calls bring to crossing rows. Contracts see the voyage.
+/// The right sides of a program's rows; the terms of its base rows, where a matrix has them written out, and of as many crossing rows as there is room for; and what pairs of calls bring to crossing rows. Contracts see the voyage.
 #[derive(Drop)]
 pub struct RowTable<'a> {
     model: &'a Model<'a>,
+    matrix: Option<&'a BaseMatrix<'a>>,
     rights: Seq<i64>,
-    terms: FlatLists<Term>,
+    crossing: FlatLists<Term>,
     pairs: Option<PairTable>,
 }
 
 impl<'a> std::marker::Model for RowTable<'a> {
     ghost use Rattle.zero_one_rows.specs.Variables.{Voyage};
-    ghost use Rattle.dual_bound.specs.Kept.{IsTable};
+    ghost use Rattle.dual_bound.specs.Tables.{voyage_of, IsTable};
 
     ghost Value = { Voyage };
 
-    ghost view = { λ a. a.model.now };
+    ghost view = { voyage_of };
 
-    ghost invariant = { λ a. IsTable a.model.now a.rights a.terms a.pairs };
+    ghost invariant = { IsTable };
 }
 
-// Appends the right side and the terms of the next row.
-fn append_row(
+// Appends the right side of the next row.
+fn append_right(model: &Model, number: u64, rights: &mut Seq<i64>) -> Result<(), NoMemory>
+    requires number { number < length (all_rows model.now) }
+    requires rights { length rights.old ≡ number }
+    requires kept { AreRights model.now rights.old }
+    ensures kept { AreRights model.now rights.new }
+    ensures rights { OnOk result (length rights.new ≡ number + 1) }
+{
+    let row = model.row_at(number);
+    let right = model.rhs(&row);
+    rights.push(right)?;
+    Ok(())
+}
+
+// The right sides of all rows, of as many as there is memory for.
+fn rights_of(alloc: Global, model: &Model) -> Seq<i64>
+    ensures { AreRights model.now result }
+{
+    let mut rights = Seq::new(alloc);
+    for number in 0..model.rows() {
+        if append_right(model, number, &mut rights).is_err() {
+            return rights;
+        }
+    }
+    rights
+}
+
+// Appends the terms of the next crossing row, and answers how many they are.
+fn append_terms(
     alloc: Global,
     model: &Model,
     number: u64,
-    rights: &mut Seq<i64>,
     lists: &mut FlatLists<Term>,
 ) -> Result<usize, NoMemory>
     requires number { number < length (all_rows model.now) }
-    requires rights { length rights.old ≡ number }
-    requires lists { length lists.old ≡ number }
-    requires kept { AreKept model.now rights.old lists.old }
-    ensures kept { AreKept model.now rights.new lists.new }
-    ensures rights { OnOk result (length rights.new ≡ number + 1) }
-    ensures lists { OnOk result (length lists.new ≡ number + 1) }
+    requires lists { length (base_rows model.now) + length lists.old ≡ number }
+    requires kept { AreCrossing model.now lists.old }
+    ensures kept { AreCrossing model.now lists.new }
+    ensures lists { OnOk result (length (base_rows model.now) + length lists.new ≡ number + 1) }
 {
     let row = model.row_at(number);
     let terms = terms_of(alloc, model, &row)?;
-    let listed = list_row(model, &row, terms.as_slice());
-    lists.push(listed.terms)?;
-    rights.push(listed.right)?;
+    lists.push(terms.as_slice())?;
     Ok(terms.len())
 }
 
-// Appends rows until there is no room for more.
-fn append_rows(alloc: Global, model: &Model, rights: &mut Seq<i64>, lists: &mut FlatLists<Term>)
-    requires rights { length rights.old ≡ 0 }
-    requires lists { length lists.old ≡ 0 }
-    requires kept { AreKept model.now rights.old lists.old }
-    ensures { AreKept model.now rights.new lists.new }
+// The terms of crossing rows, of as many as there is room for.
+fn crossing_of(alloc: Global, model: &Model) -> FlatLists<Term>
+    ensures { AreCrossing model.now result }
 {
+    let mut lists = FlatLists::new(alloc);
     let mut room = MOST_TERMS;
-    for number in 0..model.rows() {
-        let Ok(count) = append_row(alloc, model, number, rights, lists) else {
-            return;
+    for number in model.base_rows()..model.rows() {
+        let Ok(count) = append_terms(alloc, model, number, &mut lists) else {
+            return lists;
         };
         if count >= room {
-            return;
+            return lists;
         }
         room -= count;
     }
+    lists
 }
 
 // What pairs of calls bring, where there is memory for it.
@@ -93,37 +117,72 @@ impl<'a> RowTable<'a> {
     {
         RowTable {
             model,
+            matrix: None,
             rights: Seq::new(alloc),
-            terms: FlatLists::new(alloc),
+            crossing: FlatLists::new(alloc),
             pairs: None,
         }
     }
 
-    /// The rows of a program, of as many as there is memory for.
-    pub fn build(alloc: Global, model: &'a Model<'a>) -> RowTable<'a>
-        ensures { result ≡ model.now }
+    /// The rows of a program, whose base rows stand in a matrix, and of whose other rows it keeps as many as there is memory for.
+    pub fn build(alloc: Global, matrix: &'a BaseMatrix<'a>) -> RowTable<'a>
+        ensures { result ≡ matrix.now }
     {
-        let mut rights = Seq::new(alloc);
-        let mut terms = FlatLists::new(alloc);
-        append_rows(alloc, model, &mut rights, &mut terms);
+        let model = matrix.model();
         RowTable {
             model,
-            rights,
-            terms,
+            matrix: Some(matrix),
+            rights: rights_of(alloc, model),
+            crossing: crossing_of(alloc, model),
             pairs: pairs_of(alloc, model),
         }
     }
 
-    /// The right side and the terms of the row with this number, where they are kept.
+    // The terms of a base row, where a matrix has them written out.
+    fn base_terms(&self, number: u64) -> Option<&[Term]>
+        requires { number < count self.now }
+        ensures { IfSome result (λ ts. (r : Rows) → slice_get (all_rows self.now) number ≡ Some r → AreTerms self.now r ts.now) }
+    {
+        match self.matrix {
+            Some(matrix) => matrix.written_terms(number as usize),
+            None => None,
+        }
+    }
+
+    // The terms of a crossing row, where they are kept.
+    fn crossing_terms(&self, number: u64) -> Option<&[Term]>
+        requires { count self.now ≤ number }
+        ensures { IfSome result (λ ts. (r : Rows) → slice_get (all_rows self.now) number ≡ Some r → AreTerms self.now r ts.now) }
+    {
+        let index = (number - self.model.base_rows()) as usize;
+        if index < self.crossing.len() {
+            Some(self.crossing.at(index))
+        } else {
+            None
+        }
+    }
+
+    // The terms of a row, where they are at hand.
+    fn terms(&self, number: u64) -> Option<&[Term]>
+        ensures { IfSome result (λ ts. (r : Rows) → slice_get (all_rows self.now) number ≡ Some r → AreTerms self.now r ts.now) }
+    {
+        if number < self.model.base_rows() {
+            self.base_terms(number)
+        } else {
+            self.crossing_terms(number)
+        }
+    }
+
+    /// The right side and the terms of the row with this number, where they are at hand.
     pub fn row(&self, number: u64) -> Option<(i64, &[Term])>
         ensures { IfSome result (λ p. (r : Rows) → slice_get (all_rows self.now) number ≡ Some r → IsListed self.now r p.0 p.1.now) }
     {
         let index = number as usize;
-        if index < self.rights.len() && index < self.terms.len() {
-            Some((*self.rights.at(index), self.terms.at(index)))
-        } else {
-            None
+        if index >= self.rights.len() {
+            return None;
         }
+        let terms = self.terms(number)?;
+        Some((*self.rights.at(index), terms))
     }
 
     /// What pairs of calls bring to crossing rows, where it is kept.

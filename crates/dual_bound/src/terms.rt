@@ -1,20 +1,16 @@
 //! The terms of rows: their variables with coefficients.
-ghost use Rattle.std.specs.Prelude.{◌≡◌, ◌<◌, ◌≤◌, ◌^◌, true, length, IfOk, unsigned_abs};
+ghost use Rattle.std.specs.Prelude.{◌≡◌, ℕ, ◌<◌, ◌≤◌, ◌^◌, ◌↔◌, true, length, Contains, IfOk, unsigned_abs};
 ghost use Rattle.zero_one_rows.specs.Variables.{variables};
 ghost use Rattle.zero_one_rows.specs.Rows.{whole};
-ghost use Rattle.dual_bound.specs.Costs.{AreTerms, IsListed};
+ghost use Rattle.zero_one_model.specs.Indexed.{Touches};
+ghost use Rattle.base_matrix.specs.Terms.{AreTerms, vars_in};
+ghost use Rattle.dual_bound.specs.Costs.{IsListed};
 
+use base_matrix::Term;
 use std::alloc::Global;
 use stow_data::{NoMemory, Seq, VarNo};
 use zero_one_model::Model;
 use zero_one_rows::Row;
-
-/// A variable of a row, with its coefficient there.
-#[derive(Clone, Copy, Debug, PartialEq, Eq)]
-pub struct Term {
-    pub var: VarNo,
-    pub coef: i32,
-}
 
 /// A row with its right side and its terms.
 #[derive(Clone, Copy)]
@@ -36,20 +32,21 @@ fn narrow(coef: i64) -> i32
 fn term_of(model: &Model, row: &Row, var: VarNo) -> Term
     requires row { (whole model.now).has row.now ≡ true }
     requires var { var < length (variables model.now) }
-    ensures var { result.var ≡ var }
-    ensures coef { result.coef ≡ (whole model.now).coef row.now var }
-    ensures small { unsigned_abs result.coef ≤ 2 ^ 17 }
+    ensures var { result.at ≡ var }
+    ensures coef { result.by ≡ (whole model.now).coef row.now var }
+    ensures small { unsigned_abs result.by ≤ 2 ^ 17 }
 {
     Term {
-        var,
-        coef: narrow(model.coefficient(row, var)),
+        at: var,
+        by: narrow(model.coefficient(row, var)),
     }
 }
 
-/// The terms of a row.
+/// The terms of a row: exactly those with a coefficient other than 0.
 pub fn terms_of(alloc: Global, model: &Model, row: &Row) -> Result<Seq<Term>, NoMemory>
     requires { (whole model.now).has row.now ≡ true }
-    ensures { IfOk result (λ ts. AreTerms model.now row.now ts) }
+    ensures terms { IfOk result (λ ts. AreTerms model.now row.now ts) }
+    ensures each { IfOk result (λ ts. (x : ℕ) → Contains (vars_in ts) x ↔ Touches model.now row.now x) }
 {
     let vars = model.vars_of(alloc, row)?;
     let mut terms = Seq::new(alloc);

@@ -1,6 +1,7 @@
+pub mod Counts
 pub mod Losing
-pub mod Filing
-pub mod Building
 pub mod Moving
 pub mod Trails
 pub mod Looks
+mod Loosely
+mod Freed

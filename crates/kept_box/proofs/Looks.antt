@@ -12,30 +12,19 @@ use Rattle.zero_one_rows.specs.Rows.{whole}
 use Rattle.partial_plan.specs.Fixing.{free_in}
 use Rattle.partial_plan.specs.Forced.{forces, is_above}
 use Rattle.partial_plan.proofs.Summing.{same_or_other, unequal}
-use Rattle.partial_plan.proofs.Rows.{coef_none}
 use Rattle.partial_plan.proofs.Landing.{broken_is, landed, met_is, tight_by, tight_landed}
 use Rattle.partial_plan.proofs.Walking.{Partly, listed_all}
-use Rattle.kept_box.specs.declared.terms.Term.{Term}
+use Rattle.base_matrix.specs.declared.entries.Term.{Term}
 use Rattle.kept_box.specs.declared.slacks.Slacks.{Slacks}
 use Rattle.kept_box.specs.declared.desk.Desk.{Desk}
-use Rattle.kept_box.specs.Terms.{count, row_at, slack_in, term_of, AreTerms}
-use Rattle.kept_box.specs.Waiting.{number_at, waits_at}
-use Rattle.kept_box.specs.Desk.{CalmAt, Holds, IsWide, Marks, Rests, waiting_in, work}
+use Rattle.base_matrix.specs.Terms.{count, row_at, slack_in, vars_in, AreTerms}
+use Rattle.kept_box.specs.Waiting.{number_at, waits_at, waiting_in}
+use Rattle.kept_box.specs.Desk.{CalmAt, Holds, IsWide, Marks, Rests, work}
 use Rattle.kept_box.specs.Looking.{AnyForced, NoneForced}
+use Rattle.kept_box.proofs.Counts.{waiting_most, waiting_set}
 use Rattle.kept_box.proofs.Moving.{wide_calm}
 
 -- ## The terms of a row
-
--- the variables of terms
-abbrev pub vars_in : List Term → List ℕ
-vars_in ts = map (λ (t : Term). t.at) ts
-
-map_vars : (f : ℕ → ℤ) (xs : List ℕ) → map (λ (t : Term). t.at) (map (λ w. record { at = w; by = f w }) xs) ≡ xs
-map_vars f [] = refl
-map_vars f (x ∷ xs) = ap (λ (ys : List ℕ). x ∷ ys) (map_vars f xs)
-
-pub vars_are : (m : Voyage) (r : Row) (ts : List Term) (h : AreTerms m r ts) → vars_in ts ≡ h.vars
-vars_are m r ts h = ap vars_in h.are ∙ map_vars (λ v. (whole m).coef r v) h.vars
 
 -- a term has a variable of the program, with its coefficient
 pub record IsTerm (m : Voyage) (r : Row) (ts : List Term) (i : ℕ) (t : Term) : Type 0 where
@@ -44,21 +33,11 @@ pub record IsTerm (m : Voyage) (r : Row) (ts : List Term) (i : ℕ) (t : Term) :
   pub place : t.at ≡ get_or (vars_in ts) i 0
 
 pub term_at : (m : Voyage) (r : Row) (ts : List Term) (i : ℕ) (t : Term) → AreTerms m r ts → i < length ts → get_or ts i t ≡ t → IsTerm m r ts i t
-term_at m r ts i t h lt is =
-    let n : length ts ≡ length h.vars = ap (λ (us : List Term). length us) h.are ∙ length-map h.vars (term_of m r) in
-    let k : i < length h.vars = omega arith in
-    let e : term_of m r (get_or h.vars i 0) ≡ t = sym (get_or-map (term_of m r) h.vars i 0 t k) ∙ sym (ap (λ (us : List Term). get_or us i t) h.are) ∙ is in
-    let v : get_or h.vars i 0 ≡ t.at = ap (λ (u : Term). u.at) e in
-    record {
-      inside = subst (λ (w : ℕ). w < length (variables m)) v ((h.each (get_or h.vars i 0)).0 (i, k, itself h.vars i k)).inside;
-      by_is = sym (ap (λ (u : Term). u.by) e) ∙ ap (λ (w : ℕ). (whole m).coef r w) v;
-      place = sym v ∙ sym (ap (λ (xs : List ℕ). get_or xs i 0) (vars_are m r ts h));
-    }
-  where
-    itself : (xs : List ℕ) (j : ℕ) → j < length xs → get_or xs j (get_or xs j 0) ≡ get_or xs j 0
-    itself [] j lt = absurd (omega arith)
-    itself (x ∷ xs) zero lt = refl
-    itself (x ∷ xs) (suc j) lt = itself xs j (omega arith)
+term_at m r ts i t h lt is = record {
+  inside = subst (λ (u : Term). u.at < length (variables m)) is (h.inside i t lt);
+  by_is = subst (λ (u : Term). u.by ≡ (whole m).coef r u.at) is (h.are i t lt);
+  place = sym (get_or-map (λ (u : Term). u.at) ts i t 0 lt ∙ ap (λ (u : Term). u.at) is);
+}
 
 read_any : (ts : List Term) (i : ℕ) (t u : Term) → i < length ts → get_or ts i t ≡ get_or ts i u
 read_any [] i t u lt = absurd (omega arith)
@@ -66,11 +45,11 @@ read_any (x ∷ ts) zero t u lt = refl
 read_any (x ∷ ts) (suc i) t u lt = read_any ts i t u (omega arith)
 
 pub terms_inside : (m : Voyage) (r : Row) (ts : List Term) (n : ℕ) → AreTerms m r ts → n ≡ length (variables m) → All (λ t. t.at < n) ts
-terms_inside m r ts n h e i d lt = let k = (term_at m r ts i (get_or ts i d) h lt (read_any ts i (get_or ts i d) d lt)).inside in omega arith
+terms_inside m r ts n h e i d lt = let k = h.inside i d lt in omega arith
 
 -- a variable that isn't there has coefficient 0
 pub none_else : (m : Voyage) (r : Row) (ts : List Term) → AreTerms m r ts → (v : ℕ) → v < length (variables m) → list_any (nat_eq v) (vars_in ts) ≡ false → (whole m).coef r v ≡ pos 0
-none_else m r ts h v lt e = coef_none m r h.vars h.each h.has v lt (sym (ap (λ (xs : List ℕ). list_any (nat_eq v) xs) (vars_are m r ts h)) ∙ e)
+none_else m r ts h v lt e = h.others v lt e
 
 -- ## Nothing is forced
 
@@ -92,7 +71,7 @@ none_calm m b s k ts h met none = record { met = met; still = λ v lt free. by v
     by v lt free false e = ap (forces s None) (none_else m (row_at m k) ts h v lt e) ∙ none_forced s met
     by v lt free true e =
         let a = at_of_any (vars_in ts) v e in
-        let t : Term = term_of m (row_at m k) v in
+        let t : Term = record { at = v; by = (whole m).coef (row_at m k) v } in
         let n : length (vars_in ts) ≡ length ts = length-map ts (λ (u : Term). u.at) in
         let i_lt : a.0 < length ts = (let l = a.1 in omega arith) in
         let u : Term = get_or ts a.0 t in
@@ -190,26 +169,14 @@ rests_forced m b c old mid new k holds k_lt met rests same cleared is marks j lt
     by w (inl q) = unmoved q w (same_or_other j k)
     by w (inr wide) = wide_calm m c (number_at new.slack.items j) j wide.0 wide.1
 
-pub holds_cleared : (m : Voyage) (b : Box) (old new : Slacks) (k : ℕ) → Holds m b old → new.slack ≡ old.slack → new.waits.items ≡ set old.waits.items k false → Holds m b new
-holds_cleared m b old new k h same cleared = record {
+pub holds_cleared : (m : Voyage) (b : Box) (old new : Slacks) (k : ℕ) → Holds m b old → new.slack ≡ old.slack → new.waits.items ≡ set old.waits.items k false → new.waiting ≡ waiting_in new.waits.items → Holds m b new
+holds_cleared m b old new k h same cleared counted = record {
   whole = h.whole;
-  short = record { slacks = ap (λ s. length s.items) same ∙ h.short.slacks; marks = ap (λ (ws : List Bool). length ws) cleared ∙ length-set old.waits.items k false ∙ h.short.marks };
+  short = record { slacks = ap (λ s. length s.items) same ∙ h.short.slacks; marks = ap (λ (ws : List Bool). length ws) cleared ∙ length-set old.waits.items k false ∙ h.short.marks; count = counted };
   slack = λ j lt. ap (λ s. number_at s.items j) same ∙ h.slack j lt;
 }
 
 -- ## What is still to be done
-
-waiting_most : (ws : List Bool) → waiting_in ws ≤ length ws
-waiting_most [] = omega arith
-waiting_most (true ∷ ws) = omega (arith, waiting_most ws)
-waiting_most (false ∷ ws) = omega (arith, waiting_most ws)
-
-waiting_set : (ws : List Bool) (r : ℕ) → waits_at ws r ≡ true → waiting_in (set ws r false) + 1 ≡ waiting_in ws
-waiting_set [] r e = absurd (grind arith)
-waiting_set (true ∷ ws) zero e = refl
-waiting_set (false ∷ ws) zero e = absurd (grind arith)
-waiting_set (true ∷ ws) (suc r) e = omega (arith, waiting_set ws r e)
-waiting_set (false ∷ ws) (suc r) e = waiting_set ws r e
 
 pub work_cleared : (m : Voyage) (d e : Desk) (k : ℕ) → waits_at d.slacks.waits.items k ≡ true → e.b ≡ d.b → e.slacks.waits.items ≡ set d.slacks.waits.items k false → work m e < work m d
 work_cleared m d e k waits box cleared =

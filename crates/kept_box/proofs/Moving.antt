@@ -18,18 +18,13 @@ use Rattle.partial_plan.specs.Forced.{forces, is_above}
 use Rattle.partial_plan.specs.Tightening.{IsCalm, IsQuiet}
 use Rattle.partial_plan.proofs.Summing.{same_or_other, equal, unequal, sum_one}
 use Rattle.partial_plan.proofs.Landing.{landed, met_is, most_less, tight_by, tight_landed}
-use Rattle.kept_box.specs.declared.terms.Loss.{Loss}
 use Rattle.kept_box.specs.declared.slacks.Slacks.{Slacks}
-use Rattle.kept_box.specs.Terms.{count, row_at, slack_in, loss, lost}
-use Rattle.kept_box.specs.Parts.{IsSmall}
-use Rattle.kept_box.specs.Waiting.{number_at, waits_at, IsShort, Marked}
+use Rattle.base_matrix.specs.Terms.{count, row_at, slack_in, loss}
+use Rattle.base_matrix.specs.Terms.{IsSmall}
+use Rattle.kept_box.specs.Waiting.{number_at, waits_at, waiting_in, IsShort, Marked}
 use Rattle.kept_box.specs.Desk.{CalmAt, Holds, IsWide, Marks, Rests}
-use Rattle.kept_box.proofs.Losing.{lost_least}
 
 -- ## Loops over losses
-
-abbrev pub the_loss : Loss
-the_loss = record { row = 0; by = 0 }
 
 pub read : {X : Type 0} (xs : List X) (i : ℕ) (x d : X) → i < length xs → x ≡ get_or xs i x → x ≡ get_or xs i d
 read [] i x d lt e = absurd (omega arith)
@@ -48,68 +43,62 @@ set_more s row x y by lt is e r = elim (same_or_other r row) [
   | inr other ↦ rw (get_or-set_other s row r y (pos 0) other, unequal row r (λ h. other (sym h))) (omega (arith, ints))
 ]
 
-lost_of : (ts rest : List Loss) (l : Loss) (r : ℕ) → ts ≡ l ∷ rest → lost ts r ≡ where_set (nat_eq l.row r) (pos l.by) +ℤ lost rest r
-lost_of ts rest l r e = ap (λ (us : List Loss). lost us r) e
-
-where_least : (b : Bool) (n : ℕ) → pos 0 ≤ℤ where_set b (pos n)
-where_least true n = omega (arith, ints)
-where_least false n = omega (arith, ints)
-
--- so far the number fell from where it began, and has not passed its end
-pub record Falls (all ts : List Loss) (r : ℕ) (from now : ℤ) : Type 0 where
-  pub sums : now -ℤ lost ts r ≡ from -ℤ lost all r
+-- so far the number fell from where it began by all that is lost but for what is left to lose
+pub record Falls (all left from now : ℤ) : Type 0 where
+  pub sums : now -ℤ left ≡ from -ℤ all
   pub below : now ≤ℤ from
 
-pub falls_none : (all : List Loss) (r : ℕ) (from : ℤ) → Falls all all r from from
-falls_none all r from = record { sums = refl; below = omega (arith, ints) }
+pub falls_none : (all from : ℤ) → Falls all all from from
+falls_none all from = record { sums = refl; below = omega (arith, ints) }
 
-pub falls_more : (all ts rest : List Loss) (l : Loss) (r : ℕ) (from now new : ℤ) → ts ≡ l ∷ rest → Falls all ts r from now → new ≡ now -ℤ where_set (nat_eq l.row r) (pos l.by) → Falls all rest r from new
-falls_more all ts rest l r from now new is h e =
-    let s : now -ℤ lost ts r ≡ from -ℤ lost all r = h.sums in
+pub falls_more : (all left this rest from now new : ℤ) → left ≡ this +ℤ rest → pos 0 ≤ℤ this → Falls all left from now → new ≡ now -ℤ this → Falls all rest from new
+falls_more all left this rest from now new is least h e =
+    let s : now -ℤ left ≡ from -ℤ all = h.sums in
     let b : now ≤ℤ from = h.below in
-    let k = lost_of ts rest l r is in
-    let w = where_least (nat_eq l.row r) l.by in
-    record { sums = omega (arith, ints, k); below = omega (arith, ints, w) }
+    record { sums = omega (arith, ints); below = omega (arith, ints) }
 
-pub falls_end : (all ts : List Loss) (r : ℕ) (from now : ℤ) → ts ≡ [] → Falls all ts r from now → now ≡ from -ℤ lost all r
-falls_end all ts r from now is h =
-    let s : now -ℤ lost ts r ≡ from -ℤ lost all r = h.sums in
-    let k : lost ts r ≡ pos 0 = ap (λ (us : List Loss). lost us r) is in
+pub falls_end : (all left from now : ℤ) → left ≡ pos 0 → Falls all left from now → now ≡ from -ℤ all
+falls_end all left from now is h = let s : now -ℤ left ≡ from -ℤ all = h.sums in omega (arith, ints)
+
+pub falls_room : (all left from now : ℤ) → Falls all left from now → pos 0 ≤ℤ left → unsigned_abs from ≤ 2 ^ 38 → unsigned_abs (from -ℤ all) ≤ 2 ^ 38 → unsigned_abs now ≤ 2 ^ 38
+falls_room all left from now h least first last =
+    let s : now -ℤ left ≡ from -ℤ all = h.sums in
+    let b : now ≤ℤ from = h.below in
     omega (arith, ints)
 
-pub falls_room : (all ts : List Loss) (r : ℕ) (from now : ℤ) → Falls all ts r from now → unsigned_abs from ≤ 2 ^ 38 → unsigned_abs (from -ℤ lost all r) ≤ 2 ^ 38 → unsigned_abs now ≤ 2 ^ 39
-falls_room all ts r from now h first last =
-    let s : now -ℤ lost ts r ≡ from -ℤ lost all r = h.sums in
+-- and there is room for a part of what is left
+pub falls_part : (all left this rest from now : ℤ) → left ≡ this +ℤ rest → pos 0 ≤ℤ this → pos 0 ≤ℤ rest → Falls all left from now → unsigned_abs from ≤ 2 ^ 38 → unsigned_abs (from -ℤ all) ≤ 2 ^ 38 → unsigned_abs (now -ℤ this) ≤ 2 ^ 38
+falls_part all left this rest from now is low least h first last =
+    let s : now -ℤ left ≡ from -ℤ all = h.sums in
     let b : now ≤ℤ from = h.below in
-    let w : pos 0 ≤ℤ lost ts r = lost_least ts r in
     omega (arith, ints)
 
-pub record Rises (all ts : List Loss) (r : ℕ) (from now : ℤ) : Type 0 where
-  pub sums : now +ℤ lost ts r ≡ from +ℤ lost all r
+pub record Rises (all left from now : ℤ) : Type 0 where
+  pub sums : now +ℤ left ≡ from +ℤ all
   pub above : from ≤ℤ now
 
-pub rises_none : (all : List Loss) (r : ℕ) (from : ℤ) → Rises all all r from from
-rises_none all r from = record { sums = refl; above = omega (arith, ints) }
+pub rises_none : (all from : ℤ) → Rises all all from from
+rises_none all from = record { sums = refl; above = omega (arith, ints) }
 
-pub rises_more : (all ts rest : List Loss) (l : Loss) (r : ℕ) (from now new : ℤ) → ts ≡ l ∷ rest → Rises all ts r from now → new ≡ now +ℤ where_set (nat_eq l.row r) (pos l.by) → Rises all rest r from new
-rises_more all ts rest l r from now new is h e =
-    let s : now +ℤ lost ts r ≡ from +ℤ lost all r = h.sums in
+pub rises_more : (all left this rest from now new : ℤ) → left ≡ this +ℤ rest → pos 0 ≤ℤ this → Rises all left from now → new ≡ now +ℤ this → Rises all rest from new
+rises_more all left this rest from now new is least h e =
+    let s : now +ℤ left ≡ from +ℤ all = h.sums in
     let b : from ≤ℤ now = h.above in
-    let k = lost_of ts rest l r is in
-    let w = where_least (nat_eq l.row r) l.by in
-    record { sums = omega (arith, ints, k); above = omega (arith, ints, w) }
+    record { sums = omega (arith, ints); above = omega (arith, ints) }
 
-pub rises_end : (all ts : List Loss) (r : ℕ) (from now : ℤ) → ts ≡ [] → Rises all ts r from now → now ≡ from +ℤ lost all r
-rises_end all ts r from now is h =
-    let s : now +ℤ lost ts r ≡ from +ℤ lost all r = h.sums in
-    let k : lost ts r ≡ pos 0 = ap (λ (us : List Loss). lost us r) is in
+pub rises_end : (all left from now : ℤ) → left ≡ pos 0 → Rises all left from now → now ≡ from +ℤ all
+rises_end all left from now is h = let s : now +ℤ left ≡ from +ℤ all = h.sums in omega (arith, ints)
+
+pub rises_room : (all left from now : ℤ) → Rises all left from now → pos 0 ≤ℤ left → unsigned_abs from ≤ 2 ^ 38 → unsigned_abs (from +ℤ all) ≤ 2 ^ 38 → unsigned_abs now ≤ 2 ^ 38
+rises_room all left from now h least first last =
+    let s : now +ℤ left ≡ from +ℤ all = h.sums in
+    let b : from ≤ℤ now = h.above in
     omega (arith, ints)
 
-pub rises_room : (all ts : List Loss) (r : ℕ) (from now : ℤ) → Rises all ts r from now → unsigned_abs from ≤ 2 ^ 38 → unsigned_abs (from +ℤ lost all r) ≤ 2 ^ 38 → unsigned_abs now ≤ 2 ^ 39
-rises_room all ts r from now h first last =
-    let s : now +ℤ lost ts r ≡ from +ℤ lost all r = h.sums in
+pub rises_part : (all left this rest from now : ℤ) → left ≡ this +ℤ rest → pos 0 ≤ℤ this → pos 0 ≤ℤ rest → Rises all left from now → unsigned_abs from ≤ 2 ^ 38 → unsigned_abs (from +ℤ all) ≤ 2 ^ 38 → unsigned_abs (now +ℤ this) ≤ 2 ^ 38
+rises_part all left this rest from now is low least h first last =
+    let s : now +ℤ left ≡ from +ℤ all = h.sums in
     let b : from ≤ℤ now = h.above in
-    let w : pos 0 ≤ℤ lost ts r = lost_least ts r in
     omega (arith, ints)
 
 -- ## Rows that wait
@@ -267,9 +256,9 @@ quiet_rests m b s lists h rests none r has =
     any_default (x ∷ xs) zero d e lt = refl
     any_default (x ∷ xs) (suc i) d e lt = any_default xs i d e (omega arith)
 
-pub holds_still : (m : Voyage) (b : Box) (old new : Slacks) → Holds m b old → new.slack ≡ old.slack → length new.waits.items ≡ length old.waits.items → Holds m b new
-holds_still m b old new h same len = record {
+pub holds_still : (m : Voyage) (b : Box) (old new : Slacks) → Holds m b old → new.slack ≡ old.slack → length new.waits.items ≡ length old.waits.items → new.waiting ≡ waiting_in new.waits.items → Holds m b new
+holds_still m b old new h same len counted = record {
   whole = h.whole;
-  short = record { slacks = ap (λ s. length s.items) same ∙ h.short.slacks; marks = len ∙ h.short.marks };
+  short = record { slacks = ap (λ s. length s.items) same ∙ h.short.slacks; marks = len ∙ h.short.marks; count = counted };
   slack = λ k lt. ap (λ s. number_at s.items k) same ∙ h.slack k lt;
 }

@@ -1,5 +1,5 @@
 -- What holds of the parts of a kept box. No public clause cites this module.
-use Rattle.std.specs.Prelude.{◌≡◌, ◌⊎◌, ℕ, ◌+◌, ◌*◌, ◌<◌, ◌≤◌, Bool, true, false, All, List, [], ◌∷◌, None, length, slice_index_or, vec_capacity, ℤ, pos, ◌≤ℤ◌}
+use Rattle.std.specs.Prelude.{◌≡◌, ◌⊎◌, ℕ, ◌+◌, ◌*◌, ◌<◌, ◌≤◌, true, false, All, None, length, slice_index_or, vec_capacity, ℤ, pos, ◌≤ℤ◌}
 use Rattle.std.specs.Int.RustNames.{unsigned_abs}
 use Rattle.proof_trees.specs.Boxes.{Box, at}
 use Rattle.zero_one_rows.specs.Variables.{Voyage, variables}
@@ -9,14 +9,8 @@ use Rattle.partial_plan.specs.Forced.{forces}
 use Rattle.partial_plan.specs.Tightening.{IsQuiet}
 use Rattle.kept_box.specs.declared.slacks.Slacks.{Slacks}
 use Rattle.kept_box.specs.declared.desk.Desk.{Desk}
-use Rattle.kept_box.specs.Terms.{count, row_at, slack_in}
-use Rattle.kept_box.specs.Waiting.{number_at, waits_at, IsShort}
-
--- how many rows wait
-abbrev pub waiting_in : List Bool → ℕ
-waiting_in [] = 0
-waiting_in (true ∷ ws) = waiting_in ws + 1
-waiting_in (false ∷ ws) = waiting_in ws
+use Rattle.base_matrix.specs.Terms.{count, row_at, slack_in}
+use Rattle.kept_box.specs.Waiting.{number_at, waits_at, waiting_in, IsShort}
 
 -- what is still to be done
 abbrev pub work : Voyage → Desk → ℕ

@@ -7,7 +7,7 @@ use Rattle.partial_plan.specs.declared.tightening.Tightened.{Tightened}
 use Rattle.partial_plan.specs.declared.tightening.Tightened.TheVariants.{Quiet, Violated, NoMemory}
 use Rattle.partial_plan.specs.Forced.{forces}
 use Rattle.partial_plan.specs.Tightening.{IsQuiet}
-use Rattle.kept_box.specs.declared.terms.Term.{Term}
+use Rattle.base_matrix.specs.declared.entries.Term.{Term}
 
 -- a row of these terms with this slack forces none of its variables, or one
 abbrev pub NoneForced : Box → ℤ → List Term → Type 0

@@ -1,5 +1,5 @@
 -- Slacks by row, and rows that wait. No public clause cites this module.
-use Rattle.std.specs.Prelude.{◌≡◌, ◌⊎◌, ℕ, Bool, false, List, length, slice_index_or, ℤ, pos, ◌≤ℤ◌}
+use Rattle.std.specs.Prelude.{◌≡◌, ◌⊎◌, ℕ, ◌+◌, Bool, true, false, List, [], ◌∷◌, length, slice_index_or, ℤ, pos, ◌≤ℤ◌}
 use Rattle.kept_box.specs.declared.slacks.Slacks.{Slacks}
 
 abbrev pub number_at : List ℤ → ℕ → ℤ
@@ -9,10 +9,17 @@ number_at s r = slice_index_or s r (pos 0)
 abbrev pub waits_at : List Bool → ℕ → Bool
 waits_at w r = slice_index_or w r false
 
--- slacks and marks of n rows
+-- how many rows wait
+abbrev pub waiting_in : List Bool → ℕ
+waiting_in [] = 0
+waiting_in (true ∷ ws) = waiting_in ws + 1
+waiting_in (false ∷ ws) = waiting_in ws
+
+-- slacks and marks of n rows, and how many of them wait
 pub record IsShort (s : Slacks) (n : ℕ) : Type 0 where
   pub slacks : length s.slack.items ≡ n
   pub marks : length s.waits.items ≡ n
+  pub count : s.waiting ≡ waiting_in s.waits.items
 
 -- a row that doesn't wait now didn't wait before, and its slack is the same or no coefficient passes it
 abbrev pub Marked : List ℕ → Slacks → Slacks → Type 0

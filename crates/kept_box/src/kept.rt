@@ -1,26 +1,28 @@
 //! A box with its slacks.
-ghost use Rattle.std.specs.Prelude.{◌≡◌, ℕ, ◌<◌, ◌≤◌, ◌++◌, ◌∷◌, [], List, All, IfOk, None, Some, length, replicate, slice_get, take, true};
-ghost use Rattle.proof_trees.specs.Boxes.{fixed, violated};
+ghost use Rattle.std.specs.Prelude.{◌≡◌, ℕ, ◌<◌, ◌≤◌, ◌++◌, ◌∷◌, [], List, All, IfOk, OnOk, None, Some, length, replicate, slice_get, take, true};
+ghost use Rattle.proof_trees.specs.Boxes.{fixed, tight, violated};
 ghost use Rattle.zero_one_rows.specs.declared.program.Row.{Row};
 ghost use Rattle.zero_one_rows.specs.Variables.{variables};
 ghost use Rattle.zero_one_rows.specs.Rows.{base, whole};
+ghost use Rattle.program_rows.specs.Counted.{base_rows};
 ghost use Rattle.partial_plan.specs.Fixing.{Fixes, released};
 ghost use Rattle.partial_plan.specs.Tightening.{IsQuiet, Tightens};
 
 use crate::desk::Desk;
-use crate::matrix::BaseMatrix;
 use crate::slacks::Slacks;
+use base_matrix::{BaseMatrix, Term};
 use partial_plan::Tightened;
 use std::alloc::Global;
 use stow_data::{NoMemory, VarNo};
 use zero_one_model::Box01;
 use zero_one_rows::RowList;
 
-/// A box of a program's variables with the variables that were fixed in order, which keeps by how much each base row is met. Contracts see the voyage, the box and what was fixed.
+/// A box of a program's variables with the variables that were fixed in order, which keeps by how much each base row is met, and room for the terms of one row. Contracts see the voyage, the box and what was fixed.
 #[derive(Drop)]
 pub struct KeptBox<'a> {
     matrix: &'a BaseMatrix<'a>,
     desk: Desk,
+    terms: Vec<Term>,
 }
 
 impl<'a> std::marker::Model for KeptBox<'a> {
@@ -41,7 +43,11 @@ impl<'a> KeptBox<'a> {
         ensures { IfOk result (λ k. k ≡ record { voyage = matrix.now; known = replicate (length (variables matrix.now)) None; undo = [] }) }
     {
         let desk = Desk::free(alloc, matrix)?;
-        Ok(KeptBox { matrix, desk })
+        Ok(KeptBox {
+            matrix,
+            desk,
+            terms: Vec::new(alloc),
+        })
     }
 
     /// The box has each variable of the program, and what was fixed is of them: a law, which costs nothing when it runs.
@@ -74,6 +80,16 @@ impl<'a> KeptBox<'a> {
         self.desk.fix(self.matrix, x, value);
     }
 
+    /// Fixes all variables that the base row with this number forces, at once; a violated row fixes nothing. Where memory is wanting, nothing is fixed.
+    pub fn force(&mut self, k: usize) -> Result<(), NoMemory>
+        requires { k < length (base_rows self.old.voyage) }
+        ensures same { self.new.voyage ≡ self.old.voyage }
+        ensures tight { OnOk result ((r : Row) → slice_get (base_rows self.old.voyage) k ≡ Some r → self.new.known ≡ tight (whole self.old.voyage) self.old.known r) }
+        ensures noted { (xs : List ℕ) × (self.new.undo ≡ self.old.undo ++ xs) × Fixes self.old.known self.new.known xs }
+    {
+        self.desk.force(self.matrix, &mut self.terms, k)
+    }
+
     /// Frees what was fixed past a place of the list. It takes no memory.
     pub fn undo_to(&mut self, to: usize)
         requires { to ≤ length self.old.undo }
@@ -90,6 +106,6 @@ impl<'a> KeptBox<'a> {
         ensures quiet { result ≡ Tightened.Quiet → IsQuiet self.old.voyage self.new.known }
         ensures violated { (r : Row) → result ≡ Tightened.Violated r → ((base self.old.voyage).has r ≡ true) × (violated (whole self.old.voyage) self.new.known r ≡ true) }
     {
-        self.desk.tighten(self.matrix, steps)
+        self.desk.tighten(self.matrix, &mut self.terms, steps)
     }
 }

@@ -1,14 +1,12 @@
 //! A box that is kept from node to node of a search: what it fixes can be taken back, and tightening looks only at rows that may force something.
 #![tactic(auto)]
 
-mod base_terms;
 mod desk;
 mod kept;
 mod looking;
-mod losses;
-mod matrix;
+mod loose;
 mod slacks;
-mod terms;
 
+pub use base_matrix::BaseMatrix;
 pub use kept::KeptBox;
-pub use matrix::BaseMatrix;
+pub use loose::LooseBox;

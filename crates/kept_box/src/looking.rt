@@ -1,5 +1,5 @@
 //! Rows that are looked at until none forces anything.
-ghost use Rattle.std.specs.Prelude.{◌≡◌, ℕ, ◌+◌, ◌<◌, ◌≤◌, ◌++◌, List, All, IfNone, IfSome, None, length, slice_index_or, true, false, pos, ◌≤ℤ◌, cond};
+ghost use Rattle.std.specs.Prelude.{◌≡◌, ℕ, ◌+◌, ◌<◌, ◌≤◌, ◌++◌, List, All, IfNone, IfSome, None, OnOk, length, slice_index_or, true, false, pos, ◌≤ℤ◌, cond};
 ghost use Rattle.proof_trees.specs.Boxes.{at, tight, violated};
 ghost use Rattle.zero_one_rows.specs.declared.program.Row.{Row};
 ghost use Rattle.zero_one_rows.specs.Variables.{variables};
@@ -7,16 +7,16 @@ ghost use Rattle.zero_one_rows.specs.Rows.{base, whole};
 ghost use Rattle.partial_plan.specs.Fixing.{Fixes};
 ghost use Rattle.partial_plan.specs.Forced.{forces, is_above, stepped};
 ghost use Rattle.partial_plan.specs.Tightening.{IsQuiet, Tightens};
-ghost use Rattle.kept_box.specs.Terms.{count, row_at, slack_in};
+ghost use Rattle.base_matrix.specs.Terms.{count, row_at, slack_in, AreTerms};
 ghost use Rattle.kept_box.specs.Waiting.{waits_at};
-ghost use Rattle.kept_box.specs.Desk.{IsDesk, Marks, Rests, work};
+ghost use Rattle.kept_box.specs.Desk.{IsDesk, IsWide, Marks, Rests, work};
 ghost use Rattle.kept_box.specs.Looking.{AnyForced, Ends, NoneForced};
 
 use crate::desk::Desk;
-use crate::matrix::BaseMatrix;
-use crate::terms::Term;
+use base_matrix::{BaseMatrix, Term};
 use partial_plan::Tightened;
 use program_rows::rows_are_listed;
+use stow_data::NoMemory;
 use zero_one_model::Box01;
 use zero_one_rows::RowList;
 
@@ -24,7 +24,7 @@ use zero_one_rows::RowList;
 fn is_forced(allowed: Option<bool>, slack: i64, by: i32) -> bool
     ensures { result ≡ forces slack allowed by }
 {
-    allowed.is_none() && slack < i64::from(by.unsigned_abs())
+    allowed.is_none() && (slack as i128) < by.unsigned_abs() as i128
 }
 
 // Whether a row with this slack forces one of its variables.
@@ -39,6 +39,14 @@ fn forces_any(b: &Box01, terms: &[Term], slack: i64) -> bool
         }
     }
     false
+}
+
+// Whether no coefficient of a base row passes this slack.
+fn is_wide(matrix: &BaseMatrix, k: usize, slack: i64) -> bool
+    requires { k < count matrix.now }
+    ensures { result ≡ true → IsWide matrix.now slack k }
+{
+    slack >= i64::from(matrix.tops()[k])
 }
 
 impl Desk {
@@ -57,10 +65,11 @@ impl Desk {
         self.fix(matrix, term.at, term.by > 0);
     }
 
-    // Fixes all that a base row with this slack forces.
-    fn fix_all(&mut self, matrix: &BaseMatrix, k: usize, slack: i64)
+    // Fixes all that a base row of these terms with this slack forces.
+    fn fix_all(&mut self, matrix: &BaseMatrix, k: usize, terms: &[Term], slack: i64)
         requires desk { IsDesk matrix.now self.old }
         requires row { k < count matrix.now }
+        requires terms { AreTerms matrix.now (row_at matrix.now k) terms.now }
         requires slack { slack ≡ slack_in matrix.now self.old.b k }
         requires met { pos 0 ≤ℤ slack }
         ensures desk { IsDesk matrix.now self.new }
@@ -68,13 +77,83 @@ impl Desk {
         ensures noted { (xs : List ℕ) × (self.new.undo.items ≡ self.old.undo.items ++ xs) × Fixes self.old.b self.new.b xs }
         ensures marks { Marks matrix.now self.old.slacks self.new.slacks }
     {
-        for term in matrix.terms(k) {
+        for term in terms {
             self.fix_term(matrix, term, slack);
         }
     }
 
-    // Looks at a row that waits; what it answers ends tightening.
-    fn look(&mut self, matrix: &BaseMatrix, steps: &mut RowList, k: usize) -> Option<Tightened>
+    // Fixes all that a base row forces, at once; a violated row fixes nothing. Its terms are listed where they aren't written out; where memory is wanting for that, nothing is fixed.
+    pub(crate) fn force(
+        &mut self,
+        matrix: &BaseMatrix,
+        terms: &mut Vec<Term>,
+        k: usize,
+    ) -> Result<(), NoMemory>
+        requires desk { IsDesk matrix.now self.old }
+        requires row { k < count matrix.now }
+        ensures desk { IsDesk matrix.now self.new }
+        ensures known { OnOk result (self.new.b ≡ tight (whole matrix.now) self.old.b (row_at matrix.now k)) }
+        ensures noted { (xs : List ℕ) × (self.new.undo.items ≡ self.old.undo.items ++ xs) × Fixes self.old.b self.new.b xs }
+        ensures marks { Marks matrix.now self.old.slacks self.new.slacks }
+    {
+        let slack = self.slacks.slack[k];
+        if slack < 0 {
+            return Ok(());
+        }
+        if let Some(terms) = matrix.written_terms(k) {
+            self.fix_all(matrix, k, terms, slack);
+            return Ok(());
+        }
+        matrix.terms(k, terms)?;
+        self.fix_all(matrix, k, terms.as_slice(), slack);
+        Ok(())
+    }
+
+    // Looks at a row of these terms that waits and is met; what it answers ends tightening.
+    fn look_among(
+        &mut self,
+        matrix: &BaseMatrix,
+        terms: &[Term],
+        steps: &mut RowList,
+        k: usize,
+        slack: i64,
+    ) -> Option<Tightened>
+        requires desk { IsDesk matrix.now self.old }
+        requires rests { Rests matrix.now self.old.b self.old.slacks }
+        requires row { k < count matrix.now }
+        requires waits { waits_at self.old.slacks.waits.items k ≡ true }
+        requires terms { AreTerms matrix.now (row_at matrix.now k) terms.now }
+        requires slack { slack ≡ slack_in matrix.now self.old.b k }
+        requires met { pos 0 ≤ℤ slack }
+        ensures desk { IsDesk matrix.now self.new }
+        ensures rests { Rests matrix.now self.new.b self.new.slacks }
+        ensures steps { Tightens matrix.now self.old.b self.new.b steps.old steps.new }
+        ensures noted { (xs : List ℕ) × (self.new.undo.items ≡ self.old.undo.items ++ xs) × Fixes self.old.b self.new.b xs }
+        ensures less { IfNone result (work matrix.now self.new < work matrix.now self.old) }
+        ensures ends { IfSome result (Ends matrix.now self.new.b) }
+    {
+        if !forces_any(&self.b, terms, slack) {
+            self.slacks.clear(k);
+            return None;
+        }
+        match steps.push(matrix.row(k)) {
+            Ok(()) => {
+                self.slacks.clear(k);
+                self.fix_all(matrix, k, terms, slack);
+                None
+            }
+            Err(_) => Some(Tightened::NoMemory),
+        }
+    }
+
+    // Looks at a row that waits, whose terms it lists where one may be forced and they aren't written out; what it answers ends tightening.
+    fn look(
+        &mut self,
+        matrix: &BaseMatrix,
+        terms: &mut Vec<Term>,
+        steps: &mut RowList,
+        k: usize,
+    ) -> Option<Tightened>
         requires desk { IsDesk matrix.now self.old }
         requires rests { Rests matrix.now self.old.b self.old.slacks }
         requires row { k < count matrix.now }
@@ -88,24 +167,29 @@ impl Desk {
     {
         let slack = self.slacks.slack[k];
         if slack < 0 {
+            self.slacks.hint(k);
             return Some(Tightened::Violated(matrix.row(k)));
         }
-        if !forces_any(&self.b, matrix.terms(k), slack) {
+        if is_wide(matrix, k, slack) {
             self.slacks.clear(k);
             return None;
         }
-        match steps.push(matrix.row(k)) {
-            Ok(()) => {
-                self.slacks.clear(k);
-                self.fix_all(matrix, k, slack);
-                None
-            }
+        if let Some(terms) = matrix.written_terms(k) {
+            return self.look_among(matrix, terms, steps, k, slack);
+        }
+        match matrix.terms(k, terms) {
+            Ok(()) => self.look_among(matrix, terms.as_slice(), steps, k, slack),
             Err(_) => Some(Tightened::NoMemory),
         }
     }
 
     // Looks at rows that wait until none is left, or one is violated.
-    pub(crate) fn tighten(&mut self, matrix: &BaseMatrix, steps: &mut RowList) -> Tightened
+    pub(crate) fn tighten(
+        &mut self,
+        matrix: &BaseMatrix,
+        terms: &mut Vec<Term>,
+        steps: &mut RowList,
+    ) -> Tightened
         requires desk { IsDesk matrix.now self.old }
         requires rests { Rests matrix.now self.old.b self.old.slacks }
         ensures desk { IsDesk matrix.now self.new }
@@ -115,7 +199,7 @@ impl Desk {
         ensures ends { Ends matrix.now self.new.b result }
     {
         while let Some(k) = self.slacks.next() {
-            if let Some(end) = self.look(matrix, steps, k) {
+            if let Some(end) = self.look(matrix, terms, steps, k) {
                 return end;
             }
         }

@@ -1,5 +1,5 @@
 //! Nodes in one list, and their order.
-ghost use Rattle.std.specs.Prelude.{◌≡◌, ◌++◌, IfOk, OnOk, map};
+ghost use Rattle.std.specs.Prelude.{◌≡◌, ◌++◌, IfOk, OnErr, OnOk, map};
 ghost use Rattle.std.specs.List.Sorted.{IsPermutation};
 ghost use Rattle.node_ledger.specs.Gathered.{entries};
 ghost use Rattle.node_ledger.specs.Preorder.{by_preorder, InPreorder, left_node};
@@ -19,12 +19,33 @@ fn compare_paths(a: &[bool], b: &[bool]) -> Ordering
         .cmp(b.iter().map(|value| !*value))
 }
 
-/// Sorts nodes into the order of a tree.
-pub fn sort_nodes(nodes: &mut Vec<Entry>)
+/// Sorts nodes into the order of a tree by runs that are in order: nearly all of a journal is in a few of them, since a worker goes down before it turns.
+fn sort_by_runs(nodes: &mut Vec<Entry>) -> Result<(), NoMemory>
+    ensures same { IsPermutation nodes.old.items nodes.new.items }
+    ensures order { OnOk result (InPreorder nodes.new.items) }
+    ensures stays { OnErr result (nodes.new.items ≡ nodes.old.items) }
+{
+    nodes.sort_by(|a, b| compare_paths(a.path.as_slice(), b.path.as_slice()))?;
+    Ok(())
+}
+
+/// Sorts nodes into the order of a tree. It takes no memory.
+fn sort_in_place(nodes: &mut Vec<Entry>)
     ensures same { IsPermutation nodes.old.items nodes.new.items }
     ensures order { InPreorder nodes.new.items }
 {
     nodes.sort_unstable_by(|a, b| compare_paths(a.path.as_slice(), b.path.as_slice()));
+}
+
+/// Sorts nodes into the order of a tree: by runs, while there is memory for it.
+pub fn sort_nodes(nodes: &mut Vec<Entry>)
+    ensures same { IsPermutation nodes.old.items nodes.new.items }
+    ensures order { InPreorder nodes.new.items }
+{
+    match sort_by_runs(nodes) {
+        Ok(()) => (),
+        Err(NoMemory) => sort_in_place(nodes),
+    }
 }
 
 /// Appends a journal's entries.

@@ -11,4 +11,5 @@ pub mod Standing
 pub mod Sameness
 pub mod Walks
 pub mod Leading
+pub mod Lowering
 pub mod Pricing

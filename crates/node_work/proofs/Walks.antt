@@ -1,7 +1,7 @@
 -- A walk to a node: its trail cut at a depth, and the frames of a kept box as its first records.
 use Rattle.std.proofs.Common.{◌≡◌, ℕ, zero, suc, ◌+◌, ◌<◌, ◌≤◌, Bool, true, false, All, List, [], ◌∷◌, ◌++◌, length, take, drop, map, get_or, refl, sym, subst, ◌∙◌, ap, arith, length-append}
-use Rattle.std.proofs.lemmas.List.{length-take-le, take_more, map-append, take-take, take_all}
-use Rattle.std.proofs.Math.Seq.{take-append_seam}
+use Rattle.std.proofs.lemmas.List.{length-take-le, length-map, take_more, map-append, take-take, take_all, get_or-take}
+use Rattle.std.proofs.Math.Seq.{take-append_seam, get_or-append_seam}
 use Rattle.zero_one_rows.specs.declared.program.Row.{Row}
 use Rattle.zero_one_rows.specs.Variables.{Voyage}
 use Rattle.zero_one_rows.specs.Rows.{whole}
@@ -80,3 +80,13 @@ turned_values frames fs gs f path k y is new lt values lt' here = joined_map val
 
 pub turned_entries : (frames fs gs : List Frame) (f : Frame) (y : Bool) → frames ≡ fs ++ f ∷ [] → gs ≡ fs ++ record f { value = y } ∷ [] → map entry_in gs ≡ map entry_in frames
 turned_entries frames fs gs f y is new = ap (map entry_in) new ∙ map-append entry_in fs (record f { value = y } ∷ []) ∙ sym (map-append entry_in fs (f ∷ [])) ∙ ap (map entry_in) (sym is)
+
+-- the deepest frame has the record at its place
+pub same_last : (frames fs : List Frame) (f : Frame) (trail : List Record) (k : ℕ) (r : Record) → map entry_in (take (k + 1) frames) ≡ take (k + 1) trail → take (k + 1) frames ≡ fs ++ f ∷ [] → k < length frames → k < length trail → r ≡ get_or trail k r → f.entry ≡ r
+same_last frames fs f trail k r same is lt lt' here =
+    let n : length (take (k + 1) frames) ≡ k + 1 = length-take-le (k + 1) frames (omega arith) in
+    let count : length fs ≡ k = omega (arith, n, ap (λ ys. length ys) is, length-append fs (f ∷ [])) in
+    let place : length (map entry_in fs) ≡ k = length-map fs entry_in ∙ count in
+    let e : map entry_in fs ++ f.entry ∷ [] ≡ take (k + 1) trail = sym (map-append entry_in fs (f ∷ [])) ∙ ap (map entry_in) (sym is) ∙ same in
+    sym (get_or-append_seam (map entry_in fs) f.entry [] r) ∙ ap (λ (rs : List Record). get_or rs (length (map entry_in fs)) r) e
+    ∙ ap (λ (j : ℕ). get_or (take (k + 1) trail) j r) place ∙ get_or-take (k + 1) trail k r (omega arith) ∙ sym here

@@ -4,9 +4,8 @@ use Rattle.zero_one_rows.specs.Variables.{Voyage}
 use Rattle.node_work.specs.declared.tables.Tables.TheInside.{Inside}
 
 abbrev pub voyage_of : Inside → Voyage
-voyage_of a = a.model.now
+voyage_of a = a.matrix.now
 
--- the tables are those of the program
-pub record AreTables (a : Inside) : Type 0 where
-  pub matrix : a.matrix ≡ a.model.now
-  pub rows : a.rows ≡ a.model.now
+-- the rows are those of the matrix
+abbrev pub AreTables : Inside → Type 0
+AreTables a = a.rows ≡ a.matrix.now

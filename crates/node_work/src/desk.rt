@@ -110,7 +110,7 @@ impl<'a> Desk<'a> {
         ensures { IfOk result (λ desk. desk ≡ tables.now) }
     {
         let stand = Stand::root(alloc, tables.matrix())?;
-        let scale = Scale::start(alloc, tables.model())?;
+        let scale = Scale::start(alloc, tables.matrix())?;
         Ok(Desk {
             tables,
             planner,

@@ -1,8 +1,8 @@
 //! How a kept box goes on by the steps and the branch of a record.
-ghost use Rattle.std.specs.Prelude.{◌≡◌, ℕ, ◌<◌, true, All, OnOk, List, ◌++◌, length};
-ghost use Rattle.proof_trees.specs.Boxes.{tightened};
-ghost use Rattle.zero_one_rows.specs.Variables.{variables};
+ghost use Rattle.std.specs.Prelude.{◌≡◌, ℕ, ◌<◌, true, All, IfSome, OnOk, List, ◌++◌, Some, length, slice_get};
+ghost use Rattle.proof_trees.specs.Boxes.{tight, tightened};
 ghost use Rattle.zero_one_rows.specs.Rows.{whole};
+ghost use Rattle.program_rows.specs.Counted.{base_rows};
 ghost use Rattle.certificate.specs.Entries.{end_of, number_of};
 ghost use Rattle.search_machine.specs.Journals.{divided};
 ghost use Rattle.search_machine.specs.Machine.{Divides};
@@ -15,7 +15,7 @@ use partial_plan::{UndoList, tighten_by};
 use std::alloc::Global;
 use stow_data::{NoMemory, VarNo};
 use zero_one_model::{Box01, Model};
-use zero_one_rows::Row;
+use zero_one_rows::{Row, RowList};
 
 // Fixes a variable as another box has it, where it is free.
 fn adopt_one(kept: &mut KeptBox, b: &Box01, x: VarNo)
@@ -46,23 +46,83 @@ fn adopt(kept: &mut KeptBox, b: &Box01, vars: &[VarNo])
     }
 }
 
-// Tightens a box by rows, in order, and notes what was fixed.
-fn tighten_noted(
+// Tightens a kept box by a row whose variables are looked up.
+fn tighten_looked_up(
     alloc: Global,
     model: &Model,
-    b: &mut Box01,
-    undo: &mut UndoList,
+    kept: &mut KeptBox,
+    row: &Row,
+) -> Result<(), NoMemory>
+    requires program { kept.old.voyage ≡ model.now }
+    requires row { (whole model.now).has row.now ≡ true }
+    ensures same { kept.new.voyage ≡ kept.old.voyage }
+    ensures tight { OnOk result (kept.new.known ≡ tight (whole model.now) kept.old.known row.now) }
+    ensures noted { (xs : List ℕ) × (kept.new.undo ≡ kept.old.undo ++ xs) × Fixes kept.old.known kept.new.known xs }
+{
+    kept.is_whole();
+    let mut b = kept.now().copy(alloc)?;
+    let mut fixed = UndoList::new(alloc);
+    tighten_by(alloc, model, &mut b, &mut fixed, row)?;
+    adopt(kept, &b, fixed.as_slice());
+    Ok(())
+}
+
+// The number of a row among the base rows, where it is one.
+fn base_number(model: &Model, row: &Row) -> Option<usize>
+    ensures inside { IfSome result (λ k. k < length (base_rows model.now)) }
+    ensures is { IfSome result (λ k. slice_get (base_rows model.now) k ≡ Some row.now) }
+{
+    let number = model.row_number(row)?;
+    if number < model.base_rows() {
+        Some(number as usize)
+    } else {
+        None
+    }
+}
+
+// Tightens a kept box by a row.
+fn tighten_one(alloc: Global, model: &Model, kept: &mut KeptBox, row: &Row) -> Result<(), NoMemory>
+    requires program { kept.old.voyage ≡ model.now }
+    requires row { (whole model.now).has row.now ≡ true }
+    ensures same { kept.new.voyage ≡ kept.old.voyage }
+    ensures tight { OnOk result (kept.new.known ≡ tight (whole model.now) kept.old.known row.now) }
+    ensures noted { (xs : List ℕ) × (kept.new.undo ≡ kept.old.undo ++ xs) × Fixes kept.old.known kept.new.known xs }
+{
+    match base_number(model, row) {
+        Some(number) => kept.force(number),
+        None => tighten_looked_up(alloc, model, kept, row),
+    }
+}
+
+// Tightens a kept box by rows, in order.
+fn tighten_each(
+    alloc: Global,
+    model: &Model,
+    kept: &mut KeptBox,
     steps: &[Row],
 ) -> Result<(), NoMemory>
-    requires whole { length b.old ≡ length (variables model.now) }
+    requires program { kept.old.voyage ≡ model.now }
     requires rows { All (λ r. (whole model.now).has r ≡ true) steps.now }
-    ensures tight { OnOk result (b.new ≡ tightened (whole model.now) b.old steps.now) }
-    ensures noted { (xs : List ℕ) × (undo.new ≡ undo.old ++ xs) × Fixes b.old b.new xs }
+    ensures same { kept.new.voyage ≡ kept.old.voyage }
+    ensures tight { OnOk result (kept.new.known ≡ tightened (whole model.now) kept.old.known steps.now) }
+    ensures noted { (xs : List ℕ) × (kept.new.undo ≡ kept.old.undo ++ xs) × Fixes kept.old.known kept.new.known xs }
 {
     for row in steps {
-        tighten_by(alloc, model, b, undo, row)?;
+        tighten_one(alloc, model, kept, row)?;
     }
     Ok(())
+}
+
+// Looks at the rows that wait, so that none waits where none forces anything: then going back to here rouses none. The box stays.
+fn settle(alloc: Global, kept: &mut KeptBox)
+    ensures { kept.new ≡ kept.old }
+{
+    let before = kept.fixed().len();
+    let mut steps = RowList::new(alloc);
+    let _ended = kept.tighten(&mut steps);
+    if kept.fixed().len() > before {
+        kept.undo_to(before);
+    }
 }
 
 /// Tightens a kept box by rows, in order.
@@ -78,14 +138,8 @@ pub fn retighten(
     ensures tight { OnOk result (kept.new.known ≡ tightened (whole model.now) kept.old.known steps.now) }
     ensures noted { (xs : List ℕ) × (kept.new.undo ≡ kept.old.undo ++ xs) × Fixes kept.old.known kept.new.known xs }
 {
-    if steps.is_empty() {
-        return Ok(());
-    }
-    kept.is_whole();
-    let mut b = kept.now().copy(alloc)?;
-    let mut fixed = UndoList::new(alloc);
-    tighten_noted(alloc, model, &mut b, &mut fixed, steps)?;
-    adopt(kept, &b, fixed.as_slice());
+    tighten_each(alloc, model, kept, steps)?;
+    settle(alloc, kept);
     Ok(())
 }
 

@@ -1,115 +1,31 @@
 //! Multipliers that are kept from node to node, with the dual value of a box.
-ghost use Rattle.std.specs.Prelude.{◌≡◌, ◌+◌, ◌≤◌, ◌<◌, true, All, List, IfOk, IfSome, OnOk, Some, [], ◌∷◌, ◌++◌, drop, length, map, slice_set};
+ghost use Rattle.std.specs.Prelude.{◌≡◌, ◌+◌, ◌≤◌, ◌<◌, true, All, IfOk, IfSome, OnOk, Some, [], length, map, slice_set, take};
 ghost use Rattle.proof_trees.specs.Multipliers.{Multipliers as Prices, raised, raised_all};
 ghost use Rattle.proof_trees.specs.Trees.{begun};
 ghost use Rattle.zero_one_rows.specs.declared.program.Row.{Row as Rows};
-ghost use Rattle.zero_one_rows.specs.declared.program.Raise.{Raise as Change};
 ghost use Rattle.zero_one_rows.specs.Variables.{variables};
 ghost use Rattle.zero_one_rows.specs.Rows.{whole};
 ghost use Rattle.certificate.specs.Entries.{same_row, raise_of};
 ghost use Rattle.dual_bound.specs.Raising.{Raises};
 ghost use Rattle.dual_bound.specs.Rising.{Ends};
 ghost use Rattle.node_work.specs.Starts.{priced, prices_along, InRange};
-ghost use Rattle.node_work.specs.Scales.{Leads, AreNamed, IsScale};
+ghost use Rattle.node_work.specs.Scales.{AreNamed, IsScale};
 
+use crate::stages::{Stage, lengthened, lower_to, stages_in_common};
 use certificate::Record;
 use dual_bound::{AddNo, Gauge, Raised, RowTable};
+use kept_box::BaseMatrix;
 use search_nodes::SharedRecord;
 use std::alloc::Global;
 use stow_data::{NoMemory, VarNo};
 use zero_one_model::{Box01, Model};
-use zero_one_rows::{Raise, RaiseList, Row};
+use zero_one_rows::{Raise, RaiseList};
 
-/// A gauge with the raises that led to its multipliers from none, where they are known.
+/// A gauge with the raises that led to its multipliers from none, stage by stage, where they are known.
 #[derive(Drop)]
 pub struct Scale<'a> {
     pub gauge: Gauge<'a>,
-    pub made: Option<RaiseList>,
-}
-
-// Whether two rows are the same.
-fn is_same_row(a: &Row, b: &Row) -> bool
-    ensures { result ≡ true → a.now ≡ b.now }
-{
-    a == b
-}
-
-// Whether two raises are the same.
-fn same_raise(a: &Raise, b: &Raise) -> bool
-    ensures { result ≡ true → a.now ≡ b.now }
-{
-    if a.amount != b.amount {
-        return false;
-    }
-    is_same_row(&a.row, &b.row)
-}
-
-// How far these raises stand in a list from a place on; None where others do.
-fn past(made: &[Raise], from: usize, raises: &[Raise]) -> Option<usize>
-    requires { from ≤ length made.now }
-    ensures inside { IfSome result (λ to. to ≤ length made.now) }
-    ensures there { IfSome result (λ to. drop from made.now ≡ raises.now ++ drop to made.now) }
-{
-    let mut at = from;
-    for raise in raises {
-        if at >= made.len() {
-            return None;
-        }
-        if !same_raise(&made[at], raise) {
-            return None;
-        }
-        at += 1;
-    }
-    Some(at)
-}
-
-// Whether these are the raises of records, none of which begins from none.
-fn leads_along(made: &[Raise], trail: &[SharedRecord]) -> bool
-    ensures { result ≡ true → Leads made.now trail.now }
-{
-    let mut at = 0;
-    for entry in trail {
-        let record = entry.record();
-        if record.from_zero {
-            return false;
-        }
-        match past(made, at, record.raises.as_slice()) {
-            Some(to) => at = to,
-            None => return false,
-        }
-    }
-    at == made.len()
-}
-
-// A copy of a raise.
-fn copy_raise(raise: &Raise) -> Result<Raise, NoMemory>
-    ensures { IfOk result (λ copy. copy ≡ raise.now) }
-{
-    Ok(Raise {
-        row: raise.row.clone()?,
-        amount: raise.amount,
-    })
-}
-
-// Copies more raises behind those of a list, while there is memory; else the list is left as it is.
-fn push_all(made: &mut RaiseList, more: &[Raise]) -> Result<(), NoMemory>
-    ensures { OnOk result (made.new ≡ made.old ++ more.now) }
-{
-    for raise in more {
-        made.push(copy_raise(raise)?)?;
-    }
-    Ok(())
-}
-
-// A list, where it is known, with more raises behind it; None where memory is wanting.
-fn lengthened(made: Option<RaiseList>, more: &[Raise]) -> Option<RaiseList>
-    ensures { IfSome result (λ list. (old : List Change) × (made ≡ Some old) × (list ≡ old ++ more.now)) }
-{
-    let mut list = made?;
-    match push_all(&mut list, more) {
-        Ok(()) => Some(list),
-        Err(NoMemory) => None,
-    }
+    pub stages: Option<Vec<Stage>>,
 }
 
 // One change of a row's multiplier.
@@ -184,13 +100,13 @@ fn set_vars(gauge: &mut Gauge, model: &Model, b: &Box01)
 
 impl<'a> Scale<'a> {
     /// The free box without multipliers.
-    pub fn start(alloc: Global, model: &'a Model<'a>) -> Result<Scale<'a>, NoMemory>
-        ensures { IfOk result (IsScale model.now) }
+    pub fn start(alloc: Global, matrix: &'a BaseMatrix<'a>) -> Result<Scale<'a>, NoMemory>
+        ensures { IfOk result (IsScale matrix.now) }
     {
-        let b = Box01::free(alloc, model)?;
+        let b = Box01::free(alloc, matrix.model())?;
         Ok(Scale {
-            gauge: Gauge::start(alloc, model, b)?,
-            made: Some(RaiseList::new(alloc)),
+            gauge: Gauge::start_over(alloc, matrix, b)?,
+            stages: Some(Vec::new(alloc)),
         })
     }
 
@@ -205,6 +121,16 @@ impl<'a> Scale<'a> {
         set_vars(&mut self.gauge, model, b);
     }
 
+    // Leaves no row a multiplier.
+    fn clear(&mut self, alloc: Global, model: &Model)
+        requires scale { IsScale model.now self.old }
+        ensures scale { IsScale model.now self.new }
+        ensures prices { self.new.gauge.multipliers ≡ [] }
+    {
+        self.gauge.clear(alloc);
+        self.stages = Some(Vec::new(alloc));
+    }
+
     // With what a record's raises begin: the multipliers, or none.
     fn begin(&mut self, alloc: Global, model: &Model, from_zero: bool)
         requires scale { IsScale model.now self.old }
@@ -212,8 +138,7 @@ impl<'a> Scale<'a> {
         ensures prices { self.new.gauge.multipliers ≡ begun from_zero self.old.gauge.multipliers }
     {
         if from_zero {
-            self.gauge.clear(alloc);
-            self.made = Some(RaiseList::new(alloc));
+            self.clear(alloc, model);
         }
     }
 
@@ -233,15 +158,17 @@ impl<'a> Scale<'a> {
         ensures priced { OnOk result (priced self.old.gauge.multipliers entry.now ≡ Some self.new.gauge.multipliers) }
     {
         self.begin(alloc, model, entry.from_zero);
-        let raises = entry.raises.as_slice();
-        let made = self.made.take();
+        let list = entry.raises.to_list(alloc)?;
+        let raises = list.as_slice();
+        let before = self.gauge.multipliers().len();
+        let stages = self.stages.take();
         reraise(alloc, table, &mut self.gauge, raises)?;
-        self.made = lengthened(made, raises);
+        self.stages = lengthened(alloc, stages, raises, before);
         Ok(())
     }
 
-    // Begins from no multipliers, and goes on by the raises of records.
-    fn begin_anew(
+    // Goes on by the raises of records.
+    fn follow(
         &mut self,
         alloc: Global,
         model: &Model,
@@ -251,29 +178,61 @@ impl<'a> Scale<'a> {
         requires table { table.now ≡ model.now }
         requires scale { IsScale model.now self.old }
         requires rows { AreNamed model.now trail.now }
-        requires range { InRange [] trail.now }
+        requires range { InRange self.old.gauge.multipliers trail.now }
         ensures scale { IsScale model.now self.new }
-        ensures prices { OnOk result (self.new.gauge.multipliers ≡ prices_along [] trail.now) }
+        ensures prices { OnOk result (self.new.gauge.multipliers ≡ prices_along self.old.gauge.multipliers trail.now) }
     {
-        self.gauge.clear(alloc);
-        self.made = Some(RaiseList::new(alloc));
         for entry in trail {
             self.go_on(alloc, model, table, entry.record())?;
         }
         Ok(())
     }
 
-    // Whether the multipliers are known to be those after these records.
-    fn stands_at(&self, trail: &[SharedRecord]) -> bool
-        ensures { result ≡ true → (made : List Change) × (self.now.made ≡ Some made) × Leads made trail.now }
+    // Takes back the stages that aren't those of the first records. None where memory is wanting, or the stages aren't known.
+    fn take_back(
+        &mut self,
+        alloc: Global,
+        model: &Model,
+        table: &RowTable,
+        trail: &[SharedRecord],
+    ) -> Option<usize>
+        requires table { table.now ≡ model.now }
+        requires scale { IsScale model.now self.old }
+        ensures scale { IsScale model.now self.new }
+        ensures records { IfSome result (λ depth. depth ≤ length trail.now) }
+        ensures prices { IfSome result (λ depth. self.new.gauge.multipliers ≡ prices_along [] (take depth trail.now)) }
     {
-        match &self.made {
-            Some(made) => leads_along(made.as_slice(), trail),
-            None => false,
+        let stages = self.stages.take()?;
+        let depth = stages_in_common(stages.as_slice(), trail);
+        let left = lower_to(alloc, model, table, &mut self.gauge, stages, depth)?;
+        self.stages = Some(left);
+        Some(depth)
+    }
+
+    // Goes back to the last multipliers that are those after the first records. How many they are.
+    fn go_back(
+        &mut self,
+        alloc: Global,
+        model: &Model,
+        table: &RowTable,
+        trail: &[SharedRecord],
+    ) -> usize
+        requires table { table.now ≡ model.now }
+        requires scale { IsScale model.now self.old }
+        ensures scale { IsScale model.now self.new }
+        ensures records { result ≤ length trail.now }
+        ensures prices { self.new.gauge.multipliers ≡ prices_along [] (take result trail.now) }
+    {
+        match self.take_back(alloc, model, table, trail) {
+            Some(depth) => depth,
+            None => {
+                self.clear(alloc, model);
+                0
+            }
         }
     }
 
-    /// Goes on to the multipliers after the records above a node.
+    /// Goes to the multipliers after the records above a node: back to the last record in common with the last node, and on by the others.
     pub fn price_along(
         &mut self,
         alloc: Global,
@@ -288,10 +247,8 @@ impl<'a> Scale<'a> {
         ensures scale { IsScale model.now self.new }
         ensures prices { OnOk result (self.new.gauge.multipliers ≡ prices_along [] trail.now) }
     {
-        if self.stands_at(trail) {
-            return Ok(());
-        }
-        self.begin_anew(alloc, model, table, trail)
+        let depth = self.go_back(alloc, model, table, trail);
+        self.follow(alloc, model, table, &trail[depth..])
     }
 
     /// Raises multipliers, as a gauge does.
@@ -312,9 +269,10 @@ impl<'a> Scale<'a> {
         ensures ends { Ends model.now self.old.gauge.box self.new.gauge.multipliers cut result }
         ensures spent { result ≡ Raised.Spent → length raises.new ≡ length raises.old + most }
     {
-        let made = self.made.take();
+        let before = self.gauge.multipliers().len();
+        let stages = self.stages.take();
         let end = self.gauge.raise(alloc, table, cut, most, raises);
-        self.made = lengthened(made, raises.as_slice());
+        self.stages = lengthened(alloc, stages, raises.as_slice(), before);
         end
     }
 }

@@ -87,10 +87,11 @@ impl<'a> Stand<'a> {
         self.kept.undo_to(to);
     }
 
-    // Goes to the half with this value of the deepest record.
-    fn turn(&mut self, model: &Model, value: bool) -> Result<(), NoMemory>
+    // Goes to the half with this value of the deepest record, which is this one; the node's takes the place of the own one, so that both are one in memory.
+    fn turn(&mut self, model: &Model, entry: &SharedRecord, value: bool) -> Result<(), NoMemory>
         requires stand { IsStand model.now self.old }
         requires some { 0 < length self.old.frames.items }
+        requires same { (fs : List Frames) (f : Frames) → self.old.frames.items ≡ fs ++ f ∷ [] → f.entry ≡ entry.now }
         ensures stand { IsStand model.now self.new }
         ensures frames { OnOk result ((fs : List Frames) × (f : Frames) × (self.old.frames.items ≡ fs ++ f ∷ []) × (self.new.frames.items ≡ fs ++ record f { value = value } ∷ [])) }
         ensures at_half { OnOk result (self.new.kept.known ≡ box_along model.now (free_box (whole model.now)) self.new.frames.items) }
@@ -99,9 +100,10 @@ impl<'a> Stand<'a> {
             unreachable!()
         };
         self.back_to(model, frame.mark);
-        halve(model, &mut self.kept, &frame.entry.record().end, value);
+        let entry = entry.share()?;
+        halve(model, &mut self.kept, &entry.record().end, value);
         self.frames.push(Frame {
-            entry: frame.entry,
+            entry,
             value,
             mark: frame.mark,
         })?;
@@ -126,7 +128,8 @@ impl<'a> Stand<'a> {
     {
         let entry = entry.share()?;
         let record = entry.record();
-        retighten(alloc, model, &mut self.kept, record.steps.as_slice())?;
+        let steps = record.steps.to_list(alloc)?;
+        retighten(alloc, model, &mut self.kept, steps.as_slice())?;
         let mark = self.kept.fixed().len();
         halve(model, &mut self.kept, &record.end, value);
         self.frames.push(Frame { entry, value, mark })?;
@@ -134,10 +137,18 @@ impl<'a> Stand<'a> {
     }
 
     // Keeps the first so many frames, and goes to the half with the path's value of the last of them.
-    fn rejoin(&mut self, model: &Model, depth: usize, path: &[bool]) -> Result<(), NoMemory>
+    fn rejoin(
+        &mut self,
+        model: &Model,
+        depth: usize,
+        path: &[bool],
+        trail: &[SharedRecord],
+    ) -> Result<(), NoMemory>
         requires stand { IsStand model.now self.old }
         requires frames { depth ≤ length self.old.frames.items }
         requires branches { depth ≤ length path.now }
+        requires records { depth ≤ length trail.now }
+        requires entries { map entry_in (take depth self.old.frames.items) ≡ take depth trail.now }
         requires values { (k : ℕ) → depth ≡ k + 1 → map value_in (take k self.old.frames.items) ≡ take k path.now }
         ensures stand { IsStand model.now self.new }
         ensures entries { OnOk result (map entry_in self.new.frames.items ≡ map entry_in (take depth self.old.frames.items)) }
@@ -149,7 +160,7 @@ impl<'a> Stand<'a> {
             self.back_to(model, 0);
             return Ok(());
         }
-        self.turn(model, path[depth - 1])
+        self.turn(model, &trail[depth - 1], path[depth - 1])
     }
 
     // Goes on from so many records of a node to where it begins.
@@ -192,7 +203,7 @@ impl<'a> Stand<'a> {
         ensures at { OnOk result (self.new.kept.known ≡ box_along model.now (free_box (whole model.now)) self.new.frames.items) }
     {
         let depth = in_common(self.frames.as_slice(), path, trail);
-        self.rejoin(model, depth, path)?;
+        self.rejoin(model, depth, path, trail)?;
         self.go_on(alloc, model, depth, path, trail)
     }
 

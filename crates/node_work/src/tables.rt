@@ -1,18 +1,16 @@
 //! What is built once for a program.
-ghost use Rattle.std.specs.Prelude.{◌≡◌, IfOk};
+ghost use Rattle.std.specs.Prelude.{◌≡◌};
 
 use dual_bound::RowTable;
 use kept_box::BaseMatrix;
 use std::alloc::Global;
 use std::marker;
-use stow_data::NoMemory;
 use zero_one_model::Model;
 
-/// A program with the terms of its rows, built once and read by every worker. Contracts see the voyage.
+/// The matrix of a program's base rows with the terms of its rows, built once and read by every worker. Contracts see the voyage.
 #[derive(Drop)]
 pub struct Tables<'a> {
-    model: &'a Model<'a>,
-    matrix: BaseMatrix<'a>,
+    matrix: &'a BaseMatrix<'a>,
     rows: RowTable<'a>,
 }
 
@@ -29,31 +27,28 @@ impl<'a> marker::Model for Tables<'a> {
 }
 
 impl<'a> Tables<'a> {
-    /// The tables of a program.
-    pub fn build(alloc: Global, model: &'a Model<'a>) -> Result<Tables<'a>, NoMemory>
-        ensures { IfOk result (λ t. t ≡ model.now) }
+    /// The tables of a program, whose base rows stand in a matrix.
+    pub fn build(alloc: Global, matrix: &'a BaseMatrix<'a>) -> Tables<'a>
+        ensures { result ≡ matrix.now }
     {
-        let matrix = BaseMatrix::build(alloc, model)?;
-        let rows = RowTable::build(alloc, model);
-        Ok(Tables {
-            model,
+        Tables {
             matrix,
-            rows,
-        })
+            rows: RowTable::build(alloc, matrix),
+        }
     }
 
     /// The program.
     pub fn model(&self) -> &Model<'a>
         ensures { result.now ≡ self.now }
     {
-        self.model
+        self.matrix.model()
     }
 
     /// Its base rows.
     pub(crate) fn matrix(&self) -> &BaseMatrix<'a>
         ensures { result.now ≡ self.now }
     {
-        &self.matrix
+        self.matrix
     }
 
     /// The terms of its rows.

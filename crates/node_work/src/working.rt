@@ -6,6 +6,7 @@ ghost use Rattle.node_work.specs.Work.{IsNode, begins_at, most_at, most_rehandle
 use crate::desk::Desk;
 use crate::tables::Tables;
 use crate::worked::Worked;
+use kept_box::BaseMatrix;
 use search_nodes::Node;
 use std::alloc::Global;
 use stow_data::NoMemory;
@@ -24,17 +25,28 @@ pub fn runs_at(node: &Node) -> u32 {
     if node.path.is_empty() { 2_000 } else { 100 }
 }
 
-// The work on a node; want of memory is an error.
+// The work on a node at a desk that is made for it; want of memory is an error.
+fn work_by(alloc: Global, tables: &Tables, node: &Node, cut: u64) -> Result<Worked, NoMemory>
+    requires cargo { IsCargo tables.now.cargo }
+    requires trail { IsNode tables.now node.now }
+    requires cut { cut ≤ most_rehandles tables.now + 1 }
+    ensures { IfOk result (Works tables.now (begins_at tables.now node.now) (most_at node.now) cut) }
+{
+    let planner = Planner::new(alloc, tables.model())?;
+    let mut desk = Desk::fresh(alloc, tables, planner)?;
+    Ok(desk.work(alloc, node, cut))
+}
+
+// The same over tables that are built for it.
 fn work_afresh(alloc: Global, model: &Model, node: &Node, cut: u64) -> Result<Worked, NoMemory>
     requires cargo { IsCargo model.now.cargo }
     requires trail { IsNode model.now node.now }
     requires cut { cut ≤ most_rehandles model.now + 1 }
     ensures { IfOk result (Works model.now (begins_at model.now node.now) (most_at node.now) cut) }
 {
-    let tables = Tables::build(alloc, model)?;
-    let planner = Planner::new(alloc, model)?;
-    let mut desk = Desk::fresh(alloc, &tables, planner)?;
-    Ok(desk.work(alloc, node, cut))
+    let matrix = BaseMatrix::build(alloc, model)?;
+    let tables = Tables::build(alloc, &matrix);
+    work_by(alloc, &tables, node, cut)
 }
 
 /// Ends a node against a cut, the cost below which a solution is of use, at a desk that is made for it.

@@ -6,3 +6,5 @@ pub mod Rows
 pub mod Steps
 pub mod Falling
 pub mod Calming
+pub mod Ones
+pub mod Idle

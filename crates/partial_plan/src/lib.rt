@@ -4,6 +4,7 @@
 mod base_rows;
 mod forcing;
 mod full;
+mod packing;
 mod slack;
 mod tightening;
 mod trail;

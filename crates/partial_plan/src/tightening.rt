@@ -7,18 +7,20 @@ ghost use Rattle.zero_one_rows.specs.Variables.{variables};
 ghost use Rattle.zero_one_rows.specs.Rows.{base, whole};
 ghost use Rattle.zero_one_model.specs.Indexed.{Touches};
 ghost use Rattle.partial_plan.specs.Fixing.{Fixes, released};
+ghost use Rattle.partial_plan.specs.Packing.{AreOnes};
 ghost use Rattle.partial_plan.specs.Stopping.{Stops};
 ghost use Rattle.partial_plan.specs.Tightening.{IsCalm, IsQuiet, Tightens};
 
 use crate::base_rows::base_row;
 use crate::forcing::note_all;
+use crate::packing::{is_idle, ones_of};
 use crate::slack::slack_among;
 use crate::trail::{UndoList, take_back};
 use program_rows::rows_are_listed;
 use std::alloc::Global;
 use stow_data::{NoMemory, VarNo};
 use zero_one_model::{Box01, Model};
-use zero_one_rows::{Row, RowList};
+use zero_one_rows::{Row, RowList, VarList};
 
 /// How tightening ends.
 #[derive(Debug, Drop, PartialEq, Eq)]
@@ -125,6 +127,47 @@ fn look(
     }
 }
 
+// The variables that a box has at 1.
+fn ones_now(alloc: Global, model: &Model, b: &Box01) -> Result<VarList, Stop>
+    requires { length b.now ≡ length (variables model.now) }
+    ensures { MatchResult result (AreOnes b.now) (Stops model.now b.now) }
+{
+    match ones_of(alloc, model, b) {
+        Ok(ones) => Ok(ones),
+        Err(_) => Err(Stop::NoMemory),
+    }
+}
+
+// Looks at one base row, unless it is idle. What the box has at 1 follows.
+fn visit(
+    alloc: Global,
+    model: &Model,
+    b: &mut Box01,
+    undo: &mut UndoList,
+    steps: &mut RowList,
+    ones: &mut VarList,
+    r: Row,
+) -> Result<(), Stop>
+    requires row { (whole model.now).has r ≡ true }
+    requires base { (base model.now).has r ≡ true }
+    requires whole { length b.old ≡ length (variables model.now) }
+    requires ones { AreOnes b.old ones.old }
+    ensures steps { Tightens model.now b.old b.new steps.old steps.new }
+    ensures noted { (xs : List ℕ) × (undo.new ≡ undo.old ++ xs) × Fixes b.old b.new xs }
+    ensures ones { OnOk result (AreOnes b.new ones.new) }
+    ensures ends { MatchResult result (λ _. steps.new ≡ steps.old → (b.new ≡ b.old) × IsCalm model.now b.old r) (Stops model.now b.new) }
+{
+    if is_idle(model, b, &r, ones.as_slice()) {
+        return Ok(());
+    }
+    let before = undo.len();
+    look(alloc, model, b, undo, steps, r)?;
+    if undo.len() > before {
+        *ones = ones_now(alloc, model, b)?;
+    }
+    Ok(())
+}
+
 // Looks at each base row once.
 fn sweep(
     alloc: Global,
@@ -139,9 +182,10 @@ fn sweep(
     ensures ends { MatchResult result (λ _. length steps.new ≡ length steps.old → IsQuiet model.now b.new) (Stops model.now b.new) }
 {
     rows_are_listed();
+    let mut ones = ones_now(alloc, model, b)?;
     for k in 0..model.base_rows() {
         let row = base_row(model, k);
-        look(alloc, model, b, undo, steps, row)?;
+        visit(alloc, model, b, undo, steps, &mut ones, row)?;
     }
     Ok(())
 }

@@ -2,8 +2,8 @@
 ghost use Rattle.std.specs.Prelude.{◌≡◌, true};
 ghost use Rattle.zero_one_rows.specs.Rows.{whole};
 
-use crate::words::{write_count, write_number, write_row, write_signed, write_var};
-use certificate::Tree;
+use crate::words::{write_count, write_number, write_signed, write_var};
+use certificate::{Tree, write_row};
 use std::alloc::Global;
 use stow_data::{Bytes, NoMemory, VarNo};
 use zero_one_model::Model;
@@ -90,7 +90,7 @@ pub fn write_steps(
 ) -> Result<(), NoMemory> {
     for record in asked.as_slice() {
         for row in record.steps.as_slice() {
-            write_named(alloc, model, row, out)?;
+            write_named(alloc, model, &row.row(), out)?;
         }
     }
     Ok(())

@@ -40,6 +40,6 @@ pub fn write_tables<'a>(
     out: &mut Bytes,
 ) -> Result<(), NoMemory> {
     let matrix = BaseMatrix::build(alloc, model)?;
-    let _rows = RowTable::build(alloc, model);
+    let _rows = RowTable::build(alloc, &matrix);
     write_count(out, b"tables of", u64::from(matrix.model().vars()))
 }

@@ -1,6 +1,6 @@
 //! The box of a node.
 ghost use Rattle.std.specs.Prelude.{◌≡◌, ◌<◌, All, length, true};
-ghost use Rattle.proof_trees.specs.Boxes.{free_box, tightened};
+ghost use Rattle.proof_trees.specs.Boxes.{free_box, tight, tightened};
 ghost use Rattle.zero_one_rows.specs.Variables.{variables};
 ghost use Rattle.zero_one_rows.specs.Rows.{whole};
 ghost use Rattle.certificate.specs.Entries.{entry_of, end_of, number_of};
@@ -10,12 +10,11 @@ ghost use Rattle.search_events.specs.Judging.{box_there};
 ghost use Rattle.search_events.specs.Nodes.{along};
 ghost use Rattle.record_judge.specs.Standing.{standing, IsWay};
 
-use certificate::{End, Record};
+use certificate::{End, KeptRow, Record};
 use partial_plan::force;
 use search_events::{Done, Step};
 use stow_data::VarNo;
 use zero_one_model::{Box01, Model};
-use zero_one_rows::Row;
 
 // Frees each variable.
 fn free_all(model: &Model, b: &mut Box01)
@@ -27,14 +26,24 @@ fn free_all(model: &Model, b: &mut Box01)
     }
 }
 
+// Tightens a box by a row that is kept.
+fn force_kept(model: &Model, b: &mut Box01, kept: &KeptRow)
+    requires row { (whole model.now).has kept.now ≡ true }
+    requires whole { length b.old ≡ length (variables model.now) }
+    ensures { b.new ≡ tight (whole model.now) b.old kept.now }
+{
+    let row = kept.row();
+    force(model, b, &row);
+}
+
 // Tightens a box by rows, in order.
-fn tighten_all(model: &Model, b: &mut Box01, rows: &[Row])
+fn tighten_all(model: &Model, b: &mut Box01, rows: &[KeptRow])
     requires whole { length b.old ≡ length (variables model.now) }
     requires rows { All (λ r. (whole model.now).has r ≡ true) rows.now }
     ensures { b.new ≡ tightened (whole model.now) b.old rows.now }
 {
     for row in rows {
-        force(model, b, row);
+        force_kept(model, b, row);
     }
 }
 

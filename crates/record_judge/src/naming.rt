@@ -3,22 +3,21 @@ ghost use Rattle.std.specs.Prelude.{◌≡◌, ◌↔◌, All, IsTrue, true};
 ghost use Rattle.zero_one_rows.specs.Rows.{whole};
 ghost use Rattle.record_judge.specs.Counting.{AreNamed};
 
-use certificate::Record;
+use certificate::{KeptRaise, KeptRow, Record};
 use zero_one_model::Model;
-use zero_one_rows::{Raise, Row};
 
 // Whether each is a row of the program.
-fn has_rows(model: &Model, rows: &[Row]) -> bool
+fn has_rows(model: &Model, rows: &[KeptRow]) -> bool
     ensures { IsTrue result ↔ All (λ r. (whole model.now).has r ≡ true) rows.now }
 {
-    rows.iter().all(|row| model.has_row(row))
+    rows.iter().all(|row| model.has_row(&row.row()))
 }
 
 // Whether each is a raise of a row of the program.
-fn has_raised(model: &Model, raises: &[Raise]) -> bool
+fn has_raised(model: &Model, raises: &[KeptRaise]) -> bool
     ensures { IsTrue result ↔ AreNamed model.now raises.now }
 {
-    raises.iter().all(|raise| model.has_row(&raise.row))
+    raises.iter().all(|raise| model.has_row(&raise.raise().row))
 }
 
 /// Whether each row that a record names is one of the program.

@@ -13,7 +13,7 @@ ghost use Rattle.record_judge.specs.Counting.{AreNamed, IsSized, Tallies, Tallie
 ghost use Rattle.record_judge.specs.Standing.{standing, IsWay};
 
 use crate::amounts::Amounts;
-use certificate::Record;
+use certificate::{KeptRaise, Record};
 use search_events::{Done, Step};
 use std::alloc::Global;
 use stow_data::{NoMemory, VarNo};
@@ -151,15 +151,26 @@ impl Tally {
         true
     }
 
+    // Changes a row's multiplier by a raise that is kept.
+    fn raise_kept(&mut self, model: &Model, kept: &KeptRaise) -> bool
+        requires row { (whole model.now).has kept.now.row ≡ true }
+        requires some { TalliesSome model.now self.old }
+        ensures sized { IsSized model.now self.new }
+        ensures follows { (ms : Multipliers Rows) → Tallies model.now ms self.old → Follows model.now (raised same_row ms kept.now.row kept.now.amount) self.new result }
+    {
+        let raise = kept.raise();
+        self.raise(model, &raise)
+    }
+
     // Changes rows' multipliers in order, as long as each stays in 0 to 2^40.
-    fn raise_all(&mut self, model: &Model, raises: &[Raise]) -> bool
+    fn raise_all(&mut self, model: &Model, raises: &[KeptRaise]) -> bool
         requires rows { AreNamed model.now raises.now }
         requires some { TalliesSome model.now self.old }
         ensures sized { IsSized model.now self.new }
         ensures follows { (ms : Multipliers Rows) → Tallies model.now ms self.old → Follows model.now (raised_all same_row (Some ms) (map raise_of raises.now)) self.new result }
     {
         for raise in raises {
-            if !self.raise(model, raise) {
+            if !self.raise_kept(model, raise) {
                 return false;
             }
         }

@@ -17,7 +17,7 @@ use crate::joining::{AllDeeds, Ended, pour, take_in_all};
 use crew_turns::{Signs, Solution};
 use incumbent_word::{Board, Owner, Totals};
 use node_racks::{Rack, Wanted};
-use node_work::Tables;
+use node_work::{BaseMatrix, Tables};
 use std::alloc::Global;
 use std::marker::Brand;
 use std::sync::Wait;
@@ -163,6 +163,7 @@ pub fn search<G: Gate + Sync, R: Threads + Wait + Sync>(
     if workers == 1 {
         return search_alone(alloc, model, planner, budget, start, gate);
     }
-    let tables = Tables::build(alloc, model)?;
+    let matrix = BaseMatrix::build(alloc, model)?;
+    let tables = Tables::build(alloc, &matrix);
     search_together(rt, alloc, &tables, planner, workers, budget, start, gate)
 }

@@ -8,7 +8,7 @@ ghost use Rattle.steal_pool.specs.UnderWay.{IsUnderWay};
 use crate::found::Found;
 use crate::run::Run;
 use incumbent_word::{Board, Seat};
-use node_work::{Desk, Tables};
+use node_work::{BaseMatrix, Desk, Tables};
 use std::alloc::Global;
 use stow_data::NoMemory;
 use stow_io::Gate;
@@ -73,6 +73,24 @@ fn search_on<G: Gate>(
     run.finish(alloc, totals.best)
 }
 
+/// The search over tables that are built, on a desk that is made for it.
+fn search_with<G: Gate>(
+    alloc: Global,
+    tables: &Tables,
+    planner: Planner,
+    budget: u64,
+    start: u64,
+    gate: &G,
+) -> Result<Found, NoMemory>
+    requires cargo { IsCargo tables.now.cargo }
+    requires nodes { budget ≤ 100000 }
+    requires start { start ≤ most_rehandles tables.now + 1 }
+    ensures { IfOk result (IsFound tables.now start budget) }
+{
+    let mut desk = Desk::fresh(alloc, tables, planner)?;
+    search_on(alloc, &mut desk, budget, start, gate)
+}
+
 /// Searches the program for a solution that costs less than the start, and keeps the records that prove what it found.
 ///
 /// At most so many nodes are handled as the budget says, and nodes are left open only where it is used up. The gate is called before each node, as worker 1. The planner chooses by which variable a box is divided; the half of value 1 is handled before that of value 0.
@@ -89,7 +107,7 @@ pub fn search<G: Gate>(
     requires start { start ≤ most_rehandles model.now + 1 }
     ensures { IfOk result (IsFound model.now start budget) }
 {
-    let tables = Tables::build(alloc, model)?;
-    let mut desk = Desk::fresh(alloc, &tables, planner)?;
-    search_on(alloc, &mut desk, budget, start, gate)
+    let matrix = BaseMatrix::build(alloc, model)?;
+    let tables = Tables::build(alloc, &matrix);
+    search_with(alloc, &tables, planner, budget, start, gate)
 }

@@ -1,6 +1,6 @@
 //! The command line as `clap` is told of it: four subcommands with their positionals and options.
-ghost use Rattle.std.specs.Prelude.{◌≡◌, IfOk, false};
-ghost use Rattle.clap.specs.Words.{app_of, rule_of};
+ghost use Rattle.std.specs.Prelude.{◌≡◌, IfOk, IsOkAnd, false};
+ghost use Rattle.clap.specs.Words.{AddsSubcommand, app_of, rule_of};
 ghost use Rattle.stow_words.specs.Orders.{verb_named};
 ghost use Rattle.stow_words.specs.Command.{needed, optional, plan_app, check_app, show_app, make_app, stow_app};
 
@@ -26,48 +26,47 @@ fn option_argument<'a>(alloc: Global, id: &'a str) -> Arg<'a>
 fn plan_command<'a>(alloc: Global) -> Result<Command<'a>, AllocError>
     ensures { IfOk result (λ c. app_of c ≡ plan_app) }
 {
-    let profile = needed_argument(alloc, "profile");
-    let bookings = needed_argument(alloc, "bookings");
-    let name = needed_argument(alloc, "name");
-    let arrival = option_argument(alloc, "arrival");
-    let workers = option_argument(alloc, "workers");
-    let budget = option_argument(alloc, "budget");
     Command::new(alloc, "plan")
-        .arg(profile)?
-        .arg(bookings)?
-        .arg(name)?
-        .arg(arrival)?
-        .arg(workers)?
-        .arg(budget)
+        .arg(needed_argument(alloc, "profile"))?
+        .arg(needed_argument(alloc, "bookings"))?
+        .arg(needed_argument(alloc, "name"))?
+        .arg(option_argument(alloc, "arrival"))?
+        .arg(option_argument(alloc, "workers"))?
+        .arg(option_argument(alloc, "budget"))
 }
 
 fn check_command<'a>(alloc: Global) -> Result<Command<'a>, AllocError>
     ensures { IfOk result (λ c. app_of c ≡ check_app) }
 {
-    let profile = needed_argument(alloc, "profile");
-    let bookings = needed_argument(alloc, "bookings");
-    let name = needed_argument(alloc, "name");
-    let arrival = option_argument(alloc, "arrival");
     Command::new(alloc, "check")
-        .arg(profile)?
-        .arg(bookings)?
-        .arg(name)?
-        .arg(arrival)
+        .arg(needed_argument(alloc, "profile"))?
+        .arg(needed_argument(alloc, "bookings"))?
+        .arg(needed_argument(alloc, "name"))?
+        .arg(option_argument(alloc, "arrival"))
 }
 
 fn show_command<'a>(alloc: Global) -> Result<Command<'a>, AllocError>
     ensures { IfOk result (λ c. app_of c ≡ show_app) }
 {
-    let file = needed_argument(alloc, "file");
-    Command::new(alloc, "show").arg(file)
+    Command::new(alloc, "show").arg(needed_argument(alloc, "file"))
 }
 
 fn make_command<'a>(alloc: Global) -> Result<Command<'a>, AllocError>
     ensures { IfOk result (λ c. app_of c ≡ make_app) }
 {
-    let number = needed_argument(alloc, "number");
-    let name = needed_argument(alloc, "name");
-    Command::new(alloc, "make").arg(number)?.arg(name)
+    Command::new(alloc, "make")
+        .arg(needed_argument(alloc, "number"))?
+        .arg(needed_argument(alloc, "name"))
+}
+
+// A command with one subcommand more, where there was memory for that.
+fn with_subcommand<'a>(
+    command: Command<'a>,
+    subcommand: Result<Command<'a>, AllocError>,
+) -> Result<Command<'a>, AllocError>
+    ensures { IfOk result (λ r. IsOkAnd subcommand.entry (λ sub. AddsSubcommand command.entry sub r)) }
+{
+    command.subcommand(subcommand?)
 }
 
 /// The whole command line.
@@ -77,10 +76,10 @@ pub fn stow_command<'a>(alloc: Global) -> Result<Command<'a>, AllocError>
     let stow = Command::new(alloc, "stow")
         .subcommand_required(true)
         .disable_help_subcommand(true);
-    stow.subcommand(plan_command(alloc)?)?
-        .subcommand(check_command(alloc)?)?
-        .subcommand(show_command(alloc)?)?
-        .subcommand(make_command(alloc)?)
+    let stow = with_subcommand(stow, plan_command(alloc))?;
+    let stow = with_subcommand(stow, check_command(alloc))?;
+    let stow = with_subcommand(stow, show_command(alloc))?;
+    with_subcommand(stow, make_command(alloc))
 }
 
 /// The subcommands.

@@ -1,8 +1,10 @@
 -- From the sums of each variable to the variables of each sum, and back.
 use Rattle.std.proofs.Common.{◌≡◌, ℕ, zero, suc, ◌<◌, ◌≤◌, ◌+◌, Bool, true, false, cond, List, [], ◌∷◌, length, refl, sym, ◌∙◌, ap, subst, arith, eq-eqb, ⊎_elim}
-use Rattle.std.specs.Prelude.{filter, nat_eq, slice_index_or, ◌||◌}
+use Rattle.std.specs.Prelude.{All, filter, nat_eq, slice_index_or, ◌||◌}
 use Rattle.std.specs.List.{range_with_len}
-use Rattle.std.proofs.lemmas.Bool.{both_ways, eqb-true, cases_eq}
+use Rattle.std.proofs.lemmas.Bool.{both_ways, eqb-true, cases_eq, cases_lt}
+use Rattle.std.proofs.lemmas.List.{get_or_past}
+use Rattle.std.proofs.lemmas.List.Elements.{All-filter, All-nil}
 use Rattle.std.proofs.lemmas.List.Kept.{AllPairs-filter}
 use Rattle.std.proofs.lemmas.List.FromFn.{get_or-range_with_len, length-range_with_len}
 use Rattle.flat_lists.specs.Transposed.{IsTransposed}
@@ -95,3 +97,10 @@ turned_back m z raw turned back n e h r b v l = record {
 
 pub back_rising : (turned back : List (List ℕ)) (n v : ℕ) → IsTransposed turned n back → v < n → IsRising (slice_index_or back v [])
 back_rising turned back n v b l = subst IsRising (sym (b.of v l)) (rising (λ a. stands v (slice_index_or turned a [])) (length turned))
+
+-- each is a variable
+pub turned_inside : (raw turned : List (List ℕ)) (k n : ℕ) → IsTransposed raw k turned → length raw ≡ n → (i : ℕ) → All (λ v. v < n) (slice_index_or turned i [])
+turned_inside raw turned k n r e i = ⊎_elim
+    (λ (l : i < k). subst (All (λ v. v < n)) (sym (r.of i l)) (All-filter (λ v. stands i (slice_index_or raw v [])) (λ v. v < n) (range_with_len 0 (length raw)) (λ j d l. let m = length-range_with_len 0 (length raw) in let low = get_or-range_with_len 0 (length raw) j d (omega (arith, l, m)) in omega (arith, low, l, m, e))))
+    (λ (l : k ≤ i). subst (All (λ v. v < n)) (sym (get_or_past turned i [] (omega (arith, l, r.each)))) (All-nil (λ v. v < n)))
+    (cases_lt i k)

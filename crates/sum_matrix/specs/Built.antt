@@ -1,5 +1,5 @@
 -- What the lists of a matrix hold.
-use Rattle.std.specs.Prelude.{◌≡◌, ℕ, ◌<◌, [], length, slice_index_or}
+use Rattle.std.specs.Prelude.{◌≡◌, ℕ, ◌<◌, [], All, length, slice_index_or}
 use Rattle.zero_one_rows.specs.Variables.{variables, var}
 use Rattle.row_sums.specs.declared.sums.Sum.{Sum}
 use Rattle.sum_matrix.specs.declared.matrix.SumMatrix.TheInside.{Inside}
@@ -13,5 +13,6 @@ matrix_of a = record { voyage = a.sums; numbering = a.numbering }
 pub record IsBuilt (a : Inside) : Type 0 where
   pub numbering : IsNumbering a.sums a.numbering
   pub by_sum : (s : Sum) → IsThere a.sums s → slice_index_or a.variables (number a.numbering s) [] ≡ variables_of a.sums s
+  pub inside : (n : ℕ) → All (λ v. v < length (variables a.sums)) (slice_index_or a.variables n [])
   pub by_variable : (v : ℕ) → v < length (variables a.sums) → AreSumsOf a.sums a.numbering (var a.sums v) (slice_index_or a.holders v [])
   pub rising : (v : ℕ) → v < length (variables a.sums) → IsRising (slice_index_or a.holders v [])

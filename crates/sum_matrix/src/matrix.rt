@@ -1,5 +1,5 @@
 //! The variables of sums and the sums of variables.
-ghost use Rattle.std.specs.Prelude.{◌≡◌, ℕ, ◌<◌, ◌^◌, length, IfOk};
+ghost use Rattle.std.specs.Prelude.{◌≡◌, ℕ, ◌<◌, ◌^◌, All, length, IfOk};
 ghost use Rattle.zero_one_rows.specs.Variables.{variables, var};
 ghost use Rattle.sum_matrix.specs.Numbers.{number as number_of, IsNumbering, IsThere};
 ghost use Rattle.row_sums.specs.declared.sums.Sum.{Sum};
@@ -82,7 +82,8 @@ impl<'a> SumMatrix<'a> {
 
     /// The variables of a sum by its number, rising.
     pub fn variables(&self, number: usize) -> &[usize]
-        ensures { (s : Sum) → IsThere self.now.voyage s → number ≡ number_of self.now.numbering s → result.now ≡ variables_of self.now.voyage s }
+        ensures are { (s : Sum) → IsThere self.now.voyage s → number ≡ number_of self.now.numbering s → result.now ≡ variables_of self.now.voyage s }
+        ensures inside { All (λ v. v < length (variables self.now.voyage)) result.now }
     {
         self.variables.at(number)
     }

@@ -1,16 +1,16 @@
 //! The reads of the inputs.
-ghost use Rattle.std.specs.Prelude.{◌≡◌, ◌≤◌, ◌^◌, length, IfOk, IfErr};
+ghost use Rattle.std.specs.Prelude.{◌≡◌, ◌≤◌, ◌^◌, Some, length, option_map, IfOk, IfErr};
 ghost use Rattle.stow_io.specs.Causes.{Rose};
 ghost use Rattle.voyage_inputs.specs.Inputs.{IsContent, IsReadBy};
 ghost use Rattle.voyage_inputs.specs.Named.{names_of, IsStop, IsQuiet};
 ghost use Rattle.bookings.specs.Rules.{IsBookings};
-ghost use Rattle.voyage_inputs.specs.Reading.{IsFound, IsArrival, IsShipOf, AreBookingsOf};
+ghost use Rattle.voyage_inputs.specs.Reading.{IsFound, IsArrival, IsComing, IsUnder, IsVoyageOf, IsShipOf, AreBookingsOf};
 
 use crate::answer::Answer;
 use crate::arriving::{arrived, comes_in_empty};
 use crate::inputs::Inputs;
 use crate::refusing::refused;
-use crate::voyage::BookedVoyage;
+use crate::voyage::{BookedVoyage, ComesIn};
 use bookings::{BookingFault, Bookings, read_bookings};
 use ship_profile::{ProfileFault, read_profile};
 use std::alloc::Global;
@@ -53,6 +53,117 @@ pub enum Found {
     Refused(Answer),
 }
 
+/// The ship of the profile under a name, or the answer that refuses the profile.
+fn ship_under<'a, F: Folder>(
+    alloc: Global,
+    name: &'a str,
+    folder: &mut F,
+) -> Result<Accepted<Ship>, ReadStop<'a>>
+    ensures stays { F.files folder.new ≡ F.files folder.old }
+    ensures gives { IfOk result (IsUnder (F.files folder.old) name.now IsShipOf) }
+    ensures later { F.faults folder.old ≤ F.faults folder.new }
+    ensures quiet { IsQuiet result (F.faults folder.old) (F.faults folder.new) }
+    ensures failed { IfErr result (IsStop (Rose (F.faults folder.old) (F.faults folder.new)) (λ n. n ≡ name.now)) }
+{
+    let text = read(folder, name)?;
+    match ship_of(alloc, text.as_slice()) {
+        Ok(ship) => Ok(ship),
+        Err(NoMemory) => Err(ReadStop::NoMemory),
+    }
+}
+
+/// The bookings under a name, or the answer that refuses them.
+fn bookings_under<'a, F: Folder>(
+    alloc: Global,
+    name: &'a str,
+    folder: &mut F,
+) -> Result<Accepted<Bookings>, ReadStop<'a>>
+    ensures stays { F.files folder.new ≡ F.files folder.old }
+    ensures gives { IfOk result (IsUnder (F.files folder.old) name.now AreBookingsOf) }
+    ensures later { F.faults folder.old ≤ F.faults folder.new }
+    ensures quiet { IsQuiet result (F.faults folder.old) (F.faults folder.new) }
+    ensures failed { IfErr result (IsStop (Rose (F.faults folder.old) (F.faults folder.new)) (λ n. n ≡ name.now)) }
+{
+    let text = read(folder, name)?;
+    match booked_of(alloc, text.as_slice()) {
+        Ok(bookings) => Ok(bookings),
+        Err(NoMemory) => Err(ReadStop::NoMemory),
+    }
+}
+
+/// What a ship has that comes in as the bay plan under the name tells, or the answer that refuses the bay plan.
+fn read_arrival<'a, F: Folder>(
+    alloc: Global,
+    name: &'a str,
+    ship: &Ship,
+    bookings: &Bookings,
+    folder: &mut F,
+) -> Result<Accepted<ComesIn>, ReadStop<'a>>
+    requires { IsBookings bookings.now }
+    ensures stays { F.files folder.new ≡ F.files folder.old }
+    ensures gives { IfOk result (IsArrival ship.now bookings.now (F.files folder.old) name.now) }
+    ensures later { F.faults folder.old ≤ F.faults folder.new }
+    ensures quiet { IsQuiet result (F.faults folder.old) (F.faults folder.new) }
+    ensures failed { IfErr result (IsStop (Rose (F.faults folder.old) (F.faults folder.new)) (λ n. n ≡ name.now)) }
+{
+    let text = read(folder, name)?;
+    match arrived(alloc, ship, bookings, text.as_slice()) {
+        Ok(found) => Ok(found),
+        Err(NoMemory) => Err(ReadStop::NoMemory),
+    }
+}
+
+/// What a ship has that comes in as the bay plan under the name tells, or empty where there is no name.
+fn comes_in<'a, F: Folder>(
+    alloc: Global,
+    arrival: Option<&'a str>,
+    ship: &Ship,
+    bookings: &Bookings,
+    folder: &mut F,
+) -> Result<Accepted<ComesIn>, ReadStop<'a>>
+    requires { IsBookings bookings.now }
+    ensures stays { F.files folder.new ≡ F.files folder.old }
+    ensures gives { IfOk result (IsComing ship.now bookings.now (F.files folder.old) (option_map (λ name. name.now) arrival.entry)) }
+    ensures later { F.faults folder.old ≤ F.faults folder.new }
+    ensures quiet { IsQuiet result (F.faults folder.old) (F.faults folder.new) }
+    ensures failed { IfErr result (IsStop (Rose (F.faults folder.old) (F.faults folder.new)) (λ n. option_map (λ name. name.now) arrival.entry ≡ Some n)) }
+{
+    match arrival {
+        Some(name) => read_arrival(alloc, name, ship, bookings, folder),
+        None => match comes_in_empty(alloc, ship, bookings) {
+            Ok(come) => Ok(Accepted::Yes(come)),
+            Err(NoMemory) => Err(ReadStop::NoMemory),
+        },
+    }
+}
+
+/// The voyage of a ship and its bookings, which comes in with the bay plan under the name, or empty where there is no name.
+fn voyage_of<'a, F: Folder>(
+    alloc: Global,
+    arrival: Option<&'a str>,
+    ship: Ship,
+    bookings: Bookings,
+    folder: &mut F,
+) -> Result<Found, ReadStop<'a>>
+    requires { IsBookings bookings }
+    ensures stays { F.files folder.new ≡ F.files folder.old }
+    ensures gives { IfOk result (IsVoyageOf ship bookings (F.files folder.old) (option_map (λ name. name.now) arrival.entry)) }
+    ensures later { F.faults folder.old ≤ F.faults folder.new }
+    ensures quiet { IsQuiet result (F.faults folder.old) (F.faults folder.new) }
+    ensures failed { IfErr result (IsStop (Rose (F.faults folder.old) (F.faults folder.new)) (λ n. option_map (λ name. name.now) arrival.entry ≡ Some n)) }
+{
+    ship.obeys_rules();
+    match comes_in(alloc, arrival, &ship, &bookings, folder)? {
+        Accepted::Yes(come) => Ok(Found::Voyage(BookedVoyage {
+            ship,
+            bookings,
+            message: come.message,
+            cargo: come.cargo,
+        })),
+        Accepted::No(answer) => Ok(Found::Refused(answer)),
+    }
+}
+
 /// The ship, the bookings and, where one is named, the bay plan of the ship as it comes in, with the cargo that they
 /// make, or the answer where one of them is refused. The bookings are read only where the profile is accepted, and the
 /// bay plan only where both are.
@@ -67,52 +178,19 @@ pub fn read_inputs<'a, F: Folder>(
     ensures quiet { IsQuiet result (F.faults folder.old) (F.faults folder.new) }
     ensures failed { IfErr result (IsStop (Rose (F.faults folder.old) (F.faults folder.new)) (IsReadBy (names_of inputs.entry) (F.files folder.old))) }
 {
-    let profile = read(folder, inputs.profile)?;
-    let ship = match ship_of(alloc, profile.as_slice()) {
-        Ok(Accepted::Yes(ship)) => ship,
-        Ok(Accepted::No(answer)) => return Ok(Found::Refused(answer)),
-        Err(NoMemory) => return Err(ReadStop::NoMemory),
+    let ship = match ship_under(alloc, inputs.profile, folder)? {
+        Accepted::Yes(ship) => ship,
+        Accepted::No(answer) => return Ok(Found::Refused(answer)),
     };
-    let text = read(folder, inputs.bookings)?;
-    let bookings = match booked_of(alloc, text.as_slice()) {
-        Ok(Accepted::Yes(bookings)) => bookings,
-        Ok(Accepted::No(answer)) => return Ok(Found::Refused(answer)),
-        Err(NoMemory) => return Err(ReadStop::NoMemory),
-    };
-    match inputs.arrival {
-        Some(name) => read_arrival(alloc, name, ship, bookings, folder),
-        None => match comes_in_empty(alloc, ship, bookings) {
-            Ok(voyage) => Ok(Found::Voyage(voyage)),
-            Err(NoMemory) => Err(ReadStop::NoMemory),
-        },
-    }
-}
-
-/// The voyage of a ship that comes in as the bay plan under the name tells, or the answer that refuses the bay plan.
-fn read_arrival<'a, F: Folder>(
-    alloc: Global,
-    name: &'a str,
-    ship: Ship,
-    bookings: Bookings,
-    folder: &mut F,
-) -> Result<Found, ReadStop<'a>>
-    requires { IsBookings bookings }
-    ensures stays { F.files folder.new ≡ F.files folder.old }
-    ensures gives { IfOk result (IsArrival ship bookings (F.files folder.old) name.now) }
-    ensures later { F.faults folder.old ≤ F.faults folder.new }
-    ensures quiet { IsQuiet result (F.faults folder.old) (F.faults folder.new) }
-    ensures failed { IfErr result (IsStop (Rose (F.faults folder.old) (F.faults folder.new)) (λ n. n ≡ name.now)) }
-{
-    let text = read(folder, name)?;
-    match arrived(alloc, ship, bookings, text.as_slice()) {
-        Ok(found) => Ok(found),
-        Err(NoMemory) => Err(ReadStop::NoMemory),
+    match bookings_under(alloc, inputs.bookings, folder)? {
+        Accepted::Yes(bookings) => voyage_of(alloc, inputs.arrival, ship, bookings, folder),
+        Accepted::No(answer) => Ok(Found::Refused(answer)),
     }
 }
 
 /// What a text is read as, or the answer that refuses it.
 #[derive(Drop)]
-enum Accepted<T: Drop> {
+pub enum Accepted<T: Drop> {
     Yes(T),
     No(Answer),
 }

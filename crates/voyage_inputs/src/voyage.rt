@@ -12,3 +12,10 @@ pub struct BookedVoyage {
     pub message: Option<Message>,
     pub cargo: Cargo,
 }
+
+/// What a ship comes in with: its bay plan, None where it comes in empty, and the cargo that this makes of its bookings.
+#[derive(Drop)]
+pub struct ComesIn {
+    pub message: Option<Message>,
+    pub cargo: Cargo,
+}

@@ -1,5 +1,5 @@
 -- The variables among which those that touch a row of each family are found.
-use Rattle.std.proofs.Common.{◌≡◌, ℕ, ◌<◌, ◌+◌, ◌-◌, ◌*◌, true, List, [], ◌++◌, arith, refl, ◌∙◌, ap, subst, length, inl, inr, ⊎_elim, ◌⊎◌}
+use Rattle.std.proofs.Common.{◌≡◌, ℕ, ◌<◌, ◌+◌, ◌-◌, ◌*◌, true, List, [], ◌++◌, arith, ap, subst, length, inl, inr, ⊎_elim, ◌⊎◌}
 use Rattle.std.specs.Prelude.{slice_index_or}
 use Rattle.std.proofs.lemmas.Bool.{ltb-true, false≢true}
 use Rattle.stow_data.specs.declared.geometry.Half.{Half}
@@ -8,7 +8,7 @@ use Rattle.stow_data.specs.Ship.{places}
 use Rattle.zero_one_rows.specs.declared.program.Row.{Row}
 use Rattle.zero_one_rows.specs.declared.program.Row.TheVariants.{Flow, Start, Cell, Support, Twenty, Block, Hatch, Weight, Apart, Cross}
 use Rattle.zero_one_rows.specs.declared.program.Var.{Var}
-use Rattle.zero_one_rows.specs.Variables.{Voyage, calls, all_kinds, place, var}
+use Rattle.zero_one_rows.specs.Variables.{Voyage, all_kinds, place, var}
 use Rattle.zero_one_rows.specs.Rows.{half, stack, covers, below, above, whole}
 use Rattle.zero_one_model.specs.Indexed.{place_shelf, half_shelf, shelf, IsIndex, IsCandidates, Touches, NamesCells, is_keyed, first_of, second_of, other_of, half_key, place_key, below_key, above_key}
 use Rattle.zero_one_model.specs.declared.index.Index.{Index}

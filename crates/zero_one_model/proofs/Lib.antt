@@ -6,3 +6,8 @@ pub mod Chosen
 pub mod Selected
 pub mod LotVariables
 pub mod Kept
+pub mod Filed
+pub mod Within
+pub mod Leading
+pub mod EachRun
+pub mod Gathered

@@ -1,10 +1,9 @@
 -- Lists that rise, and the list of variables as one.
-use Rattle.std.proofs.Common.{◌≡◌, ℕ, zero, suc, ◌<◌, ◌+◌, Bool, true, false, cond, List, [], ◌∷◌, ◌++◌, arith, refl, sym, ◌∙◌, ap, inl, inr, ⊎_elim, length, subst}
-use Rattle.std.specs.Prelude.{filter, flat_map, map, slice_index_or}
+use Rattle.std.proofs.Common.{◌≡◌, ℕ, ◌<◌, ◌+◌, arith, refl, sym, ◌∙◌, ap, length}
+use Rattle.std.specs.Prelude.{flat_map, map}
 use Rattle.std.specs.List.{range_with_len}
 use Rattle.stow_data.specs.Ship.{places}
-use Rattle.stow_data.proofs.Members.{Member, member_split, flat_at, map_at, range_at}
-use Rattle.stow_data.proofs.Distinct.{Each, each_at, each_from}
+use Rattle.stow_data.proofs.Members.{Member, flat_at, map_at}
 use Rattle.zero_one_rows.specs.declared.program.Var.{Var}
 use Rattle.zero_one_rows.specs.Variables.{Voyage, calls, all_kinds, is_var, variables}
 use Rattle.program_rows.proofs.Rising.{Rising, rising_flat, rising_map, rising_range, rising_filter}

@@ -1,23 +1,19 @@
 -- The variables that touch a row, among those that may.
-use Rattle.std.proofs.Common.{◌≡◌, ◌≢◌, ℕ, ◌<◌, Bool, true, false, not, List, [], ◌∷◌, ◌++◌, ◌+◌, arith, refl, sym, ◌∙◌, ap, subst, length, ◌↔◌}
+use Rattle.std.proofs.Common.{◌≡◌, ◌≢◌, ℕ, ◌<◌, Bool, true, false, not, List, ◌++◌, arith, refl, sym, ◌∙◌, ap, subst, length, ◌↔◌}
 use Rattle.std.specs.Prelude.{slice_index_or, filter, pos, All, Contains}
 use Rattle.std.specs.List.{AllPairs}
 use Rattle.std.specs.Ordering.{int_eq}
 use Rattle.std.specs.Cmp.{signed_Decides}
 use Rattle.std.proofs.lemmas.Bool.{false≢true}
 use Rattle.std.proofs.lemmas.List.Kept.{AllPairs-filter}
-use Rattle.std.specs.List.{range_with_len}
-use Rattle.std.proofs.lemmas.List.{append-nil, append_assoc}
-use Rattle.std.proofs.lemmas.List.Elements.{filter-append}
-use Rattle.stow_data.proofs.Members.{Member, member_left, member_right, range_at, range_from, range-more}
-use Rattle.program_rows.proofs.Rising.{rising_get, rising_range}
+use Rattle.stow_data.proofs.Members.{Member, member_left, member_right}
 use Rattle.stow_data.specs.Profile.{IsShip}
 use Rattle.stow_data.specs.Ship.{Ship, places}
 use Rattle.zero_one_rows.specs.declared.program.Row.{Row}
 use Rattle.zero_one_rows.specs.declared.program.Var.{Var}
 use Rattle.zero_one_rows.specs.Variables.{Voyage, variables, var, no_var}
 use Rattle.zero_one_rows.specs.Rows.{coef}
-use Rattle.zero_one_rows.proofs.Listing.{filter_at, filter_from, get_member, var_listed}
+use Rattle.zero_one_rows.proofs.Listing.{filter_at, filter_from, var_listed}
 use Rattle.zero_one_rows.specs.Rows.{whole}
 use Rattle.zero_one_model.specs.Indexed.{Touches, IsIndex, IsCandidates, is_keyed, first_of, second_of, stands}
 use Rattle.zero_one_model.specs.declared.index.Index.{Index}

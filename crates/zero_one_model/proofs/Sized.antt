@@ -1,26 +1,16 @@
 -- Rows in range, and how large coefficients and right sides are.
-use Rattle.std.proofs.Common.{◌≡◌, ℕ, zero, suc, ◌<◌, ◌≤◌, ◌^◌, Bool, true, false, ◌&&◌, arith, refl, ap, subst, length, ⊎_elim}
-use Rattle.std.specs.Prelude.{map, pos, negsuc, ◌-ℤ◌, unsigned_abs}
-use Rattle.std.proofs.lemmas.Bool.{ltb-true, false≢true, cases_lt}
+use Rattle.std.proofs.Common.{◌≡◌, ℕ, ◌<◌, ◌≤◌, Bool, true, false, ◌&&◌, arith, refl, ap, subst, length, ⊎_elim}
+use Rattle.std.proofs.lemmas.Bool.{false≢true, cases_lt}
 use Rattle.std.proofs.lemmas.Option.{slice_get-get_or, slice_get_within, get_or_from_slice_get}
-use Rattle.std.proofs.Math.IntN.{+ℤ_idl}
 use Rattle.std.proofs.lemmas.List.{get_or_past}
 use Rattle.stow_data.specs.declared.geometry.Stack.{Stack}
 use Rattle.stow_data.specs.declared.geometry.Half.{Half}
 use Rattle.stow_data.specs.Ship.{halves, places}
 use Rattle.stow_data.specs.Profile.{IsShip, IsStack, IsInHold, IsOnDeck}
-use Rattle.stow_data.specs.Shipment.{IsCargo}
-use Rattle.stow_data.specs.Kinds.{kind_number}
-use Rattle.stow_data.proofs.KindLemmas.{loads_few}
 use Rattle.stow_data.proofs.Listed.{half_from, place_from}
-use Rattle.zero_one_rows.specs.declared.program.Var.{Var}
-use Rattle.zero_one_rows.specs.declared.program.Row.{Row}
-use Rattle.zero_one_rows.specs.declared.program.Row.TheVariants.{Flow, Start, Cell, Support, Twenty, Block, Hatch, Weight, Apart, Cross}
-use Rattle.zero_one_rows.specs.Variables.{Voyage, all_kinds, place}
-use Rattle.zero_one_rows.specs.Rows.{half, stack, bit, turned, coef, rhs}
+use Rattle.zero_one_rows.specs.Variables.{Voyage, place}
+use Rattle.zero_one_rows.specs.Rows.{half, stack}
 use Rattle.stow_data.specs.Plans.{no_half, no_stack, no_place}
-use Rattle.zero_one_rows.specs.Ranges.{InRange}
-use Rattle.zero_one_rows.specs.Rows.{whole}
 
 pub first_true : (a b : Bool) → (a && b) ≡ true → a ≡ true
 first_true true b h = refl

@@ -12,7 +12,7 @@ use Rattle.zero_one_rows.specs.declared.program.Var.{Var}
 use Rattle.zero_one_rows.specs.declared.program.Row.{Row}
 use Rattle.zero_one_rows.specs.declared.program.Row.TheVariants.{Flow, Start, Cell, Support, Twenty, Block, Hatch, Weight, Apart}
 use Rattle.zero_one_rows.specs.Variables.{Voyage, place, kind, variables, var, no_var}
-use Rattle.zero_one_rows.specs.Rows.{half, covers, below, above, bit, turned, coef, is_twenty, active}
+use Rattle.zero_one_rows.specs.Rows.{half, covers, below, above, bit, turned, coef, is_twenty}
 use Rattle.zero_one_rows.proofs.Listing.{filter_at, filter_from, get_member, member_get}
 use Rattle.program_rows.specs.Grouping.{with_key, IsGrouped}
 use Rattle.zero_one_model.specs.Indexed.{Touches, IsCandidates, other_of}

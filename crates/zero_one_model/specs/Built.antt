@@ -6,6 +6,7 @@ use Rattle.zero_one_rows.specs.Variables.{Voyage, variables}
 use Rattle.zero_one_model.specs.declared.model.Model.TheInside.{Inside}
 use Rattle.zero_one_model.specs.Building.{IsWithin}
 use Rattle.zero_one_model.specs.Indexed.{IsIndex}
+use Rattle.zero_one_model.specs.Runs.{IsFiled}
 use Rattle.program_rows.specs.Counted.{row_lists, base_rows, all_rows}
 
 abbrev pub voyage_of : Inside → Voyage
@@ -19,4 +20,5 @@ pub record IsBuilt (a : Inside) : Type 0 where
   pub base : a.base ≡ length (base_rows (voyage_of a))
   pub rows : a.rows ≡ length (all_rows (voyage_of a))
   pub index : IsIndex (voyage_of a) a.index
+  pub files : IsFiled (voyage_of a) a.files
   pub within : IsWithin (voyage_of a)

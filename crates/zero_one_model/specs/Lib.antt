@@ -1,3 +1,4 @@
 pub mod Building
 pub mod Built
 pub mod Indexed
+pub mod Runs

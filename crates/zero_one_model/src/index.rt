@@ -10,7 +10,7 @@ use stow_data::{CallNo, HalfNo, KindNo, NoMemory, PlaceNo, Seq, Ship, StackNo};
 use zero_one_rows::{Row, Var, half_at, place_at, under};
 
 /// Tiers that a stack has at most.
-const TIERS: usize = 40;
+pub const TIERS: usize = 40;
 
 /// The variables of each kind, of each tier of a stack, of each stack, and of each lot: what of a kind is put at a call.
 #[derive(Drop)]
@@ -131,7 +131,7 @@ pub fn has_keys(row: &Row) -> bool
 }
 
 /// The tier of a place.
-fn key_of_place(ship: &Ship, p: PlaceNo) -> usize
+pub fn key_of_place(ship: &Ship, p: PlaceNo) -> usize
     requires { p < length (places ship.now) }
     ensures { result ≡ place_key ship.now p }
 {
@@ -140,7 +140,7 @@ fn key_of_place(ship: &Ship, p: PlaceNo) -> usize
 }
 
 /// The tier of a half-cell.
-fn key_of_half(ship: &Ship, h: HalfNo) -> usize
+pub fn key_of_half(ship: &Ship, h: HalfNo) -> usize
     requires { h < length (halves ship.now) }
     ensures { result ≡ half_key ship.now h }
 {
@@ -149,7 +149,7 @@ fn key_of_half(ship: &Ship, h: HalfNo) -> usize
 }
 
 /// The tier below a half-cell; that of the lowest one itself.
-fn key_below(ship: &Ship, h: HalfNo) -> usize
+pub fn key_below(ship: &Ship, h: HalfNo) -> usize
     requires { h < length (halves ship.now) }
     ensures { result ≡ below_key ship.now h }
 {
@@ -158,7 +158,7 @@ fn key_below(ship: &Ship, h: HalfNo) -> usize
 }
 
 /// The tier above a half-cell.
-fn key_above(ship: &Ship, h: HalfNo) -> usize
+pub fn key_above(ship: &Ship, h: HalfNo) -> usize
     requires { h < length (halves ship.now) }
     ensures { result ≡ above_key ship.now h }
 {

@@ -3,10 +3,12 @@
 
 mod boxes;
 mod building;
+mod filing;
 mod index;
 mod lots;
 mod model;
 mod refusals;
+mod runs;
 
 pub use boxes::Box01;
 pub use model::Model;

@@ -1,15 +1,18 @@
 //! The built program.
-ghost use Rattle.std.specs.Prelude.{◌≡◌, ℕ, ◌+◌, ◌-◌, ◌*◌, ◌<◌, ◌≤◌, ◌≢◌, ◌^◌, ◌↔◌, true, false, length, slice_get, Some, IfOk, MatchOption, OnOk, All, ◌++◌, ◌∷◌, [], filter, flat_map, cond, Contains, pos, unsigned_abs};
+ghost use Rattle.std.specs.Prelude.{◌≡◌, ℕ, ◌+◌, ◌-◌, ◌*◌, ◌<◌, ◌≤◌, ◌≢◌, ◌^◌, ◌↔◌, true, false, length, slice_get, Some, IfOk, MatchOption, OnOk, All, ◌++◌, ◌∷◌, [], filter, flat_map, cond, Contains, pos, unsigned_abs, map, ◌&&◌};
 ghost use Rattle.std.specs.List.{AllPairs, range_with_len};
 
 use crate::building::{MOST_ROWS, built_variables};
-use crate::index::{Index, has_keys, index_of};
-use crate::lots::may_touch;
+use crate::filing::{RowFiles, file_rows};
+use crate::index::{Index, has_keys, index_of, key_of_place};
+use crate::lots::{may_cross, may_touch};
 use crate::refusals::ModelNo;
+use crate::runs::at_call;
+use chain_rows::Chain;
 use program_rows::{RowLists, count_rows, list_rows};
 use std::alloc::Global;
-use stow_data::{CallNo, Cargo, KindNo, Kinds, Limit, NoMemory, Seq, Ship, VarNo, kinds};
-use zero_one_rows::{Row, RowList, Var, VarList};
+use stow_data::{CallNo, Cargo, KindNo, Kinds, Limit, NoMemory, Place, Seq, Ship, VarNo, kinds};
+use zero_one_rows::{Row, RowList, Var, VarList, is_crossing_variable, place_at};
 
 /// Appends a variable's number where it is wanted.
 fn push_var(list: &mut VarList, x: VarNo, wanted: bool) -> Result<(), NoMemory>
@@ -29,6 +32,7 @@ pub struct Model<'a> {
     base: u64,
     rows: u64,
     index: Index,
+    files: RowFiles,
 }
 
 impl<'a> std::marker::Model for Model<'a> {
@@ -45,12 +49,15 @@ impl<'a> std::marker::Model for Model<'a> {
 
 impl<'a> Model<'a> {
     ghost use Rattle.zero_one_rows.specs.declared.program.Var.{Var};
-    ghost use Rattle.zero_one_rows.specs.Variables.{Voyage, calls, variables, var, all_kinds, is_rehandled};
+    ghost use Rattle.zero_one_rows.specs.declared.program.Row.TheVariants.{Cross};
+    ghost use Rattle.zero_one_rows.specs.Variables.{Voyage, calls, variables, var, place, all_kinds, kind as kind_of, is_rehandled};
+    ghost use Rattle.zero_one_rows.specs.Crossing.{crosses, tallest, length_of};
     ghost use Rattle.zero_one_rows.specs.Rows.{bit, coef, rhs, has, whole};
     ghost use Rattle.program_rows.specs.Counted.{base_rows, all_rows};
-    ghost use Rattle.zero_one_model.specs.Indexed.{Touches, stands, is_keyed, lot_of};
+    ghost use Rattle.zero_one_model.specs.Indexed.{Touches, stands, is_keyed, lot_of, place_key};
+    ghost use Rattle.zero_one_model.specs.Runs.{calls_for, run_of, meets, base_row, named_runs, chain_runs};
     ghost use Rattle.zero_one_model.specs.Building.{Builds};
-    ghost use Rattle.stow_data.specs.Ship.{places};
+    ghost use Rattle.stow_data.specs.Ship.{places, same_length};
 
     /// The program of this ship and cargo. TooLarge comes exactly where the variables are more than 200,000, or else the rows more than 2,000,000.
     pub fn build(alloc: Global, ship: &'a Ship, cargo: &'a Cargo) -> Result<Model<'a>, ModelNo>
@@ -69,6 +76,7 @@ impl<'a> Model<'a> {
         }
         let lists = list_rows(alloc, ship, cargo, &kinds)?;
         let index = index_of(alloc, ship, cargo.calls(), kinds.len(), vars.as_slice())?;
+        let files = file_rows(alloc, ship, &lists, counts.base)?;
         Ok(Model {
             ship,
             cargo,
@@ -78,6 +86,7 @@ impl<'a> Model<'a> {
             base: counts.base,
             rows: counts.all,
             index,
+            files,
         })
     }
 
@@ -331,29 +340,198 @@ impl<'a> Model<'a> {
         }
     }
 
-    /// Appends a row where the variable's coefficient in it isn't 0.
+    /// Appends a row where the program has it and the variable's coefficient in it isn't 0.
     fn keep(&self, list: &mut RowList, r: Row, x: VarNo) -> Result<(), NoMemory>
-        requires row { (whole self.now).has r ≡ true }
-        requires var { x < length (variables self.now) }
-        ensures { OnOk result (list.new ≡ list.old ++ filter (λ row. stands self.now row x) (r ∷ [])) }
+        requires { x < length (variables self.now) }
+        ensures { OnOk result (list.new ≡ list.old ++ filter (meets self.now x) (r ∷ [])) }
     {
-        if self.coefficient(&r, x) != 0 {
+        if self.has_row(&r) && self.coefficient(&r, x) != 0 {
             list.push(r)
         } else {
             Ok(())
         }
     }
 
-    /// The rows in which the coefficient of a variable isn't 0, each once, in their order. It looks at every row.
+    /// The first call, or price, at which a variable may stand in a run, and at how many it may.
+    fn calls_of_run(&self, v: Var, r: &Row) -> (u32, u32)
+        ghost m: { Voyage }
+        requires model { self.now ≡ m }
+        requires put { v.put < v.lifted }
+        requires lifted { v.lifted ≤ 12 }
+        ensures calls { range_with_len result.0 result.1 ≡ calls_for m v r.now }
+        ensures fits { result.0 + result.1 ≤ 2 ^ 32 }
+    {
+        match r {
+            Row::Start { .. } => (1, 1),
+            Row::Cross { length, .. } => (1, self.tiers_for(*length)),
+            Row::Flow { .. }
+            | Row::Cell { .. }
+            | Row::Support { .. }
+            | Row::Twenty { .. }
+            | Row::Block { .. }
+            | Row::Hatch { .. }
+            | Row::Weight { .. }
+            | Row::Apart { .. } => (v.put.0, v.lifted.0 - v.put.0 + 1),
+        }
+    }
+
+    /// The tiers of the tallest column of a length in feet.
+    fn tiers_for(&self, foot: u32) -> u32
+        ensures { result ≡ tallest self.now.ship (length_of foot) }
+    {
+        if foot == 20 {
+            self.lists.short_tiers
+        } else {
+            self.lists.long_tiers
+        }
+    }
+
+    /// Appends those rows of a run in which a variable stands.
+    fn keep_run(&self, list: &mut RowList, r: &Row, x: VarNo) -> Result<(), NoMemory>
+        requires { x < length (variables self.now) }
+        ensures { OnOk result (list.new ≡ list.old ++ filter (meets self.now x) (run_of self.now (var self.now x) r.now)) }
+    {
+        let _calls = self.cargo.calls();
+        let (first, count) = self.calls_of_run(self.var(x), r);
+        for k in 0..count {
+            self.keep(list, at_call(r, first + k), x)?;
+        }
+        Ok(())
+    }
+
+    /// A base row by its number.
+    fn base_row_at(&self, k: u32) -> Row
+        requires { k < length (base_rows self.now) }
+        ensures { result ≡ base_row self.now k }
+    {
+        self.row_at(u64::from(k))
+    }
+
+    /// Appends those of the runs of some base rows.
+    fn keep_filed(&self, list: &mut RowList, numbers: &[u32], x: VarNo) -> Result<(), NoMemory>
+        requires var { x < length (variables self.now) }
+        requires inside { All (λ k. k < length (base_rows self.now)) numbers.now }
+        ensures { OnOk result (list.new ≡ list.old ++ filter (meets self.now x) (flat_map (run_of self.now (var self.now x)) (map (base_row self.now) numbers.now))) }
+    {
+        for k in numbers {
+            self.keep_run(list, &self.base_row_at(*k), x)?;
+        }
+        Ok(())
+    }
+
+    /// The place at which a variable stands.
+    fn place_of(&self, x: VarNo) -> Place
+        requires { x < length (variables self.now) }
+        ensures { result ≡ place self.now (var self.now x).place }
+    {
+        place_at(self.ship, self.var(x).place)
+    }
+
+    /// Appends those of the runs that a variable's own numbers name.
+    fn keep_named(&self, list: &mut RowList, x: VarNo) -> Result<(), NoMemory>
+        requires { x < length (variables self.now) }
+        ensures { OnOk result (list.new ≡ list.old ++ filter (meets self.now x) (flat_map (run_of self.now (var self.now x)) (named_runs self.now (var self.now x)))) }
+    {
+        let Var { kind, place, .. } = self.var(x);
+        let call = CallNo(1);
+        let stack = self.place_of(x).stack;
+        self.keep_run(list, &Row::Flow { q: 0, call, kind }, x)?;
+        self.keep_run(list, &Row::Flow { q: 1, call, kind }, x)?;
+        self.keep_run(list, &Row::Start { q: 0, place }, x)?;
+        self.keep_run(list, &Row::Start { q: 1, place }, x)?;
+        self.keep_run(list, &Row::Weight { call, stack }, x)
+    }
+
+    fn crosses_at(&self, foot: u32, chain: &Chain, x: Var) -> bool
+        ghost m: { Voyage }
+        requires model { self.now ≡ m }
+        requires kind { x.kind < length (all_kinds m) }
+        ensures { result ≡ crosses m foot chain.now x }
+    {
+        is_crossing_variable(&self.kinds, foot, chain, x)
+    }
+
+    /// Appends those crossing rows of a chain in which a variable stands.
+    fn keep_chain(
+        &self,
+        list: &mut RowList,
+        foot: u32,
+        chain: &Chain,
+        x: VarNo,
+    ) -> Result<(), NoMemory>
+        requires { x < length (variables self.now) }
+        ensures { OnOk result (list.new ≡ list.old ++ filter (meets self.now x) (run_of self.now (var self.now x) (Cross foot 1 chain.now))) }
+    {
+        if !self.crosses_at(foot, chain, self.var(x)) {
+            return Ok(());
+        }
+        let row = Row::Cross {
+            length: foot,
+            price: 1,
+            chain: Chain::of(chain.items()),
+        };
+        self.keep_run(list, &row, x)
+    }
+
+    /// Appends those crossing rows of some chains in which a variable stands.
+    fn keep_each_chain(
+        &self,
+        list: &mut RowList,
+        foot: u32,
+        chains: &[Chain],
+        x: VarNo,
+    ) -> Result<(), NoMemory>
+        requires { x < length (variables self.now) }
+        ensures { OnOk result (list.new ≡ list.old ++ filter (meets self.now x) (flat_map (run_of self.now (var self.now x)) (map (λ c. Cross foot 1 c) chains.now))) }
+    {
+        for chain in chains {
+            self.keep_chain(list, foot, chain, x)?;
+        }
+        Ok(())
+    }
+
+    fn may_cross_at(&self, foot: u32, x: Var) -> bool
+        ghost m: { Voyage }
+        requires model { self.now ≡ m }
+        requires kind { x.kind < length (all_kinds m) }
+        ensures { result ≡ (same_length (length_of foot) (kind_of m x.kind).long && is_rehandled m x) }
+    {
+        may_cross(&self.kinds, foot, x)
+    }
+
+    /// Appends those crossing rows of a length in which a variable stands.
+    fn keep_chains(&self, list: &mut RowList, foot: u32, x: VarNo) -> Result<(), NoMemory>
+        requires { x < length (variables self.now) }
+        ensures { OnOk result (list.new ≡ list.old ++ filter (meets self.now x) (flat_map (run_of self.now (var self.now x)) (chain_runs self.now foot))) }
+    {
+        if !self.may_cross_at(foot, self.var(x)) {
+            return Ok(());
+        }
+        self.keep_each_chain(list, foot, self.lists.chains.as_slice(), x)
+    }
+
+    /// The number of the tier at which a variable stands.
+    fn shelf(&self, x: VarNo) -> usize
+        requires { x < length (variables self.now) }
+        ensures { result ≡ place_key self.now.ship (var self.now x).place }
+    {
+        key_of_place(self.ship, self.var(x).place)
+    }
+
+    /// The rows in which the coefficient of a variable isn't 0, each once.
     pub fn rows_of(&self, alloc: Global, x: VarNo) -> Result<RowList, NoMemory>
         requires { x < length (variables self.now) }
         ensures each { IfOk result (λ rs. (r : Row) → Contains rs r ↔ Touches self.now r x) }
         ensures once { IfOk result (λ rs. AllPairs (λ r s. r ≢ s) rs) }
     {
+        self.ship.obeys_rules();
+        let shelf = self.shelf(x);
         let mut list = Seq::new(alloc);
-        for k in 0..self.rows() {
-            self.keep(&mut list, self.row_at(k), x)?;
-        }
+        self.keep_named(&mut list, x)?;
+        self.keep_filed(&mut list, self.files.by_first.of(shelf), x)?;
+        self.keep_filed(&mut list, self.files.by_second.of(shelf), x)?;
+        self.keep_chains(&mut list, 20, x)?;
+        self.keep_chains(&mut list, 40, x)?;
         Ok(list)
     }
 }

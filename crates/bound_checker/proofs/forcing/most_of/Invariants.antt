@@ -8,6 +8,6 @@ use Rattle.bound_checker.proofs.forcing.most_of.Given as goal
 
 abbrev pub invariant-loop-term : goal.invariant-loop-term
 invariant-loop-term l = record {
-  value : l.total ≡ sum_of_first (length (variables l.model)) (λ v. greatest (at l.b v) ((whole l.model).coef l.row v)) (map (λ t. t.var) l.terms) l.term-index;
+  value : l.total ≡ sum_of_first (length (variables l.model)) (λ v. greatest (at l.b v) ((whole l.model).coef l.row v)) (map (λ t. t.at) l.terms) l.term-index;
   size : unsigned_abs l.total ≤ l.term-index * 2 ^ 17;
 }

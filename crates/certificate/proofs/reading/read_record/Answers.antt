@@ -22,7 +22,8 @@ returns-in_default-clause-fault c = ends_or_bad c.args.bytes.now (drop c.args.fr
 
 pub loop-line-preserved-then-is_empty : goal.loop-line-preserved-then-is_empty
 loop-line-preserved-then-is_empty c =
-    let b : (body_so_far c.push.new.self c.loop-line.raises) ≡ (body_so_far c.loop-line.steps c.loop-line.raises) ++ line.Step c.in-Step.row ∷ [] = ap (λ (x : List Row). body_so_far x c.loop-line.raises) c.in_ok-push-in-Step.ensures ∙ body_step c.loop-line.steps c.loop-line.raises c.in-Step.row (ap length (c.if-is_empty.ensures.0 refl)) in
+    let p : c.push.new.self ≡ c.loop-line.steps ++ c.in-Step.row ∷ [] = c.in_ok-push-in-Step.ensures ∙ ap (λ (x : Row). c.loop-line.steps ++ x ∷ []) c.in_ok-of-in-Step.ensures in
+    let b : (body_so_far c.push.new.self c.loop-line.raises) ≡ (body_so_far c.loop-line.steps c.loop-line.raises) ++ line.Step c.in-Step.row ∷ [] = ap (λ (x : List Row). body_so_far x c.loop-line.raises) p ∙ body_step c.loop-line.steps c.loop-line.raises c.in-Step.row (ap length (c.if-is_empty.ensures.0 refl)) in
     let il : IsRow c.in-Step.row = subst IsLine c.in-Step.is c.in-Some.ensures.line in
     let front : drop c.loop-line.at c.args.bytes.now ≡ whole (line.Step c.in-Step.row) ++ drop c.in-Some.next c.args.bytes.now = c.in-Some.ensures.text ∙ ap (λ (x : Line). whole x ++ drop c.in-Some.next c.args.bytes.now) c.in-Step.is in
     record {
@@ -32,13 +33,14 @@ loop-line-preserved-then-is_empty c =
       count = omega (arith, c.loop-line.invariant.count, ap length b, length-append (body_so_far c.loop-line.steps c.loop-line.raises) (line.Step c.in-Step.row ∷ []));
       text = text_more (drop c.args.from c.args.bytes.now) (drop c.loop-line.at c.args.bytes.now) (drop c.in-Some.next c.args.bytes.now) (body_so_far c.loop-line.steps c.loop-line.raises) (line.Step c.in-Step.row) c.loop-line.invariant.text front
           ∙ ap (λ (x : List Line). text_of x ++ drop c.in-Some.next c.args.bytes.now) (sym b);
-      are_rows = subst (All IsRow) (sym c.in_ok-push-in-Step.ensures) (All-append IsRow c.loop-line.steps (c.in-Step.row ∷ []) c.loop-line.invariant.are_rows (one_all IsRow c.in-Step.row il));
+      are_rows = subst (All IsRow) (sym p) (All-append IsRow c.loop-line.steps (c.in-Step.row ∷ []) c.loop-line.invariant.are_rows (one_all IsRow c.in-Step.row il));
       are_raises = c.loop-line.invariant.are_raises;
     }
 
 pub loop-line-preserved : goal.loop-line-preserved
 loop-line-preserved c =
-    let b : (body_so_far c.loop-line.steps c.push-in-Change.new.self) ≡ (body_so_far c.loop-line.steps c.loop-line.raises) ++ line.Change c.in-Change.raise ∷ [] = ap (λ (x : List Raise). body_so_far c.loop-line.steps x) c.in_ok-push-in-Change.ensures ∙ body_change c.loop-line.steps c.loop-line.raises c.in-Change.raise in
+    let p : c.push-in-Change.new.self ≡ c.loop-line.raises ++ c.in-Change.raise ∷ [] = c.in_ok-push-in-Change.ensures ∙ ap (λ (x : Raise). c.loop-line.raises ++ x ∷ []) c.in_ok-of-in-Change.ensures in
+    let b : (body_so_far c.loop-line.steps c.push-in-Change.new.self) ≡ (body_so_far c.loop-line.steps c.loop-line.raises) ++ line.Change c.in-Change.raise ∷ [] = ap (λ (x : List Raise). body_so_far c.loop-line.steps x) p ∙ body_change c.loop-line.steps c.loop-line.raises c.in-Change.raise in
     let il : IsRaise c.in-Change.raise = subst IsLine c.in-Change.is c.in-Some.ensures.line in
     let front : drop c.loop-line.at c.args.bytes.now ≡ whole (line.Change c.in-Change.raise) ++ drop c.in-Some.next c.args.bytes.now = c.in-Some.ensures.text ∙ ap (λ (x : Line). whole x ++ drop c.in-Some.next c.args.bytes.now) c.in-Change.is in
     record {
@@ -49,7 +51,7 @@ loop-line-preserved c =
       text = text_more (drop c.args.from c.args.bytes.now) (drop c.loop-line.at c.args.bytes.now) (drop c.in-Some.next c.args.bytes.now) (body_so_far c.loop-line.steps c.loop-line.raises) (line.Change c.in-Change.raise) c.loop-line.invariant.text front
           ∙ ap (λ (x : List Line). text_of x ++ drop c.in-Some.next c.args.bytes.now) (sym b);
       are_rows = c.loop-line.invariant.are_rows;
-      are_raises = subst (All IsRaise) (sym c.in_ok-push-in-Change.ensures) (All-append IsRaise c.loop-line.raises (c.in-Change.raise ∷ []) c.loop-line.invariant.are_raises (one_all IsRaise c.in-Change.raise il));
+      are_raises = subst (All IsRaise) (sym p) (All-append IsRaise c.loop-line.raises (c.in-Change.raise ∷ []) c.loop-line.invariant.are_raises (one_all IsRaise c.in-Change.raise il));
     }
 
 pub returns-in_default-line-clause-fault : goal.returns-in_default-line-clause-fault

@@ -5,8 +5,8 @@ use Rattle.dual_bound.proofs.Flat.{at_most_none}
 use Rattle.dual_bound.proofs.BaseFlat.{crossing_flat}
 use Rattle.dual_bound.proofs.raising.find.Goals as goal
 
-pub find_base-requires-clause-crossing : goal.find_base-requires-clause-crossing
-find_base-requires-clause-crossing c =
+pub find_low-requires-clause-crossing : goal.find_low-requires-clause-crossing
+find_low-requires-clause-crossing c =
     let gain : ℤ = c.choose_crossing-choice.result.gain in
     let s : SFits w64 gain = search rules in
     let le : le_z gain (pos 0) ≡ true = simp to_z-of_z at c.if-choice-le0.true in

@@ -8,5 +8,6 @@ loop-made-preserved c =
     record {
       priced = c.turn.ensures.priced;
       raised = raises_more c.args.model.now c.args.b.now c.args.m.now c.loop-made.m c.turn.new.m c.args.raises.now c.loop-made.raises c.turn.new.raises c.loop-made.made 1 i.raised c.in_default.ensures.raised;
+      face = c.turn.ensures.face;
       number = omega (arith, i.number, c.in_default.ensures.one);
     }

@@ -10,16 +10,16 @@ use Rattle.record_judge.proofs.boxes.tighten_all.Goals as goal
 pub loop-row-init : goal.loop-row-init
 loop-row-init c = record { len = c.requires.whole; rest = search rules }
 
-pub force-requires-clause-row : goal.force-requires-clause-row
-force-requires-clause-row c = here_all c.args.rows.now c.loop-row.row-index c.row-item.result c.loop-row-test.true c.row-item.is (λ (r : Row). (whole c.args.model.now).has r ≡ true) c.requires.rows
+pub force_kept-requires-clause-row : goal.force_kept-requires-clause-row
+force_kept-requires-clause-row c = here_all c.args.rows.now c.loop-row.row-index c.row-item.result c.loop-row-test.true c.row-item.is (λ (r : Row). (whole c.args.model.now).has r ≡ true) c.requires.rows
 
 pub loop-row-preserved : goal.loop-row-preserved
 loop-row-preserved c =
     let p = whole c.args.model.now in
     let i = c.loop-row.invariant in
     record {
-      len = ap (λ (b : Box). length b) c.force.ensures ∙ length_tight p c.loop-row.b c.row-item.result i.len;
-      rest = ap (λ (b : Box). tightened p b (drop (c.loop-row.row-index + 1) c.args.rows.now)) c.force.ensures
+      len = ap (λ (b : Box). length b) c.force_kept.ensures ∙ length_tight p c.loop-row.b c.row-item.result i.len;
+      rest = ap (λ (b : Box). tightened p b (drop (c.loop-row.row-index + 1) c.args.rows.now)) c.force_kept.ensures
           ∙ sym (ap (tightened p c.loop-row.b) (rest_cons c.args.rows.now c.loop-row.row-index c.row-item.result c.loop-row-test.true c.row-item.is)) ∙ i.rest;
     }
 

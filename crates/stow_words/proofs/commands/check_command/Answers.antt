@@ -4,4 +4,4 @@ use Rattle.clap.specs.Words.{with_rule}
 use Rattle.stow_words.proofs.commands.check_command.Goals as goal
 
 pub returns : goal.returns
-returns c = IfOk-weaker c.arg-4.result _ _ (λ r h. h.shape c.option_argument-arrival.ensures.local ∙ ap₂ with_rule (c.in_ok-arg-3.ensures.shape c.needed_argument-name.ensures.local ∙ ap₂ with_rule (c.in_ok-arg-2.ensures.shape c.needed_argument-bookings.ensures.local ∙ ap₂ with_rule (c.in_ok-arg.ensures.shape c.needed_argument-profile.ensures.local ∙ ap₂ with_rule c.new.ensures.app c.needed_argument-profile.ensures.rule) c.needed_argument-bookings.ensures.rule) c.needed_argument-name.ensures.rule) c.option_argument-arrival.ensures.rule) c.arg-4.ensures
+returns c = IfOk-weaker c.arg-4.result _ _ (λ r h. h.shape c.option_argument.ensures.local ∙ ap₂ with_rule (c.in_ok-arg-3.ensures.shape c.needed_argument-3.ensures.local ∙ ap₂ with_rule (c.in_ok-arg-2.ensures.shape c.needed_argument-2.ensures.local ∙ ap₂ with_rule (c.in_ok-arg.ensures.shape c.needed_argument.ensures.local ∙ ap₂ with_rule c.new.ensures.app c.needed_argument.ensures.rule) c.needed_argument-2.ensures.rule) c.needed_argument-3.ensures.rule) c.option_argument.ensures.rule) c.arg-4.ensures

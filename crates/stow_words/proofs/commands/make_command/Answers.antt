@@ -4,4 +4,4 @@ use Rattle.clap.specs.Words.{with_rule}
 use Rattle.stow_words.proofs.commands.make_command.Goals as goal
 
 pub returns : goal.returns
-returns c = IfOk-weaker c.arg-2.result _ _ (λ r h. h.shape c.needed_argument-name.ensures.local ∙ ap₂ with_rule (c.in_ok-arg.ensures.shape c.needed_argument-number.ensures.local ∙ ap₂ with_rule c.new.ensures.app c.needed_argument-number.ensures.rule) c.needed_argument-name.ensures.rule) c.arg-2.ensures
+returns c = IfOk-weaker c.arg-2.result _ _ (λ r h. h.shape c.needed_argument-2.ensures.local ∙ ap₂ with_rule (c.in_ok-arg.ensures.shape c.needed_argument.ensures.local ∙ ap₂ with_rule c.new.ensures.app c.needed_argument.ensures.rule) c.needed_argument-2.ensures.rule) c.arg-2.ensures

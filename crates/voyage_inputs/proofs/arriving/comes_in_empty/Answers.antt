@@ -7,14 +7,8 @@ use Rattle.voyage_inputs.proofs.arriving.comes_in_empty.Goals as goal
 
 pub returns : goal.returns
 returns c = record {
-  same_ship = refl;
-  same_bookings = refl;
   same_message = refl;
-  booked = record {
-    ship_rules = c.obeys_rules.ensures;
-    rules = c.requires;
-    read = tt;
-    cargo_rules = c.obeys_rules-2.ensures;
-    settled = subst (λ (cargo : Cargo). Settles c.args.ship c.args.bookings [] (Ok cargo)) (sym c.in_ok-cargo.ensures) (empty_settles c.args.ship c.args.bookings c.requires);
-  };
+  read = tt;
+  settled = subst (λ (cargo : Cargo). Settles c.args.ship.now c.args.bookings.now [] (Ok cargo)) (sym c.in_ok-cargo.ensures) (empty_settles c.args.ship.now c.args.bookings.now c.requires);
+  cargo_rules = c.obeys_rules.ensures;
 }

@@ -15,30 +15,30 @@ use Rattle.bound_checker.proofs.prices.Prices.raise_all.Goals as goal
 pub loop-raise-init : goal.loop-raise-init
 loop-raise-init c = λ first ms k holds. holds
 
-pub raise-requires : goal.raise-requires
-raise-requires c =
+pub raise_kept-requires : goal.raise_kept-requires
+raise_kept-requires c =
     let start : Holds c.args.model.now c.args.b.now c.requires.carries.0 c.args.self.now.changes.items c.requires.carries.0 c.args.self.now = record { carries = c.requires.carries.1; moves = moves_none c.args.model.now c.requires.carries.0 c.args.self.now.changes.items } in
     let H : Multipliers Row → Type 0 = λ ns. Holds c.args.model.now c.args.b.now c.requires.carries.0 c.args.self.now.changes.items ns c.loop-raise.self in
     let one = one_held c.args.model.now c.args.node H _ (c.loop-raise.invariant c.requires.carries.0 c.requires.carries.0 c.args.self.now.changes.items start) in
     record { carries = (one.0, one.1.carries) }
 
-pub returns-in_err-raise : goal.returns-in_err-raise
-returns-in_err-raise c = λ first ms k holds.
+pub returns-in_err-raise_kept : goal.returns-in_err-raise_kept
+returns-in_err-raise_kept c = λ first ms k holds.
     let p = err_from_is_err_and c.from_residual.result c.from_residual.ensures.1 in
-    let g : c.from_residual.result ≡ Err c.in_err-raise.field-0.0 = p.1 ∙ ap (λ (f : BoundNo). Err f) p.2 in
+    let g : c.from_residual.result ≡ Err c.in_err-raise_kept.field-0.0 = p.1 ∙ ap (λ (f : BoundNo). Err f) p.2 in
     let H : Multipliers Row → Type 0 = λ ns. Holds c.args.model.now c.args.b.now first k ns c.loop-raise.self in
-    let K : Multipliers Row → Type 0 = λ ns. Holds c.args.model.now c.args.b.now first k ns c.raise.new.self in
-    let ends : Ends K (raised_rows (whole c.args.model.now) c.args.node (Ok ms) (map raise_of c.args.raises.now)) (Err c.in_err-raise.field-0.0) =
-    subst (λ (o : Result (Multipliers Row) BoundNo). Ends K o (Err c.in_err-raise.field-0.0)) (sym (raised_rest (whole c.args.model.now) c.args.node (Ok ms) c.args.raises.now c.loop-raise.raise-index c.raise-item.result c.loop-raise-test.true c.raise-item.is))
-    (fails_more c.args.model.now c.args.node H K _ c.raise-item.result c.in_err-raise.field-0.0 (map raise_of (drop (c.loop-raise.raise-index + 1) c.args.raises.now)) (c.loop-raise.invariant first ms k holds) (λ ns held. c.in_err-raise.ensures first ns k held)) in
+    let K : Multipliers Row → Type 0 = λ ns. Holds c.args.model.now c.args.b.now first k ns c.raise_kept.new.self in
+    let ends : Ends K (raised_rows (whole c.args.model.now) c.args.node (Ok ms) (map raise_of c.args.raises.now)) (Err c.in_err-raise_kept.field-0.0) =
+    subst (λ (o : Result (Multipliers Row) BoundNo). Ends K o (Err c.in_err-raise_kept.field-0.0)) (sym (raised_rest (whole c.args.model.now) c.args.node (Ok ms) c.args.raises.now c.loop-raise.raise-index c.raise-item.result c.loop-raise-test.true c.raise-item.is))
+    (fails_more c.args.model.now c.args.node H K _ c.raise-item.result c.in_err-raise_kept.field-0.0 (map raise_of (drop (c.loop-raise.raise-index + 1) c.args.raises.now)) (c.loop-raise.invariant first ms k holds) (λ ns held. c.in_err-raise_kept.ensures first ns k held)) in
     subst (λ (r : Result (Unit {0}) BoundNo). Ends K (raised_rows (whole c.args.model.now) c.args.node (Ok ms) (map raise_of c.args.raises.now)) r) (sym g) ends
 
 pub loop-raise-preserved : goal.loop-raise-preserved
 loop-raise-preserved c = λ first ms k holds.
     let H : Multipliers Row → Type 0 = λ ns. Holds c.args.model.now c.args.b.now first k ns c.loop-raise.self in
-    let K : Multipliers Row → Type 0 = λ ns. Holds c.args.model.now c.args.b.now first k ns c.raise.new.self in
+    let K : Multipliers Row → Type 0 = λ ns. Holds c.args.model.now c.args.b.now first k ns c.raise_kept.new.self in
     subst (λ (o : Result (Multipliers Row) BoundNo). Held K o) (sym (raised_more (whole c.args.model.now) c.args.node (Ok ms) c.args.raises.now c.loop-raise.raise-index c.raise-item.result c.loop-raise-test.true c.raise-item.is))
-    (held_more c.args.model.now c.args.node H K _ c.raise-item.result (c.loop-raise.invariant first ms k holds) (λ ns held. c.in_ok-raise.ensures first ns k held))
+    (held_more c.args.model.now c.args.node H K _ c.raise-item.result (c.loop-raise.invariant first ms k holds) (λ ns held. c.in_ok-raise_kept.ensures first ns k held))
 
 pub returns : goal.returns
 returns c = λ first ms k holds.

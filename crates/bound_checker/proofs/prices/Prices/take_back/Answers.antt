@@ -1,4 +1,4 @@
-use Rattle.std.proofs.Common.{rules, arith, ◌≡◌, ◌≤◌, ◌+◌, ◌∙◌, ap, List, [], ◌∷◌, ◌++◌, length, length-append}
+use Rattle.std.proofs.Common.{rules, arith, ◌≡◌, ◌≤◌, ◌+◌, ◌∙◌, ap, sym, List, [], ◌∷◌, ◌++◌, length, length-append}
 use Rattle.proof_trees.specs.Multipliers.{with_amount}
 use Rattle.bound_checker.specs.declared.prices.Change.{Change}
 use Rattle.certificate.specs.Entries.{same_row}
@@ -30,14 +30,14 @@ pub loop-alloc-preserved-in-Continue-1 : goal.loop-alloc-preserved-in-Continue-1
 loop-alloc-preserved-in-Continue-1 c =
     let i = c.loop-alloc.invariant in
     let k : List Change = c.loop-alloc.self.changes.items in
-    let l : List Change = c.pop.new.self.items in
-    let is : k ≡ l ++ c.in-Some.change ∷ [] = c.in-Some.ensures.items in
+    let l : List Change = c.undo.new.self.changes.items in
+    let is : k ≡ l ++ c.in-Some.change ∷ [] = c.in-Some.ensures.items ∙ ap (λ cs. cs.items ++ c.in-Some.change ∷ []) (sym c.in_ok-undo.ensures.changes) in
     let n : length k ≡ length l + 1 = ap (λ (xs : List Change). length xs) is ∙ length-append l (c.in-Some.change ∷ []) in
     let le : c.args.to ≤ length l = omega (arith, c.loop-alloc-test.true, c.len.ensures, n) in
     record {
-      some = (with_amount same_row i.some.0 c.in-Some.change.row c.in-Some.change.old, c.in_ok-give.ensures i.some.0 i.some.1);
+      some = (with_amount same_row i.some.0 c.in-Some.change.row c.in-Some.change.old, c.in_ok-undo.ensures.carries i.some.0 i.some.1);
       carries = λ ms ns carries before. (let a = i.carries ms ns carries before in
-          (with_amount same_row a.0 c.in-Some.change.row c.in-Some.change.old, c.in_ok-give.ensures a.0 a.1, before_less ns a.0 c.args.to k l c.in-Some.change is le a.2));
+          (with_amount same_row a.0 c.in-Some.change.row c.in-Some.change.old, c.in_ok-undo.ensures.carries a.0 a.1, before_less ns a.0 c.args.to k l c.in-Some.change is le a.2));
       sound = others_sound c.args.model.now k l c.in-Some.change is i.sound;
       kept = changes_less k l _ c.in-Some.change c.args.to is le i.kept;
       to = le;

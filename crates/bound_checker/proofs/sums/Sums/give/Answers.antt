@@ -22,10 +22,10 @@ add_row-requires-clause-priced c = (c.requires.carries.0, c.requires.carries.1.p
 pub returns : goal.returns
 returns c = λ ms carries.
     let b : SFits w64 c.difference-by.result = search rules in
-    let same : c.add_row.new.self.amounts ≡ c.args.self.now.amounts = c.in_ok-add_row.ensures.amounts in
+    let same : c.add_row.new.self.amounts ≡ c.args.self.now.amounts = c.in_ok-count.ensures.amounts in
     let sum : pos (amount_of same_row ms c.args.row.now) +ℤ c.difference-by.result ≡ pos c.args.amount =
     ap (λ (n : ℕ). pos n +ℤ c.difference-by.result) (sym (carries.amounts c.args.row.now) ∙ sym c.at.ensures) ∙ c.difference-by.ensures.value in
-    let priced = simp to_z-of_z at c.in_ok-add_row.ensures.priced in
+    let priced = simp to_z-of_z at c.in_ok-count.ensures.priced in
     carries_more c.args.model.now c.args.b.now ms c.args.self.now carries c.args.row.now c.args.amount _
     (λ q. c.in_ok-set.ensures q ∙ ap (λ (es : List (Row × ℕ)). cond (same_row c.args.row.now q) c.args.amount (amount_of same_row es q)) same)
     (priced ms c.args.amount carries.priced sum c.requires.amount) c.add_row.ensures.blank c.add_row.ensures.rows

@@ -43,7 +43,7 @@ returns c = λ ms n priced sum low.
     let small : IsSmall m c.args.listed.row.now = record {
       named = c.requires.listed.row;
       right = subst (λ (z : ℤ). unsigned_abs z ≤ 2 ^ 37) c.requires.listed.right c.requires.listed.low;
-      coefs = coefs_small m c.args.listed.row.now c.args.listed.terms.now c.requires.listed.terms c.requires.listed.row;
+      coefs = coefs_small m c.args.listed.row.now c.args.listed.terms.now c.requires.listed.terms;
     } in
     let reduced = simp to_z-of_z at c.price_vars.ensures.reduced in
     simp to_z-of_z (add_priced m c.args.b.now ms c.args.listed.row.now c.args.by n c.args.self.now (record { reduced = mid.reduced; right = c.grown-self.result; value = c.grown-self-2.result }) priced sum low small

@@ -11,5 +11,5 @@ invariant-loop-term l = record {
   right : l.self.right ≡ l.fn.self.right;
   gauged : Gauged l.model l.b l.self;
   value : unsigned_abs l.self.value ≤ 2 ^ 100 + l.term-index * 2 ^ 57;
-  reduced : Lost (λ v. l.by *ℤ (whole l.model).coef l.row v) l.fn.self.reduced.items (map (λ t. t.var) l.terms) (length (variables l.model)) l.self.reduced.items l.term-index;
+  reduced : Lost (λ v. l.by *ℤ (whole l.model).coef l.row v) l.fn.self.reduced.items (map (λ t. t.at) l.terms) (length (variables l.model)) l.self.reduced.items l.term-index;
 }

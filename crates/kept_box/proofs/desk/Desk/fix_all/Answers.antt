@@ -8,29 +8,29 @@ use Rattle.zero_one_rows.specs.Rows.{whole}
 use Rattle.partial_plan.specs.Forced.{stepped}
 use Rattle.partial_plan.proofs.Freeing.{noted_more}
 use Rattle.partial_plan.proofs.Walking.{Partly, listed_more, all_taken}
-use Rattle.kept_box.specs.declared.terms.Term.{Term}
-use Rattle.kept_box.specs.Terms.{row_at}
-use Rattle.kept_box.proofs.Looks.{vars_in, term_at, tight_run}
+use Rattle.base_matrix.specs.declared.entries.Term.{Term}
+use Rattle.base_matrix.specs.Terms.{row_at, vars_in}
+use Rattle.kept_box.proofs.Looks.{term_at, tight_run}
 use Rattle.kept_box.proofs.Moving.{marks_more}
 use Rattle.kept_box.proofs.desk.Desk.fix_all.Goals as goal
 
 pub fix_term-requires-clause-var : goal.fix_term-requires-clause-var
 fix_term-requires-clause-var c =
-    let t = term_at c.args.matrix.now (row_at c.args.matrix.now c.args.k) c.terms-term-items.result.now c.loop-term.term-index c.term-item.result c.terms-term-items.ensures c.loop-term-test.true (sym c.term-item.is) in
+    let t = term_at c.args.matrix.now (row_at c.args.matrix.now c.args.k) c.args.terms.now c.loop-term.term-index c.term-item.result c.requires.terms c.loop-term-test.true (sym c.term-item.is) in
     omega (arith, t.inside, c.loop-term.invariant.desk.holds.whole)
 
 pub loop-term-preserved : goal.loop-term-preserved
 loop-term-preserved c =
     let i = c.loop-term.invariant in
     let s : SFits w64 c.args.slack = search rules in
-    let t = term_at c.args.matrix.now (row_at c.args.matrix.now c.args.k) c.terms-term-items.result.now c.loop-term.term-index c.term-item.result c.terms-term-items.ensures c.loop-term-test.true (sym c.term-item.is) in
-    let n : length (vars_in c.terms-term-items.result.now) ≡ length c.terms-term-items.result.now = length-map c.terms-term-items.result.now (λ (u : Term). u.at) in
-    let lt : c.loop-term.term-index < length (vars_in c.terms-term-items.result.now) = omega (arith, c.loop-term-test.true) in
+    let t = term_at c.args.matrix.now (row_at c.args.matrix.now c.args.k) c.args.terms.now c.loop-term.term-index c.term-item.result c.requires.terms c.loop-term-test.true (sym c.term-item.is) in
+    let n : length (vars_in c.args.terms.now) ≡ length c.args.terms.now = length-map c.args.terms.now (λ (u : Term). u.at) in
+    let lt : c.loop-term.term-index < length (vars_in c.args.terms.now) = omega (arith, c.loop-term-test.true) in
     let is : c.fix_term.new.self.b ≡ stepped c.args.slack c.loop-term.self.b c.term-item.result.at ((whole c.args.matrix.now).coef (row_at c.args.matrix.now c.args.k) c.term-item.result.at) =
     (simp to_z-of_z at c.fix_term.ensures.known) ∙ ap (λ (z : ℤ). stepped c.args.slack c.loop-term.self.b c.term-item.result.at z) t.by_is in
     record {
       desk = c.fix_term.ensures.desk;
-      partly = simp to_z-of_z (listed_more c.args.slack (λ (v : ℕ). (whole c.args.matrix.now).coef (row_at c.args.matrix.now c.args.k) v) (length (variables c.args.matrix.now)) c.args.self.now.b (vars_in c.terms-term-items.result.now) c.loop-term.term-index c.term-item.result.at c.loop-term.self.b c.fix_term.new.self.b lt t.place i.desk.holds.whole t.inside is (simp to_z-of_z at i.partly));
+      partly = simp to_z-of_z (listed_more c.args.slack (λ (v : ℕ). (whole c.args.matrix.now).coef (row_at c.args.matrix.now c.args.k) v) (length (variables c.args.matrix.now)) c.args.self.now.b (vars_in c.args.terms.now) c.loop-term.term-index c.term-item.result.at c.loop-term.self.b c.fix_term.new.self.b lt t.place i.desk.holds.whole t.inside is (simp to_z-of_z at i.partly));
       noted = noted_more c.args.self.now.b c.loop-term.self.b c.fix_term.new.self.b c.args.self.now.undo.items c.loop-term.self.undo.items c.fix_term.new.self.undo.items i.noted c.fix_term.ensures.noted;
       marks = marks_more c.args.matrix.now c.args.self.now.slacks c.loop-term.self.slacks c.fix_term.new.self.slacks i.marks c.fix_term.ensures.marks;
     }
@@ -38,8 +38,8 @@ loop-term-preserved c =
 pub returns-clause-known : goal.returns-clause-known
 returns-clause-known c =
     let s : SFits w64 c.args.slack = search rules in
-    let n : length (vars_in c.terms-term-items.result.now) ≡ length c.terms-term-items.result.now = length-map c.terms-term-items.result.now (λ (u : Term). u.at) in
-    let e = all_taken (vars_in c.terms-term-items.result.now) c.loop-term.term-index (omega (arith, c.loop-term-test.false)) in
-    let partly : Partly (λ v. list_any (nat_eq v) (vars_in c.terms-term-items.result.now)) c.args.slack (λ v. (whole c.args.matrix.now).coef (row_at c.args.matrix.now c.args.k) v) (length (variables c.args.matrix.now)) c.args.self.now.b c.loop-term.self.b =
+    let n : length (vars_in c.args.terms.now) ≡ length c.args.terms.now = length-map c.args.terms.now (λ (u : Term). u.at) in
+    let e = all_taken (vars_in c.args.terms.now) c.loop-term.term-index (omega (arith, c.loop-term-test.false)) in
+    let partly : Partly (λ v. list_any (nat_eq v) (vars_in c.args.terms.now)) c.args.slack (λ v. (whole c.args.matrix.now).coef (row_at c.args.matrix.now c.args.k) v) (length (variables c.args.matrix.now)) c.args.self.now.b c.loop-term.self.b =
     subst (λ (xs : List ℕ). Partly (λ v. list_any (nat_eq v) xs) c.args.slack (λ v. (whole c.args.matrix.now).coef (row_at c.args.matrix.now c.args.k) v) (length (variables c.args.matrix.now)) c.args.self.now.b c.loop-term.self.b) e (simp to_z-of_z at c.loop-term.invariant.partly) in
-    tight_run c.args.matrix.now c.args.self.now.b c.args.slack c.args.k c.requires.desk.holds.whole c.requires.slack c.requires.met c.terms-term-items.result.now c.loop-term.self.b c.terms-term-items.ensures c.loop-term.invariant.desk.holds.whole partly
+    tight_run c.args.matrix.now c.args.self.now.b c.args.slack c.args.k c.requires.desk.holds.whole c.requires.slack c.requires.met c.args.terms.now c.loop-term.self.b c.requires.terms c.loop-term.invariant.desk.holds.whole partly

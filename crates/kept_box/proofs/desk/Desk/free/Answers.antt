@@ -2,7 +2,7 @@ use Rattle.std.proofs.Common.{◌≡◌, length, replicate, None, List, ℤ, sym
 use Rattle.std.proofs.lemmas.List.{length-replicate}
 use Rattle.proof_trees.specs.Boxes.{Box}
 use Rattle.zero_one_rows.specs.Variables.{Voyage, variables}
-use Rattle.kept_box.specs.Terms.{slack_in}
+use Rattle.base_matrix.specs.Terms.{slack_in}
 use Rattle.kept_box.specs.Waiting.{number_at}
 use Rattle.kept_box.proofs.Trails.{trails_free}
 use Rattle.kept_box.proofs.desk.Desk.free.Goals as goal
@@ -15,7 +15,7 @@ returns-clause-desk c =
     record {
       holds = record {
         whole = len;
-        short = record { slacks = ap (λ (xs : List ℤ). length xs) c.in_ok-slacks.ensures.slack ∙ c.slacks.ensures.many; marks = c.in_ok-slacks.ensures.len ∙ c.slacks.ensures.many };
+        short = record { slacks = ap (λ (xs : List ℤ). length xs) c.in_ok-slacks.ensures.slack ∙ c.slacks.ensures.many; marks = c.in_ok-slacks.ensures.len ∙ c.slacks.ensures.many; count = c.in_ok-slacks.ensures.count };
         slack = λ k lt. ap (λ (xs : List ℤ). number_at xs k) c.in_ok-slacks.ensures.slack ∙ c.slacks.ensures.each k lt ∙ ap (λ (b : Box). slack_in c.args.matrix.now b k) (sym box);
       };
       trails = trails_free c.args.matrix.now (record { b = c.in_ok-b.b; undo = c.in_ok-undo.undo; quiet = c.into_items-quiet.result; slacks = c.in_ok-slacks.slacks }) c.vars-vars.result (len ∙ sym vars) c.in_ok-undo.ensures.items c.in_ok-undo.ensures.capacity (c.into_items-quiet.ensures ∙ c.in_ok-filled.ensures);

@@ -14,4 +14,4 @@ returns-then-index-clause-rests c =
     let is : get_or c.take_back.new.self.quiet.items c.args.to false ≡ true = sym (read c.take_back.new.self.quiet.items c.args.to c.index.result.now false inside c.index.ensures) ∙ c.if-index.true in
     let quiet : IsQuiet c.args.matrix.now c.take_back.new.self.b =
     subst (λ (b : Box). IsQuiet c.args.matrix.now b) (released_all c.take_back.new.self.b c.take_back.new.self.undo.items c.args.to at_end) (c.take_back.ensures.desk.trails.quiet c.args.to (omega arith) is) in
-    rests_quiet c.args.matrix.now c.take_back.new.self.b c.rest.new.self c.rows_are_listed.ensures.base (holds_still c.args.matrix.now c.take_back.new.self.b c.take_back.new.self.slacks c.rest.new.self c.take_back.ensures.desk.holds c.rest.ensures.slack c.rest.ensures.len) quiet
+    rests_quiet c.args.matrix.now c.take_back.new.self.b c.rest.new.self c.rows_are_listed.ensures.base (holds_still c.args.matrix.now c.take_back.new.self.b c.take_back.new.self.slacks c.rest.new.self c.take_back.ensures.desk.holds c.rest.ensures.slack c.rest.ensures.len c.rest.ensures.count) quiet

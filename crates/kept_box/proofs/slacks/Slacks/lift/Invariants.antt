@@ -1,11 +1,13 @@
 use Rattle.std.proofs.Common.{◌≡◌, ℕ, ◌<◌, length, drop}
+use Rattle.base_matrix.specs.Terms.{lost}
 use Rattle.kept_box.specs.Waiting.{number_at}
 use Rattle.kept_box.proofs.Moving.{Rises}
 use Rattle.kept_box.proofs.slacks.Slacks.lift.Given as goal
 
-abbrev pub invariant-loop-loss : goal.invariant-loop-loss
-invariant-loop-loss l = record {
+abbrev pub invariant-loop-share : goal.invariant-loop-share
+invariant-loop-share l = record {
   len : length l.self.slack.items ≡ length l.fn.self.slack.items;
   waits : l.self.waits ≡ l.fn.self.waits;
-  rises : (r : ℕ) → r < length l.fn.self.slack.items → Rises l.losses (drop l.loss-index l.losses) r (number_at l.fn.self.slack.items r) (number_at l.self.slack.items r);
+  waiting : l.self.waiting ≡ l.fn.self.waiting;
+  rises : (r : ℕ) → r < length l.fn.self.slack.items → Rises (lost l.shares l.rows r) (lost (drop l.share-index l.shares) l.rows r) (number_at l.fn.self.slack.items r) (number_at l.self.slack.items r);
 }

@@ -5,6 +5,7 @@ abbrev pub invariant-loop-row : goal.invariant-loop-row
 invariant-loop-row l = record {
   slack : l.self.slack ≡ l.fn.self.slack;
   waits : l.self.waits ≡ l.fn.self.waits;
+  waiting : l.self.waiting ≡ l.fn.self.waiting;
 }
 
 abbrev pub decreases-loop-row : goal.decreases-loop-row

@@ -1,14 +1,25 @@
-use Rattle.std.proofs.Common.{List, Option, length, sym, subst, ◌∙◌, ap}
+use Rattle.std.proofs.Common.{◌≡◌, true, All, List, Option, Vec, Global, [], Some, length, map, sym, subst, ◌∙◌, ap}
 use Rattle.std.specs.Prelude.{IfSome}
 use Rattle.zero_one_rows.specs.declared.program.Raise.{Raise}
+use Rattle.zero_one_rows.specs.declared.program.Row.{Row}
+use Rattle.zero_one_rows.specs.Rows.{whole}
 use Rattle.proof_trees.specs.Boxes.{Box}
-use Rattle.node_work.proofs.Leading.{LeadTo, still_lead}
+use Rattle.proof_trees.specs.Multipliers.{Multipliers, raised_all}
+use Rattle.certificate.specs.Entries.{same_row, raise_of}
+use Rattle.node_work.specs.declared.stages.Stage.{Stage}
+use Rattle.node_work.specs.Scales.{Staged}
+use Rattle.node_work.proofs.Leading.{still_staged}
 use Rattle.node_work.proofs.scale.Scale.go_on.Goals as goal
 
 pub returns-clause-scale : goal.returns-clause-scale
-returns-clause-scale c = record {
-  voyage = c.in_ok-reraise.ensures.voyage ∙ c.begin.ensures.scale.voyage;
-  whole = ap (λ (b : Box). length b) c.in_ok-reraise.ensures.known ∙ c.begin.ensures.scale.whole;
-  made = still_lead c.take-made.result c.lengthened.result c.as_slice-raises.result.now c.begin.new.self.gauge.multipliers c.reraise.new.gauge.multipliers
-      (subst (λ (o : Option (List Raise)). IfSome o (LeadTo c.begin.new.self.gauge.multipliers)) (sym c.take-made.ensures.value) c.begin.ensures.scale.made) c.lengthened.ensures c.in_ok-reraise.ensures.raised;
-}
+returns-clause-scale c =
+    let m = c.args.model.now in
+    let us = c.begin.new.self.gauge.multipliers in
+    record {
+      voyage = c.in_ok-reraise.ensures.voyage ∙ c.begin.ensures.scale.voyage;
+      whole = ap (λ (b : Box). length b) c.in_ok-reraise.ensures.known ∙ c.begin.ensures.scale.whole;
+      staged = still_staged m c.take-stages.result c.lengthened.result us c.reraise.new.gauge.multipliers c.as_slice-raises.result.now c.len-before.result
+          (subst (λ (o : Option (Vec Stage Global)). IfSome o (λ v. Staged m [] v.items us)) (sym c.take-stages.ensures.value) c.begin.ensures.scale.staged) c.lengthened.ensures
+          (c.len-before.ensures ∙ ap (λ (ms : Multipliers Row). length ms) c.multipliers.ensures)
+          (subst (λ (rs : List Raise). All (λ (x : Raise). (whole m).has x.row ≡ true) rs) (sym (c.as_slice-raises.ensures ∙ c.in_ok-list.ensures)) c.requires.rows) c.in_ok-reraise.ensures.raised;
+    }

@@ -1,23 +1,32 @@
-use Rattle.std.proofs.Common.{List, ◌++◌, Option, Some, length, map, sym, subst, ◌∙◌, ap}
+use Rattle.std.proofs.Common.{◌≡◌, true, All, List, ◌++◌, Option, Vec, Global, [], Some, length, map, sym, subst, ◌∙◌, ap}
 use Rattle.std.specs.Prelude.{IfSome}
 use Rattle.zero_one_rows.specs.declared.program.Raise.{Raise}
+use Rattle.zero_one_rows.specs.declared.program.Row.{Row}
 use Rattle.zero_one_rows.specs.Variables.{Voyage}
+use Rattle.zero_one_rows.specs.Rows.{whole}
 use Rattle.proof_trees.specs.Boxes.{Box}
-use Rattle.proof_trees.specs.Multipliers.{raised_all}
+use Rattle.proof_trees.specs.Multipliers.{Multipliers, raised_all}
 use Rattle.certificate.specs.Entries.{same_row, raise_of}
 use Rattle.dual_bound.specs.Rising.{Ends}
-use Rattle.node_work.proofs.Leading.{LeadTo, still_lead}
+use Rattle.node_work.specs.declared.stages.Stage.{Stage}
+use Rattle.node_work.specs.Scales.{Staged}
+use Rattle.node_work.proofs.Leading.{still_staged, rows_of}
 use Rattle.node_work.proofs.scale.Scale.raise.Goals as goal
 
 pub returns-clause-scale : goal.returns-clause-scale
 returns-clause-scale c =
     let raised = c.raise-end.ensures.raised in
+    let m = c.args.model.now in
+    let us = c.args.self.now.gauge.multipliers in
+    let made : c.as_slice.result.now ≡ raised.made = c.as_slice.ensures ∙ raised.added ∙ ap (λ (rs : List Raise). rs ++ raised.made) c.requires.none in
     record {
       voyage = c.raise-end.ensures.same.0 ∙ c.requires.scale.voyage;
       whole = ap (λ (b : Box). length b) c.raise-end.ensures.same.1 ∙ c.requires.scale.whole;
-      made = still_lead c.take-made.result c.lengthened.result c.as_slice.result.now c.args.self.now.gauge.multipliers c.raise-end.new.self.multipliers
-          (subst (λ (o : Option (List Raise)). IfSome o (LeadTo c.args.self.now.gauge.multipliers)) (sym c.take-made.ensures.value) c.requires.scale.made) c.lengthened.ensures
-          (ap (λ (rs : List Raise). raised_all same_row (Some c.args.self.now.gauge.multipliers) (map raise_of rs)) (c.as_slice.ensures ∙ raised.added ∙ ap (λ (rs : List Raise). rs ++ raised.made) c.requires.none) ∙ raised.to);
+      staged = still_staged m c.take-stages.result c.lengthened.result us c.raise-end.new.self.multipliers c.as_slice.result.now c.len-before.result
+          (subst (λ (o : Option (Vec Stage Global)). IfSome o (λ v. Staged m [] v.items us)) (sym c.take-stages.ensures.value) c.requires.scale.staged) c.lengthened.ensures
+          (c.len-before.ensures ∙ ap (λ (ms : Multipliers Row). length ms) c.multipliers.ensures)
+          (subst (λ (rs : List Raise). All (λ (x : Raise). (whole m).has x.row ≡ true) rs) (sym made) (subst (λ (v : Voyage). All (λ (x : Raise). (whole v).has x.row ≡ true) raised.made) c.requires.scale.voyage (rows_of c.args.self.now.gauge.voyage raised.made raised.rows)))
+          (ap (λ (rs : List Raise). raised_all same_row (Some us) (map raise_of rs)) made ∙ raised.to);
     }
 
 pub returns-clause-ends : goal.returns-clause-ends

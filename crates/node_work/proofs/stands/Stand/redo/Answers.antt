@@ -17,7 +17,7 @@ returns-in_err-retighten-clause-stand c = let n = c.in_err-retighten.ensures.not
 pub halve-requires-clause-divides : goal.halve-requires-clause-divides
 halve-requires-clause-divides c =
     let same : c.record-record.result.now ≡ c.args.entry.now = c.record-record.ensures ∙ c.in_ok-entry.ensures in
-    let e : c.retighten.new.kept.known ≡ tightened (whole c.args.model.now) c.args.self.now.kept.known c.args.entry.now.steps = c.in_ok-retighten.ensures.tight ∙ ap (tightened (whole c.args.model.now) c.args.self.now.kept.known) (c.as_slice.ensures ∙ ap (λ (r : Record). r.steps) same) in
+    let e : c.retighten.new.kept.known ≡ tightened (whole c.args.model.now) c.args.self.now.kept.known c.args.entry.now.steps = c.in_ok-retighten.ensures.tight ∙ ap (tightened (whole c.args.model.now) c.args.self.now.kept.known) (c.as_slice.ensures ∙ c.in_ok-steps.ensures ∙ ap (λ (r : Record). r.steps) same) in
     subst (λ (b : Box). Divides (whole c.args.model.now) b (end_of (number_of c.args.model.now) c.record-record.result.now.end)) (sym e)
     (subst (λ (r : Record). Divides (whole c.args.model.now) (tightened (whole c.args.model.now) c.args.self.now.kept.known c.args.entry.now.steps) (end_of (number_of c.args.model.now) r.end)) (sym same) c.requires.divides)
 
@@ -33,11 +33,11 @@ returns-clause-stand c =
     let u : Stand = record { kept = c.retighten.new.kept; frames = c.args.self.now.frames } in
     let t : Stand = record { kept = c.halve.new.kept; frames = c.push.new.self } in
     let f : Frame = record { entry = c.in_ok-entry.entry; value = c.args.value; mark = length c.fixed-mark.result.now } in
-    let e : c.retighten.new.kept.known ≡ tightened (whole c.args.model.now) c.args.self.now.kept.known c.args.entry.now.steps = c.in_ok-retighten.ensures.tight ∙ ap (tightened (whole c.args.model.now) c.args.self.now.kept.known) (c.as_slice.ensures ∙ ap (λ (r : Record). r.steps) (c.record-record.ensures ∙ c.in_ok-entry.ensures)) in
+    let e : c.retighten.new.kept.known ≡ tightened (whole c.args.model.now) c.args.self.now.kept.known c.args.entry.now.steps = c.in_ok-retighten.ensures.tight ∙ ap (tightened (whole c.args.model.now) c.args.self.now.kept.known) (c.as_slice.ensures ∙ c.in_ok-steps.ensures ∙ ap (λ (r : Record). r.steps) (c.record-record.ensures ∙ c.in_ok-entry.ensures)) in
     let divides : Divides (whole c.args.model.now) c.retighten.new.kept.known (end_of (number_of c.args.model.now) c.in_ok-entry.entry.end) =
     subst (λ (b : Box). Divides (whole c.args.model.now) b (end_of (number_of c.args.model.now) c.in_ok-entry.entry.end)) (sym e)
     (subst (λ (r : Record). Divides (whole c.args.model.now) (tightened (whole c.args.model.now) c.args.self.now.kept.known c.args.entry.now.steps) (end_of (number_of c.args.model.now) r.end)) (sym c.in_ok-entry.ensures) c.requires.divides) in
-    redone c.args.model.now c.args.self.now u t f c.requires.stand n.0 k.0 c.requires.at c.in_ok-retighten.ensures.same (c.in_ok-retighten.ensures.tight ∙ ap (tightened (whole c.args.model.now) c.args.self.now.kept.known) (c.as_slice.ensures ∙ ap (λ (r : Record). r.steps) c.record-record.ensures)) n.1 n.2 refl
+    redone c.args.model.now c.args.self.now u t f c.requires.stand n.0 k.0 c.requires.at c.in_ok-retighten.ensures.same (c.in_ok-retighten.ensures.tight ∙ ap (tightened (whole c.args.model.now) c.args.self.now.kept.known) (c.as_slice.ensures ∙ c.in_ok-steps.ensures ∙ ap (λ (r : Record). r.steps) c.record-record.ensures)) n.1 n.2 refl
     c.halve.ensures.same (sym (ap (λ (us : List ℕ). length us) c.fixed-mark.ensures)) divides k.1 k.2 c.in_ok-push.ensures.items
 
 pub returns-clause-at_half : goal.returns-clause-at_half
@@ -46,5 +46,5 @@ returns-clause-at_half c =
     let u : Stand = record { kept = c.retighten.new.kept; frames = c.args.self.now.frames } in
     let t : Stand = record { kept = c.halve.new.kept; frames = c.push.new.self } in
     let f : Frame = record { entry = c.in_ok-entry.entry; value = c.args.value; mark = length c.fixed-mark.result.now } in
-    redone_at c.args.model.now c.args.self.now u t f c.requires.stand n.0 [] c.requires.at c.in_ok-retighten.ensures.same (c.in_ok-retighten.ensures.tight ∙ ap (tightened (whole c.args.model.now) c.args.self.now.kept.known) (c.as_slice.ensures ∙ ap (λ (r : Record). r.steps) c.record-record.ensures)) n.1 n.2 refl
+    redone_at c.args.model.now c.args.self.now u t f c.requires.stand n.0 [] c.requires.at c.in_ok-retighten.ensures.same (c.in_ok-retighten.ensures.tight ∙ ap (tightened (whole c.args.model.now) c.args.self.now.kept.known) (c.as_slice.ensures ∙ c.in_ok-steps.ensures ∙ ap (λ (r : Record). r.steps) c.record-record.ensures)) n.1 n.2 refl
     (c.halve.ensures.half ∙ ap (λ (r : Record). divided c.retighten.new.kept.known (end_of (number_of c.args.model.now) r.end) c.args.value) c.record-record.ensures) c.in_ok-push.ensures.items

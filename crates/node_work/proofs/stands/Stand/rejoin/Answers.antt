@@ -1,9 +1,11 @@
-use Rattle.std.proofs.Common.{◌≡◌, ℕ, ◌+◌, ◌-◌, ◌<◌, ◌≤◌, List, false, take, get_or, length, refl, sym, ◌∙◌, ap, arith}
+use Rattle.std.proofs.Common.{◌≡◌, ℕ, ◌+◌, ◌-◌, ◌<◌, ◌≤◌, List, false, take, get_or, length, map, refl, sym, subst, ◌∙◌, ap, arith}
+use Rattle.certificate.specs.declared.tree.Record.{Record}
+use Rattle.node_work.specs.Stands.{entry_in}
 use Rattle.std.proofs.lemmas.Result.{on_ok_weaker}
 use Rattle.node_work.specs.declared.stands.Frame.{Frame}
 use Rattle.node_work.proofs.Folds.{default_any}
 use Rattle.node_work.proofs.Standing.{stand_first}
-use Rattle.node_work.proofs.Walks.{turned_values}
+use Rattle.node_work.proofs.Walks.{same_last, turned_values}
 use Rattle.node_work.proofs.stands.Stand.rejoin.Goals as goal
 
 pub turn-requires-clause-stand : goal.turn-requires-clause-stand
@@ -21,3 +23,14 @@ returns-clause-values c = on_ok_weaker c.turn.result (λ t.
     let is : take (k + 1) frames ≡ _ = ap (λ (n : ℕ). take n frames) (sym one) ∙ sym c.truncate.ensures.items ∙ t.2 in
     turned_values frames t.0 c.turn.new.self.frames.items t.1 c.args.path.now k (get_or c.args.path.now k false) is t.3 lt (c.requires.values k one) lt' (default_any c.args.path.now k false (get_or c.args.path.now k false) lt')
     ∙ ap (λ (n : ℕ). take n c.args.path.now) (sym one)) c.turn.ensures.frames
+
+pub turn-requires-clause-same : goal.turn-requires-clause-same
+turn-requires-clause-same c = λ fs f is.
+    let k : ℕ = c.args.depth - 1 in
+    let one : c.args.depth ≡ k + 1 = omega (arith, c.if-depth-eq0.false) in
+    let frames : List Frame = c.args.self.now.frames.items in
+    let trail : List Record = c.args.trail.now in
+    let few : c.args.depth ≤ length frames = c.requires.frames in
+    let short : c.args.depth ≤ length trail = c.requires.records in
+    same_last frames fs f trail k c.index-trail-depth.result (subst (λ (n : ℕ). map entry_in (take n frames) ≡ take n trail) one c.requires.entries)
+    (ap (λ (n : ℕ). take n frames) (sym one) ∙ sym c.truncate.ensures.items ∙ is) (omega arith) (omega arith) c.index-trail-depth.is

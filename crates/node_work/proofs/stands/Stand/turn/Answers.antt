@@ -20,7 +20,8 @@ back_to-requires-clause-low c = low_marks c.args.model.now c.args.self.now c.pop
 
 pub halve-requires-clause-divides : goal.halve-requires-clause-divides
 halve-requires-clause-divides c =
-    subst (λ (r : Record). Divides (whole c.args.model.now) c.back_to.new.self.kept.known (end_of (number_of c.args.model.now) r.end)) (sym c.record.ensures)
+    let same : c.in_ok-entry.entry ≡ c.in-Some.frame.entry = c.in_ok-entry.ensures ∙ sym (c.requires.same c.pop.new.self.items c.in-Some.frame c.in-Some.ensures.items) in
+    subst (λ (r : Record). Divides (whole c.args.model.now) c.back_to.new.self.kept.known (end_of (number_of c.args.model.now) r.end)) (sym (c.record.ensures ∙ same))
     (may_halve c.args.model.now c.args.self.now c.pop.new.self.items c.in-Some.frame c.requires.stand c.in-Some.ensures.items c.back_to.new.self c.back_to.ensures.freed)
 
 pub returns-in_err-push-clause-stand : goal.returns-in_err-push-clause-stand
@@ -33,12 +34,18 @@ returns-clause-stand c =
     let n = c.halve.ensures.noted in
     let same : c.back_to.new.self.frames.items ≡ c.pop.new.self.items = ap (λ v. v.items) c.back_to.ensures.frames in
     let t : Stand = record { kept = c.halve.new.kept; frames = c.push.new.self } in
+    let own : c.in_ok-entry.entry ≡ c.in-Some.frame.entry = c.in_ok-entry.ensures ∙ sym (c.requires.same c.pop.new.self.items c.in-Some.frame c.in-Some.ensures.items) in
+    let joined : c.push.new.self.items ≡ c.back_to.new.self.frames.items ++ record { entry = c.in-Some.frame.entry; value = c.args.value; mark = c.in-Some.frame.mark } ∷ [] =
+    c.in_ok-push.ensures.items ∙ ap (λ (r : Record). c.back_to.new.self.frames.items ++ record { entry = r; value = c.args.value; mark = c.in-Some.frame.mark } ∷ []) own in
     turned c.args.model.now c.args.self.now c.pop.new.self.items c.in-Some.frame c.requires.stand c.in-Some.ensures.items c.back_to.new.self t c.args.value n.0 c.back_to.ensures.stand c.halve.ensures.same c.back_to.ensures.freed c.back_to.ensures.fewer same n.1 n.2
-    (c.in_ok-push.ensures.items ∙ ap (λ (gs : List Frame). gs ++ record { entry = c.in-Some.frame.entry; value = c.args.value; mark = c.in-Some.frame.mark } ∷ []) same)
+    (joined ∙ ap (λ (gs : List Frame). gs ++ record { entry = c.in-Some.frame.entry; value = c.args.value; mark = c.in-Some.frame.mark } ∷ []) same)
 
 pub returns-clause-at_half : goal.returns-clause-at_half
 returns-clause-at_half c =
     let t : Stand = record { kept = c.halve.new.kept; frames = c.push.new.self } in
+    let own : c.in_ok-entry.entry ≡ c.in-Some.frame.entry = c.in_ok-entry.ensures ∙ sym (c.requires.same c.pop.new.self.items c.in-Some.frame c.in-Some.ensures.items) in
+    let joined : c.push.new.self.items ≡ c.back_to.new.self.frames.items ++ record { entry = c.in-Some.frame.entry; value = c.args.value; mark = c.in-Some.frame.mark } ∷ [] =
+    c.in_ok-push.ensures.items ∙ ap (λ (r : Record). c.back_to.new.self.frames.items ++ record { entry = r; value = c.args.value; mark = c.in-Some.frame.mark } ∷ []) own in
     let same : c.back_to.new.self.frames.items ≡ c.pop.new.self.items = ap (λ v. v.items) c.back_to.ensures.frames in
-    turned_at c.args.model.now c.args.self.now c.pop.new.self.items c.in-Some.frame c.requires.stand c.in-Some.ensures.items c.back_to.new.self t c.args.value c.back_to.ensures.freed (c.halve.ensures.half ∙ ap (λ (r : Record). divided c.back_to.new.self.kept.known (end_of (number_of c.args.model.now) r.end) c.args.value) c.record.ensures)
-    (c.in_ok-push.ensures.items ∙ ap (λ (gs : List Frame). gs ++ record { entry = c.in-Some.frame.entry; value = c.args.value; mark = c.in-Some.frame.mark } ∷ []) same)
+    turned_at c.args.model.now c.args.self.now c.pop.new.self.items c.in-Some.frame c.requires.stand c.in-Some.ensures.items c.back_to.new.self t c.args.value c.back_to.ensures.freed (c.halve.ensures.half ∙ ap (λ (r : Record). divided c.back_to.new.self.kept.known (end_of (number_of c.args.model.now) r.end) c.args.value) (c.record.ensures ∙ own))
+    (joined ∙ ap (λ (gs : List Frame). gs ++ record { entry = c.in-Some.frame.entry; value = c.args.value; mark = c.in-Some.frame.mark } ∷ []) same)

@@ -2,7 +2,7 @@ use Rattle.std.proofs.Common.{◌≡◌, ℕ, ap, sym, ◌∙◌, subst, length}
 use Rattle.flat_lists.specs.Transposed.{IsTransposed}
 use Rattle.zero_one_rows.specs.Variables.{Voyage, variables}
 use Rattle.sum_matrix.specs.Numbers.{IsNumbering, numbers}
-use Rattle.sum_matrix.proofs.Turning.{turned_variables, turned_back, back_rising}
+use Rattle.sum_matrix.proofs.Turning.{turned_variables, turned_back, turned_inside, back_rising}
 use Rattle.sum_matrix.proofs.matrix.SumMatrix.build.Goals as goal
 
 pub invariant_of-result : goal.invariant_of-result
@@ -14,6 +14,7 @@ invariant_of-result c =
     record {
       numbering = n;
       by_sum = turned_variables c.in_ok-sums.sums c.in-Some.numbering c.in_ok-each.each c.in_ok-variables.variables n c.in_ok-each.ensures.each c.in_ok-each.ensures.of r;
+      inside = turned_inside c.in_ok-each.each c.in_ok-variables.variables (numbers c.in-Some.numbering) (length (variables c.in_ok-sums.sums)) r c.in_ok-each.ensures.each;
       by_variable = turned_back c.in_ok-sums.sums c.in-Some.numbering c.in_ok-each.each c.in_ok-variables.variables c.in_ok-holders.holders n c.in_ok-each.ensures.each c.in_ok-each.ensures.of r b;
       rising = λ v l. back_rising c.in_ok-variables.variables c.in_ok-holders.holders (length (variables c.in_ok-sums.sums)) v b l;
     }

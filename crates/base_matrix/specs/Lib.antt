@@ -1,0 +1,7 @@
+pub mod Terms
+pub mod Parted
+pub mod Counted
+pub mod Margins
+pub mod Signed
+pub mod Written
+pub mod Built

@@ -1,0 +1,45 @@
+//! Planned voyages, along which dives go.
+ghost use Rattle.std.specs.Prelude.{◌≡◌, ◌<◌, IfOk, IfSome, length};
+ghost use Rattle.zero_one_rows.specs.Variables.{variables};
+
+use crate::boxes::fix_free;
+use kept_box::KeptBox;
+use std::alloc::Global;
+use stow_data::{NoMemory, VarNo};
+use voyage_guess::{Planner, Wanted};
+use zero_one_model::{Box01, Model};
+use zero_one_rows::RowList;
+
+/// How many voyages are tried for a plan.
+const RUNS: u32 = 200;
+
+/// A planned voyage as a box, where one is found.
+pub fn planned(alloc: Global, model: &Model) -> Result<Option<Box01>, NoMemory>
+    ensures { IfOk result (λ found. IfSome found (λ b. length b ≡ length (variables model.now))) }
+{
+    let free = Box01::free(alloc, model)?;
+    let mut planner = Planner::new(alloc, model)?;
+    let wanted = Wanted {
+        cut: u64::MAX,
+        enough: 0,
+        runs: RUNS,
+    };
+    planner.choose(model, &free, wanted)?;
+    planner.full_box(alloc, model)
+}
+
+/// Fixes a variable at 1 where the plan has it there and the box has it free, and tightens the box. Whether there was something to do.
+pub fn step_down(kept: &mut KeptBox, plan: &Box01, x: VarNo, steps: &mut RowList) -> bool
+    requires inside { x < length plan.now }
+    requires whole { length plan.now ≡ length (variables kept.old.voyage) }
+    ensures same { kept.new.voyage ≡ kept.old.voyage }
+{
+    if plan.at(x) != Some(true) {
+        return false;
+    }
+    if !fix_free(kept, x, true) {
+        return false;
+    }
+    let _end = kept.tighten(steps);
+    true
+}

@@ -1,0 +1,236 @@
+//! Nodes of the search.
+ghost use Rattle.std.specs.Prelude.{◌≡◌, ℕ, ◌≤◌, ◌+◌, ◌++◌, ◌∷◌, [], IfOk, OnOk};
+ghost use Rattle.stow_data.specs.Shipment.{IsCargo};
+ghost use Rattle.node_work.specs.Work.{IsNode, EndsBranched, begins_at, most_rehandles};
+ghost use Rattle.zero_one_rows.specs.Variables.{Voyage};
+
+use box_parts::write_count;
+use certificate::{Path, Record};
+use node_work::{BaseMatrix, Desk, Tables, Worked, work};
+use search_nodes::{Node, SharedRecord, Trail};
+use std::alloc::Global;
+use stow_data::{Bytes, NoMemory};
+use voyage_guess::Planner;
+use zero_one_model::Model;
+
+/// The most branches on the way to a node.
+const DEEPEST: u32 = 10_000;
+
+/// The root.
+fn root(alloc: Global) -> Node
+    ensures { (m : Voyage) → IsNode m result }
+{
+    Node {
+        path: Path::new(alloc),
+        trail: Trail::new(alloc),
+    }
+}
+
+/// A cut that the program allows: this one or the greatest.
+fn cut_at(model: &Model, most: u64) -> u64
+    requires { IsCargo model.now.cargo }
+    ensures { result ≤ most_rehandles model.now + 1 }
+{
+    most.min(model.limit() + 1)
+}
+
+/// How the root ends against a cut.
+pub fn write_work(alloc: Global, model: &Model, cut: u64, out: &mut Bytes) -> Result<(), NoMemory>
+    requires { IsCargo model.now.cargo }
+{
+    let cut = cut_at(model, cut);
+    match work(alloc, model, &root(alloc), cut) {
+        Worked::Closed(record) => write_count(out, b"closed", record.raises.len()),
+        Worked::Branched(record) => write_count(out, b"branched", record.raises.len()),
+        Worked::Full { cost, .. } => write_count(out, b"full", cost),
+        Worked::NoMemory => Err(NoMemory),
+    }
+}
+
+/// Appends a record to a trail.
+fn push_shared(alloc: Global, trail: &mut Trail, entry: Record) -> Result<(), NoMemory>
+    ensures { OnOk result (trail.new ≡ trail.old ++ entry ∷ []) }
+{
+    let shared = SharedRecord::new(alloc, entry)?;
+    trail.push(shared)
+}
+
+/// Goes to the half of value 1 of a node that a record divides.
+fn descend(alloc: Global, node: &mut Node, entry: Record) -> Result<(), NoMemory>
+    ensures { (m : Voyage) (most cut : ℕ) → IsNode m node.old → EndsBranched m (begins_at m node.old) most cut entry → OnOk result (IsNode m node.new) }
+{
+    push_shared(alloc, &mut node.trail, entry)?;
+    node.path.push(true)
+}
+
+/// Ends a node, and goes to its half of value 1 where it is divided. Whether it was.
+fn go_down(alloc: Global, desk: &mut Desk, node: &mut Node, cut: u64) -> Result<bool, NoMemory>
+    requires cargo { IsCargo desk.old.cargo }
+    requires trail { IsNode desk.old node.old }
+    requires cut { cut ≤ most_rehandles desk.old + 1 }
+    ensures same { desk.new ≡ desk.old }
+    ensures trail { OnOk result (IsNode desk.old node.new) }
+{
+    match desk.work(alloc, node, cut) {
+        Worked::Branched(entry) => {
+            descend(alloc, node, entry)?;
+            Ok(true)
+        }
+        Worked::Closed(_) | Worked::Full { .. } => Ok(false),
+        Worked::NoMemory => Err(NoMemory),
+    }
+}
+
+/// Goes down from the root to where nothing is divided.
+fn bottom(alloc: Global, desk: &mut Desk, cut: u64) -> Result<Node, NoMemory>
+    requires cargo { IsCargo desk.old.cargo }
+    requires cut { cut ≤ most_rehandles desk.old + 1 }
+    ensures same { desk.new ≡ desk.old }
+    ensures trail { IfOk result (IsNode desk.old) }
+{
+    let mut node = root(alloc);
+    for _ in 0..DEEPEST {
+        if !go_down(alloc, desk, &mut node, cut)? {
+            return Ok(node);
+        }
+    }
+    Ok(node)
+}
+
+/// The nodes on so many ways from the root.
+fn go_down_often(alloc: Global, desk: &mut Desk, cut: u64, times: u64) -> Result<u64, NoMemory>
+    requires cargo { IsCargo desk.old.cargo }
+    requires cut { cut ≤ most_rehandles desk.old + 1 }
+{
+    let mut nodes: u64 = 0;
+    for _ in 0..times {
+        let node = bottom(alloc, desk, cut)?;
+        nodes = nodes.wrapping_add(node.path.len() as u64).wrapping_add(1);
+    }
+    Ok(nodes)
+}
+
+/// A fresh desk.
+fn desk_at<'a>(alloc: Global, model: &Model, tables: &'a Tables<'a>) -> Result<Desk<'a>, NoMemory>
+    ensures { IfOk result (λ desk. desk ≡ tables.now) }
+{
+    let planner = Planner::new(alloc, model)?;
+    Desk::fresh(alloc, tables, planner)
+}
+
+/// The same on a desk.
+fn write_nodes_at(
+    alloc: Global,
+    model: &Model,
+    desk: &mut Desk,
+    times: u64,
+    out: &mut Bytes,
+) -> Result<(), NoMemory>
+    requires cargo { IsCargo model.now.cargo }
+    requires voyage { desk.old ≡ model.now }
+{
+    let cut = cut_at(model, u64::MAX);
+    let nodes = go_down_often(alloc, desk, cut, times)?;
+    write_count(out, b"nodes", nodes)
+}
+
+/// The same on a desk of these tables.
+fn write_nodes_over(
+    alloc: Global,
+    model: &Model,
+    tables: &Tables,
+    times: u64,
+    out: &mut Bytes,
+) -> Result<(), NoMemory>
+    requires cargo { IsCargo model.now.cargo }
+    requires voyage { tables.now ≡ model.now }
+{
+    let mut desk = desk_at(alloc, model, tables)?;
+    write_nodes_at(alloc, model, &mut desk, times, out)
+}
+
+/// The nodes on ways from the root by value 1, on one desk.
+pub fn write_nodes(
+    alloc: Global,
+    model: &Model,
+    times: u64,
+    out: &mut Bytes,
+) -> Result<(), NoMemory>
+    requires { IsCargo model.now.cargo }
+{
+    let matrix = BaseMatrix::build(alloc, model)?;
+    let tables = Tables::build(alloc, &matrix);
+    write_nodes_over(alloc, model, &tables, times, out)
+}
+
+/// Begins a node, which closes at once at a cut of 0.
+fn begin(alloc: Global, desk: &mut Desk, node: &Node) -> Result<(), NoMemory>
+    requires cargo { IsCargo desk.old.cargo }
+    requires trail { IsNode desk.old node.now }
+    ensures same { desk.new ≡ desk.old }
+{
+    match desk.work(alloc, node, 0) {
+        Worked::NoMemory => Err(NoMemory),
+        Worked::Closed(_) | Worked::Branched(_) | Worked::Full { .. } => Ok(()),
+    }
+}
+
+/// Begins a node and the root in turn, which both close at once at a cut of 0, so many times over.
+fn begin_both(alloc: Global, desk: &mut Desk, node: &Node, times: u64) -> Result<(), NoMemory>
+    requires cargo { IsCargo desk.old.cargo }
+    requires trail { IsNode desk.old node.now }
+    ensures same { desk.new ≡ desk.old }
+{
+    let top = root(alloc);
+    for _ in 0..times {
+        begin(alloc, desk, &top)?;
+        begin(alloc, desk, node)?;
+    }
+    Ok(())
+}
+
+/// The same on a desk.
+fn write_again_at(
+    alloc: Global,
+    model: &Model,
+    desk: &mut Desk,
+    times: u64,
+    out: &mut Bytes,
+) -> Result<(), NoMemory>
+    requires cargo { IsCargo model.now.cargo }
+    requires voyage { desk.old ≡ model.now }
+{
+    let cut = cut_at(model, u64::MAX);
+    let node = bottom(alloc, desk, cut)?;
+    begin_both(alloc, desk, &node, times)?;
+    write_count(out, b"records", node.trail.len())
+}
+
+/// The same on a desk of these tables.
+fn write_again_over(
+    alloc: Global,
+    model: &Model,
+    tables: &Tables,
+    times: u64,
+    out: &mut Bytes,
+) -> Result<(), NoMemory>
+    requires cargo { IsCargo model.now.cargo }
+    requires voyage { tables.now ≡ model.now }
+{
+    let mut desk = desk_at(alloc, model, tables)?;
+    write_again_at(alloc, model, &mut desk, times, out)
+}
+
+/// How many records lie on the way to the last node, which is begun so many times from the root.
+pub fn write_again(
+    alloc: Global,
+    model: &Model,
+    times: u64,
+    out: &mut Bytes,
+) -> Result<(), NoMemory>
+    requires { IsCargo model.now.cargo }
+{
+    let matrix = BaseMatrix::build(alloc, model)?;
+    let tables = Tables::build(alloc, &matrix);
+    write_again_over(alloc, model, &tables, times, out)
+}
