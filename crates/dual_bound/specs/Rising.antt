@@ -6,7 +6,7 @@ use Rattle.zero_one_rows.specs.Rows.{whole, is_base}
 use Rattle.proof_trees.specs.Boxes.{Box}
 use Rattle.proof_trees.specs.Multipliers.{Multipliers, amount_of, with_amount, worth, Closes}
 use Rattle.certificate.specs.Entries.{same_row}
-use Rattle.dual_bound.specs.declared.raising.Rising.{Rising}
+use Rattle.dual_bound.specs.declared.rising.Rising.{Rising}
 use Rattle.dual_bound.specs.declared.raising.Raised.{Raised}
 use Rattle.dual_bound.specs.declared.raising.Raised.TheVariants.{Reached, Stuck, Spent, NoMemory}
 use Rattle.dual_bound.specs.Raising.{IsStuck}

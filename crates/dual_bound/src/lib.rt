@@ -4,6 +4,7 @@
 mod best_pairs;
 mod changing;
 mod costs;
+mod finding;
 mod gauge;
 mod multipliers;
 mod offers;
@@ -11,6 +12,7 @@ mod packing;
 mod pairs;
 mod plain_value;
 mod raising;
+mod rising;
 mod sizes;
 mod table;
 mod terms;

@@ -26,6 +26,32 @@ fn ship_of<F: Folder>(alloc: Global, folder: &mut F, name: &str) -> Result<Ship,
     }
 }
 
+/// The cargo of bookings on a ship that comes in empty.
+fn cargo_of(alloc: Global, ship: &Ship, text: &[u8]) -> Result<Cargo, Stop>
+    ensures { IfOk result (HasArrival ship.now) }
+{
+    let Ok(bookings) = read_bookings(alloc, text) else {
+        return Err(Stop::Unclear);
+    };
+    match settle(alloc, ship, &bookings, None) {
+        Ok(cargo) => Ok(cargo),
+        Err(_) => Err(Stop::Unclear),
+    }
+}
+
+/// The cargo of a file of bookings.
+fn cargo_from<F: Folder>(
+    alloc: Global,
+    folder: &mut F,
+    ship: &Ship,
+    name: &str,
+) -> Result<Cargo, Stop>
+    ensures { IfOk result (HasArrival ship.now) }
+{
+    let text = folder.read(name)?;
+    cargo_of(alloc, ship, text.as_slice())
+}
+
 /// The voyage of a profile and bookings, of a ship that comes in empty.
 pub fn voyage_of<F: Folder>(
     alloc: Global,
@@ -36,14 +62,8 @@ pub fn voyage_of<F: Folder>(
     ensures { IfOk result (λ v. HasArrival v.ship v.cargo) }
 {
     let ship = ship_of(alloc, folder, profile)?;
-    let text = folder.read(bookings)?;
-    let Ok(bookings) = read_bookings(alloc, text.as_slice()) else {
-        return Err(Stop::Unclear);
-    };
-    match settle(alloc, &ship, &bookings, None) {
-        Ok(cargo) => Ok(Voyage { ship, cargo }),
-        Err(_) => Err(Stop::Unclear),
-    }
+    let cargo = cargo_from(alloc, folder, &ship, bookings)?;
+    Ok(Voyage { ship, cargo })
 }
 
 /// The records of a file in the form of a certificate.

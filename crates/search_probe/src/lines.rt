@@ -47,6 +47,23 @@ fn follow<F: Folder>(
     Ok(())
 }
 
+/// Runs the searches of a text.
+fn probe_text<F: Folder>(
+    alloc: Global,
+    text: &str,
+    folder: &mut F,
+    out: &mut Bytes,
+) -> Result<(), Stop> {
+    let mut search = Search {
+        begins: WordList::new(alloc),
+        lines: WordList::new(alloc),
+    };
+    for line in text.lines() {
+        follow(alloc, folder, &mut search, line, out)?;
+    }
+    Ok(())
+}
+
 /// Runs the searches of the file of this name.
 pub fn probe<F: Folder>(
     alloc: Global,
@@ -58,12 +75,5 @@ pub fn probe<F: Folder>(
     let Ok(text) = str::from_utf8(bytes.as_slice()) else {
         return Err(Stop::Unclear);
     };
-    let mut search = Search {
-        begins: WordList::new(alloc),
-        lines: WordList::new(alloc),
-    };
-    for line in text.lines() {
-        follow(alloc, folder, &mut search, line, out)?;
-    }
-    Ok(())
+    probe_text(alloc, text, folder, out)
 }

@@ -1,5 +1,5 @@
 //! One search: its events in order, and what they are answered.
-ghost use Rattle.std.specs.Prelude.{◌≡◌};
+ghost use Rattle.std.specs.Prelude.{◌≡◌, ◌<◌};
 ghost use Rattle.stowage_rules.specs.Departure.{HasArrival};
 ghost use Rattle.search_machine.specs.Machine.{IsWorker};
 
@@ -12,7 +12,7 @@ use crossing_law::crossing_rows_hold;
 use record_judge::RecordJudge;
 use search_events::{Core, Ended, Event};
 use std::alloc::Global;
-use stow_data::{Bytes, Word};
+use stow_data::{Bytes, NoMemory, Word};
 use stow_io::Folder;
 use zero_one_model::{Model, ModelNo};
 
@@ -140,6 +140,42 @@ fn say_ended(ended: &Ended, out: &mut Bytes) -> Result<(), Stop> {
     Ok(())
 }
 
+/// The lines of a search in order, with room for so many events.
+fn follow_all(
+    alloc: Global,
+    core: &mut Core<RecordJudge>,
+    room: u32,
+    records: &Tree,
+    lines: &[Word],
+    out: &mut Bytes,
+) -> Result<(), Stop> {
+    core.reserve(room)?;
+    for line in lines {
+        follow(alloc, core, records, line, out)?;
+    }
+    Ok(())
+}
+
+/// Ends a search, and says what it ends with.
+fn end(alloc: Global, core: Core<RecordJudge>, out: &mut Bytes) -> Result<(), Stop> {
+    let ended = core.finish(alloc)?;
+    say_ended(&ended, out)
+}
+
+/// A search as it begins.
+fn core_of<'a>(
+    alloc: Global,
+    model: &'a Model<'a>,
+    start: Start,
+) -> Result<Core<RecordJudge<'a>>, NoMemory>
+    requires voyage { HasArrival model.now.ship model.now.cargo }
+    requires workers { 0 < start.workers }
+{
+    crossing_rows_hold();
+    let judge = RecordJudge::new(alloc, model)?;
+    Core::start(alloc, judge, start.workers, start.start, start.budget)
+}
+
 fn run_on<'a>(
     alloc: Global,
     model: &'a Model<'a>,
@@ -153,15 +189,9 @@ fn run_on<'a>(
     if start.workers == 0 {
         return Err(Stop::Unclear);
     }
-    crossing_rows_hold();
-    let judge = RecordJudge::new(alloc, model)?;
-    let mut core = Core::start(alloc, judge, start.workers, start.start, start.budget)?;
-    core.reserve(start.room)?;
-    for line in lines {
-        follow(alloc, &mut core, records, line, out)?;
-    }
-    let ended = core.finish(alloc)?;
-    say_ended(&ended, out)
+    let mut core = core_of(alloc, model, start)?;
+    follow_all(alloc, &mut core, start.room, records, lines, out)?;
+    end(alloc, core, out)
 }
 
 fn run_of(
@@ -181,7 +211,36 @@ fn run_of(
     }
 }
 
-/// Runs a search. Its words are the names of profile, bookings and records, the number of workers, the value at the start, the budget, and for how many events room is made.
+/// With what a search begins: the number of workers, the value at the start, the budget, and for how many events room is made.
+fn start_of(words: &[Word]) -> Result<Start, Stop> {
+    let [workers, start, budget, room] = words else {
+        return Err(Stop::Unclear);
+    };
+    Ok(Start {
+        workers: number_of(workers)?,
+        start: u64::from(number_of(start)?),
+        budget: u64::from(number_of(budget)?),
+        room: number_of(room)?,
+    })
+}
+
+/// A search on a voyage, with the records of the file of this name.
+fn run_with<F: Folder>(
+    alloc: Global,
+    folder: &mut F,
+    v: &Voyage,
+    name: &Word,
+    start: Start,
+    lines: &[Word],
+    out: &mut Bytes,
+) -> Result<(), Stop>
+    requires { HasArrival v.now.ship v.now.cargo }
+{
+    let records = records_of(alloc, folder, name.as_str())?;
+    run_of(alloc, v, &records, start, lines, out)
+}
+
+/// Runs a search. Its words are the names of profile, bookings and records, and with what it begins.
 pub fn run<F: Folder>(
     alloc: Global,
     folder: &mut F,
@@ -189,16 +248,10 @@ pub fn run<F: Folder>(
     lines: &[Word],
     out: &mut Bytes,
 ) -> Result<(), Stop> {
-    let [profile, bookings, records, workers, start, budget, room] = words else {
+    let [profile, bookings, records, begins @ ..] = words else {
         return Err(Stop::Unclear);
     };
+    let start = start_of(begins)?;
     let v = voyage_of(alloc, folder, profile.as_str(), bookings.as_str())?;
-    let records = records_of(alloc, folder, records.as_str())?;
-    let start = Start {
-        workers: number_of(workers)?,
-        start: u64::from(number_of(start)?),
-        budget: u64::from(number_of(budget)?),
-        room: number_of(room)?,
-    };
-    run_of(alloc, &v, &records, start, lines, out)
+    run_with(alloc, folder, &v, records, start, lines, out)
 }

@@ -3,7 +3,7 @@ use Rattle.zero_one_rows.specs.declared.program.Row.{Row}
 use Rattle.program_rows.specs.Counted.{all_rows}
 use Rattle.dual_bound.specs.Rising.{IsFlat}
 use Rattle.dual_bound.proofs.Flat.{same_place}
-use Rattle.dual_bound.proofs.raising.look.Goals as goal
+use Rattle.dual_bound.proofs.rising.look.Goals as goal
 
 pub returns-in-Some-clause-none : goal.returns-in-Some-clause-none
 returns-in-Some-clause-none c = λ ok r at.

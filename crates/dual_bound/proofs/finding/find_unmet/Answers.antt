@@ -1,6 +1,6 @@
 use Rattle.std.proofs.Common.{ap, Ok}
 use Rattle.dual_bound.proofs.BaseFlat.{base_both}
-use Rattle.dual_bound.proofs.raising.find_unmet.Goals as goal
+use Rattle.dual_bound.proofs.finding.find_unmet.Goals as goal
 
 pub returns-in-None-clause-none : goal.returns-in-None-clause-none
 returns-in-None-clause-none c = λ ok.

@@ -1,6 +1,6 @@
 use Rattle.std.proofs.Common.{ap, Ok}
 use Rattle.dual_bound.proofs.Flat.{flat_both}
-use Rattle.dual_bound.proofs.raising.find_listed.Goals as goal
+use Rattle.dual_bound.proofs.finding.find_listed.Goals as goal
 
 pub returns-in-None-clause-none : goal.returns-in-None-clause-none
 returns-in-None-clause-none c = λ ok.

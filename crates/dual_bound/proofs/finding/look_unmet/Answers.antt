@@ -6,7 +6,7 @@ use Rattle.proof_trees.specs.Boxes.{violated}
 use Rattle.program_rows.specs.Counted.{base_rows}
 use Rattle.dual_bound.proofs.BaseFlat.{base_few}
 use Rattle.dual_bound.proofs.Leaning.{base_there, met_flat}
-use Rattle.dual_bound.proofs.raising.look_unmet.Goals as goal
+use Rattle.dual_bound.proofs.finding.look_unmet.Goals as goal
 
 pub look-requires-clause-number : goal.look-requires-clause-number
 look-requires-clause-number c = omega (arith, base_few c.args.model.now, c.requires.number)

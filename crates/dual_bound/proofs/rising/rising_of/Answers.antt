@@ -4,7 +4,7 @@ use Rattle.zero_one_rows.specs.declared.program.Row.{Row}
 use Rattle.base_matrix.specs.declared.entries.Term.{Term}
 use Rattle.dual_bound.specs.Costs.{IsListed}
 use Rattle.dual_bound.specs.Rising.{RisesBy}
-use Rattle.dual_bound.proofs.raising.rising_of.Goals as goal
+use Rattle.dual_bound.proofs.rising.rising_of.Goals as goal
 
 pub returns-clause-some : goal.returns-clause-some
 returns-clause-some c =

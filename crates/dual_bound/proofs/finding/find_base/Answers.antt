@@ -1,6 +1,6 @@
 use Rattle.std.proofs.Common.{arith, ap, Ok}
 use Rattle.dual_bound.proofs.BaseFlat.{base_few, base_both}
-use Rattle.dual_bound.proofs.raising.find_base.Goals as goal
+use Rattle.dual_bound.proofs.finding.find_base.Goals as goal
 
 pub find_between-requires-clause-to : goal.find_between-requires-clause-to
 find_between-requires-clause-to c = omega (arith, base_few c.args.model.now, c.base_rows-base.ensures)

@@ -3,7 +3,7 @@ use lib.Signed.{le_z}
 use Rattle.std.proofs.lemmas.Int.{to_z-of_z}
 use Rattle.dual_bound.proofs.Flat.{at_most_none}
 use Rattle.dual_bound.proofs.BaseFlat.{crossing_flat}
-use Rattle.dual_bound.proofs.raising.find.Goals as goal
+use Rattle.dual_bound.proofs.finding.find.Goals as goal
 
 pub find_low-requires-clause-crossing : goal.find_low-requires-clause-crossing
 find_low-requires-clause-crossing c =
