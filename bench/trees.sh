@@ -9,9 +9,9 @@
 #   zero:   the feeder, whose root raises 960 rows and all of whose 2,305 leaves are from zero;
 #   nested: the feeder, 1,900 boxes that wait one behind the other, each from zero with a raise; behind them a record that raises 960 rows, and
 #           all halves of the next twelve variables, each leaf from zero;
-#   chains: the deep ship, 20,000 boxes that wait one behind the other, each from zero with a raise; and the feeder, all halves of six variables,
-#           in each of them 2,200 such boxes;
-#   turns:  the deep ship, whose root raises 10,000 rows, and all halves of eleven variables, in each of them 40 such boxes;
+#   chains: the deep ship, 20,000 and 100,000 boxes that wait one behind the other, each from zero with a raise; and the feeder, all halves of
+#           four and of six variables, in each of them 2,200 such boxes;
+#   turns:  the deep ship, whose root raises 10,000 rows, and all halves of nine and of eleven variables, in each of them 40 such boxes;
 #   made:   the ship of `stow make 1`, with steps and raises by rows of five families: 64 MB, or as many as the first word says.
 # Aims: the feeder in at most 1 s, also where its leaves are from zero, the deep trees linear in their records, the made ship in at most
 # 10 s and 1 GiB with 64 MB; and for trees of a million records and the made ship with 512 MB (the most that is read) at most 8 times the
@@ -190,12 +190,15 @@ write_zero("feeder", variables(kinds("feeder"), 96, ()), [f"cell {call} {half}" 
 measure("feeder")
 write_nested("feeder", variables(kinds("feeder"), 96, ()), 1900, [f"cell {call} {half}" for call in range(1, 6) for half in range(192)], 12)
 measure("feeder")
-write_chains("deep", deep(380), 0, 20_000, "cell 9 2")
-measure("deep")
-write_chains("feeder", variables(kinds("feeder"), 96, ()), 6, 2200, "cell 1 0")
-measure("feeder")
-write_chains("deep", deep(380), 11, 40, "cell 9 2", [f"cell {call} {half}" for call in range(5, 8) for half in range(3800)][:10_000])
-measure("deep")
+for layers in 20_000, 100_000:
+    write_chains("deep", deep(380), 0, layers, "cell 9 2")
+    measure("deep")
+for width in 4, 6:
+    write_chains("feeder", variables(kinds("feeder"), 96, ()), width, 2200, "cell 1 0")
+    measure("feeder")
+for width in 9, 11:
+    write_chains("deep", deep(380), width, 40, "cell 9 2", [f"cell {call} {half}" for call in range(5, 8) for half in range(3800)][:10_000])
+    measure("deep")
 write_waits("deep", short[0], 2_000_000)
 measure("deep")
 if os.path.exists("made.profile.toml"):
