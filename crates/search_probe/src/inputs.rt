@@ -1,5 +1,5 @@
 //! The ship, the cargo and the records of a search.
-ghost use Rattle.std.specs.Prelude.{IfOk};
+ghost use Rattle.std.specs.Prelude.{IfOk, length, ◌≤◌, ◌^◌};
 ghost use Rattle.stowage_rules.specs.Departure.{HasArrival};
 
 use crate::stop::Stop;
@@ -28,6 +28,7 @@ fn ship_of<F: Folder>(alloc: Global, folder: &mut F, name: &str) -> Result<Ship,
 
 /// The cargo of bookings on a ship that comes in empty.
 fn cargo_of(alloc: Global, ship: &Ship, text: &[u8]) -> Result<Cargo, Stop>
+    requires { length text.now ≤ 2 ^ 29 }
     ensures { IfOk result (HasArrival ship.now) }
 {
     let Ok(bookings) = read_bookings(alloc, text) else {
