@@ -1,5 +1,5 @@
 //! What variables count in the sums that hold them.
-ghost use Rattle.std.specs.Prelude.{◌≡◌, ℕ, ◌<◌, ◌≤◌, ◌^◌, [], All, IfOk, length, map, slice_index_or};
+ghost use Rattle.std.specs.Prelude.{◌≡◌, ℕ, ◌<◌, ◌≤◌, ◌^◌, ◌++◌, ◌∷◌, [], All, IfOk, OnOk, length, map, slice_index_or};
 ghost use Rattle.zero_one_rows.specs.Variables.{variables};
 ghost use Rattle.sum_matrix.specs.Numbers.{numbers};
 ghost use Rattle.base_matrix.specs.Counted.{counted, weighs, all_weights, entry_by, share_of, AreEntries, AreShares};
@@ -73,6 +73,44 @@ fn entries_of(
     Ok(entries)
 }
 
+/// Appends the entries of a sum.
+fn push_entries(
+    alloc: Global,
+    z: Numbering,
+    number: usize,
+    weights: &[u32],
+    vars: &[usize],
+    lists: &mut FlatLists<Entry>,
+) -> Result<(), NoMemory>
+    requires inside { All (λ v. v < length weights.now) vars.now }
+    requires few { length weights.now ≤ 200000 }
+    ensures { OnOk result (lists.new ≡ lists.old ++ map (entry_by z number weights.now) vars.now ∷ []) }
+{
+    let entries = entries_of(alloc, z, number, weights, vars)?;
+    let pushed = lists.push(entries.as_slice());
+    drop(entries);
+    pushed
+}
+
+/// Appends the entries of each sum.
+fn push_all_entries(
+    alloc: Global,
+    matrix: &SumMatrix,
+    weights: &[u32],
+    lists: &mut FlatLists<Entry>,
+) -> Result<(), NoMemory>
+    requires weights { weights.now ≡ all_weights matrix.now.voyage }
+    requires few { length weights.now ≤ 200000 }
+    requires empty { lists.old ≡ [] }
+    ensures { OnOk result (AreEntries matrix.now.voyage matrix.now.numbering lists.new) }
+{
+    let z = matrix.numbering();
+    for number in 0..z.numbers() {
+        push_entries(alloc, z, number, weights, matrix.variables(number), lists)?;
+    }
+    Ok(())
+}
+
 /// The entries of each sum.
 pub(crate) fn all_entries(
     alloc: Global,
@@ -83,13 +121,14 @@ pub(crate) fn all_entries(
     requires few { length weights.now ≤ 200000 }
     ensures { IfOk result (AreEntries matrix.now.voyage matrix.now.numbering) }
 {
-    let z = matrix.numbering();
     let mut lists = FlatLists::new(alloc);
-    for number in 0..z.numbers() {
-        let entries = entries_of(alloc, z, number, weights, matrix.variables(number))?;
-        lists.push(entries.as_slice())?;
+    match push_all_entries(alloc, matrix, weights, &mut lists) {
+        Ok(_) => Ok(lists),
+        Err(no) => {
+            drop(lists);
+            Err(no)
+        }
     }
-    Ok(lists)
 }
 
 /// The shares of a variable of this weight in these sums.
@@ -111,6 +150,40 @@ fn shares_of(
     Ok(shares)
 }
 
+/// Appends the shares of a variable.
+fn push_shares(
+    alloc: Global,
+    z: Numbering,
+    weight: u32,
+    sums: &[usize],
+    lists: &mut FlatLists<Share>,
+) -> Result<(), NoMemory>
+    ensures { OnOk result (lists.new ≡ lists.old ++ map (share_of z weight) sums.now ∷ []) }
+{
+    let shares = shares_of(alloc, z, weight, sums)?;
+    let pushed = lists.push(shares.as_slice());
+    drop(shares);
+    pushed
+}
+
+/// Appends the shares of each variable.
+fn push_all_shares(
+    alloc: Global,
+    matrix: &SumMatrix,
+    weights: &[u32],
+    lists: &mut FlatLists<Share>,
+) -> Result<(), NoMemory>
+    requires weights { weights.now ≡ all_weights matrix.now.voyage }
+    requires empty { lists.old ≡ [] }
+    ensures { OnOk result ((v : ℕ) → v < length (variables matrix.now.voyage) → AreShares matrix.now.voyage matrix.now.numbering v (slice_index_or lists.new v [])) }
+{
+    let z = matrix.numbering();
+    for weight in weights {
+        push_shares(alloc, z, *weight, matrix.sums_of(lists.len()), lists)?;
+    }
+    Ok(())
+}
+
 /// The shares of each variable.
 pub(crate) fn all_shares(
     alloc: Global,
@@ -120,11 +193,12 @@ pub(crate) fn all_shares(
     requires weights { weights.now ≡ all_weights matrix.now.voyage }
     ensures { IfOk result (λ lists. (v : ℕ) → v < length (variables matrix.now.voyage) → AreShares matrix.now.voyage matrix.now.numbering v (slice_index_or lists v [])) }
 {
-    let z = matrix.numbering();
     let mut lists = FlatLists::new(alloc);
-    for weight in weights {
-        let shares = shares_of(alloc, z, *weight, matrix.sums_of(lists.len()))?;
-        lists.push(shares.as_slice())?;
+    match push_all_shares(alloc, matrix, weights, &mut lists) {
+        Ok(_) => Ok(lists),
+        Err(no) => {
+            drop(lists);
+            Err(no)
+        }
     }
-    Ok(lists)
 }

@@ -1,5 +1,5 @@
 //! The slack of each base row in the free box, and a number that no coefficient passes.
-ghost use Rattle.std.specs.Prelude.{◌≡◌, ℕ, ◌<◌, ◌≤◌, ◌^◌, [], ◌++◌, ◌∷◌, true, IfOk, OnOk, None, length, replicate, slice_index_or, pos, ◌-ℤ◌, ◌≤ℤ◌, unsigned_abs};
+ghost use Rattle.std.specs.Prelude.{◌≡◌, ℕ, ◌+◌, ◌<◌, ◌≤◌, ◌^◌, [], ◌++◌, ◌∷◌, true, IfOk, OnOk, None, length, replicate, slice_index_or, pos, ◌-ℤ◌, ◌≤ℤ◌, unsigned_abs};
 ghost use Rattle.proof_trees.specs.Boxes.{free_box, most};
 ghost use Rattle.zero_one_rows.specs.Variables.{variables};
 ghost use Rattle.zero_one_rows.specs.Rows.{is_base, whole};
@@ -118,6 +118,78 @@ fn push_margin(margins: &mut Margins, margin: Margin) -> Result<(), NoMemory>
     margins.tops.push(margin.top)
 }
 
+/// Appends the margin of the next base row.
+fn push_next(
+    alloc: Global,
+    model: &Model,
+    free: &Box01,
+    plus: &FlatLists<usize>,
+    heaviest: u32,
+    margins: &mut Margins,
+    k: u64,
+) -> Result<(), NoMemory>
+    requires row { k < count model.now }
+    requires free { free.now ≡ replicate (length (variables model.now)) None }
+    requires low { (k v : ℕ) → k < count model.now → slice_index_or plus.now k [] ≡ [] → v < length (variables model.now) → (whole model.now).coef (row_at model.now k) v ≤ℤ pos 0 }
+    requires heaviest { (v : ℕ) → v < length (variables model.now) → weight_of model.now v ≤ heaviest }
+    requires before { AreMargins model.now margins.old k }
+    ensures { OnOk result (AreMargins model.now margins.new (k + 1)) }
+{
+    rows_obey_laws(model);
+    let row = base_row(model, k);
+    let is_low = plus.at(k as usize).is_empty();
+    let margin = margin_of(alloc, model, free, &row, is_low, heaviest)?;
+    push_margin(margins, margin)?;
+    Ok(())
+}
+
+/// Appends the margins of all base rows.
+fn push_margins(
+    alloc: Global,
+    model: &Model,
+    free: &Box01,
+    plus: &FlatLists<usize>,
+    heaviest: u32,
+    margins: &mut Margins,
+) -> Result<(), NoMemory>
+    requires free { free.now ≡ replicate (length (variables model.now)) None }
+    requires low { (k v : ℕ) → k < count model.now → slice_index_or plus.now k [] ≡ [] → v < length (variables model.now) → (whole model.now).coef (row_at model.now k) v ≤ℤ pos 0 }
+    requires heaviest { (v : ℕ) → v < length (variables model.now) → weight_of model.now v ≤ heaviest }
+    requires none { AreMargins model.now margins.old 0 }
+    ensures { OnOk result (AreMargins model.now margins.new (count model.now)) }
+{
+    for k in 0..model.base_rows() {
+        push_next(alloc, model, free, plus, heaviest, margins, k)?;
+    }
+    Ok(())
+}
+
+/// The margins of all base rows, where the free box is at hand.
+fn margins_in(
+    alloc: Global,
+    model: &Model,
+    free: &Box01,
+    plus: &FlatLists<usize>,
+    heaviest: u32,
+) -> Result<Margins, NoMemory>
+    requires free { free.now ≡ replicate (length (variables model.now)) None }
+    requires low { (k v : ℕ) → k < count model.now → slice_index_or plus.now k [] ≡ [] → v < length (variables model.now) → (whole model.now).coef (row_at model.now k) v ≤ℤ pos 0 }
+    requires heaviest { (v : ℕ) → v < length (variables model.now) → weight_of model.now v ≤ heaviest }
+    ensures { IfOk result (λ margins. AreMargins model.now margins (count model.now)) }
+{
+    let mut margins = Margins {
+        slacks: Seq::new(alloc),
+        tops: Seq::new(alloc),
+    };
+    match push_margins(alloc, model, free, plus, heaviest, &mut margins) {
+        Ok(_) => Ok(margins),
+        Err(no) => {
+            drop(margins);
+            Err(no)
+        }
+    }
+}
+
 /// The margins of all base rows, of which these are the sums with plus.
 pub(crate) fn margins_of(
     alloc: Global,
@@ -129,19 +201,8 @@ pub(crate) fn margins_of(
     requires heaviest { (v : ℕ) → v < length (variables model.now) → weight_of model.now v ≤ heaviest }
     ensures { IfOk result (λ margins. AreMargins model.now margins (count model.now)) }
 {
-    rows_obey_laws(model);
     let free = Box01::free(alloc, model)?;
-    let mut margins = Margins {
-        slacks: Seq::new(alloc),
-        tops: Seq::new(alloc),
-    };
-    for k in 0..model.base_rows() {
-        let row = base_row(model, k);
-        let is_low = plus.at(k as usize).is_empty();
-        push_margin(
-            &mut margins,
-            margin_of(alloc, model, &free, &row, is_low, heaviest)?,
-        )?;
-    }
-    Ok(margins)
+    let margins = margins_in(alloc, model, &free, plus, heaviest);
+    drop(free);
+    margins
 }

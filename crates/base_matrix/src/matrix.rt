@@ -5,10 +5,10 @@ ghost use Rattle.zero_one_rows.specs.Variables.{variables};
 ghost use Rattle.zero_one_rows.specs.Rows.{base, whole};
 ghost use Rattle.base_matrix.specs.Terms.{count, row_at, loss, loses, lost, slack_in, AreTerms, IsSmall};
 
-use crate::building::{columns_of, matrix_of, signed_rows};
+use crate::building::{columns_of, matrix_of, rows_and_margins};
 use crate::entries::{Entry, Loss, Share, Term};
 use crate::laws::rows_obey_laws;
-use crate::margins::{Margins, margins_of};
+use crate::margins::Margins;
 use crate::reading::list_terms;
 use crate::signed::SignedRows;
 use crate::written::{Written, written_of};
@@ -16,7 +16,7 @@ use flat_lists::FlatLists;
 use partial_plan::base_row;
 use std::alloc::Global;
 use stow_data::{NoMemory, VarNo};
-use sum_matrix::Numbering;
+use sum_matrix::{Numbering, SumMatrix};
 use zero_one_model::Model;
 use zero_one_rows::Row;
 
@@ -62,27 +62,46 @@ fn chosen<'b>(
     if value { at_one } else { at_zero }
 }
 
+/// The matrix of a program's base rows, from its sums.
+fn build_from<'a>(
+    alloc: Global,
+    matrix: &SumMatrix,
+    model: &'a Model<'a>,
+) -> Result<BaseMatrix<'a>, NoMemory>
+    requires { matrix.now.voyage ≡ model.now }
+    ensures { IfOk result (λ a. a ≡ model.now) }
+{
+    let numbering = matrix.numbering();
+    let columns = columns_of(alloc, matrix, model)?;
+    match rows_and_margins(alloc, matrix, model, columns.heaviest) {
+        Ok((rows, margins)) => {
+            let written = written_of(alloc, model, numbering, &columns, &rows);
+            Ok(BaseMatrix {
+                model,
+                numbering,
+                entries: columns.entries,
+                shares: columns.shares,
+                rows,
+                written,
+                margins,
+            })
+        }
+        Err(no) => {
+            drop(columns);
+            Err(no)
+        }
+    }
+}
+
 impl<'a> BaseMatrix<'a> {
     /// The matrix of a program's base rows.
     pub fn build(alloc: Global, model: &'a Model<'a>) -> Result<BaseMatrix<'a>, NoMemory>
         ensures { IfOk result (λ a. a ≡ model.now) }
     {
         let matrix = matrix_of(alloc, model)?;
-        let numbering = matrix.numbering();
-        let columns = columns_of(alloc, &matrix, model)?;
-        let rows = signed_rows(alloc, &matrix, model)?;
-        rows_obey_laws(model);
-        let margins = margins_of(alloc, model, &rows.plus, columns.heaviest)?;
-        let written = written_of(alloc, model, numbering, &columns, &rows);
-        Ok(BaseMatrix {
-            model,
-            numbering,
-            entries: columns.entries,
-            shares: columns.shares,
-            rows,
-            written,
-            margins,
-        })
+        let built = build_from(alloc, &matrix, model);
+        drop(matrix);
+        built
     }
 
     /// The program.

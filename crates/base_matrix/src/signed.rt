@@ -94,6 +94,45 @@ fn sums_of_row(
     Ok(list)
 }
 
+/// Appends the numbers of the next base row's sums that lose at the value.
+fn push_row(
+    alloc: Global,
+    matrix: &SumMatrix,
+    model: &Model,
+    value: bool,
+    lists: &mut FlatLists<usize>,
+    k: u64,
+) -> Result<(), NoMemory>
+    requires voyage { matrix.now.voyage ≡ model.now }
+    requires row { k < count model.now }
+    requires before { AreRowSums model.now matrix.now.numbering value lists.old k }
+    ensures { OnOk result (AreRowSums model.now matrix.now.numbering value lists.new (k + 1)) }
+{
+    let row = base_row(model, k);
+    let sums = sums_of_row(alloc, matrix, &row, value)?;
+    let pushed = lists.push(sums.as_slice());
+    drop(sums);
+    pushed
+}
+
+/// Appends those of each base row.
+fn push_rows(
+    alloc: Global,
+    matrix: &SumMatrix,
+    model: &Model,
+    value: bool,
+    lists: &mut FlatLists<usize>,
+) -> Result<(), NoMemory>
+    requires voyage { matrix.now.voyage ≡ model.now }
+    requires none { AreRowSums model.now matrix.now.numbering value lists.old 0 }
+    ensures { OnOk result (AreRowSums model.now matrix.now.numbering value lists.new (count model.now)) }
+{
+    for k in 0..model.base_rows() {
+        push_row(alloc, matrix, model, value, lists, k)?;
+    }
+    Ok(())
+}
+
 /// For each base row the numbers of its sums that lose at the value.
 pub(crate) fn rows_at(
     alloc: Global,
@@ -105,10 +144,11 @@ pub(crate) fn rows_at(
     ensures { IfOk result (λ lists. AreRowSums model.now matrix.now.numbering value lists (count model.now)) }
 {
     let mut lists = FlatLists::new(alloc);
-    for k in 0..model.base_rows() {
-        let row = base_row(model, k);
-        let sums = sums_of_row(alloc, matrix, &row, value)?;
-        lists.push(sums.as_slice())?;
+    match push_rows(alloc, matrix, model, value, &mut lists) {
+        Ok(_) => Ok(lists),
+        Err(no) => {
+            drop(lists);
+            Err(no)
+        }
     }
-    Ok(lists)
 }

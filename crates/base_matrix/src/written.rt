@@ -149,6 +149,26 @@ fn losses_of(
     Some(lists)
 }
 
+/// For each of so many variables the rows that lose where it gets 0, and where it gets 1.
+fn both_losses(
+    alloc: Global,
+    columns: &Columns,
+    rows: &SignedRows,
+    vars: usize,
+) -> Option<(FlatLists<Loss>, FlatLists<Loss>)>
+    ensures zero { IfSome result (λ l. Flattens columns.now.shares rows.now.plus_rows l.0 vars) }
+    ensures one { IfSome result (λ l. Flattens columns.now.shares rows.now.minus_rows l.1 vars) }
+{
+    let at_zero = losses_of(alloc, &columns.shares, &rows.plus_rows, vars)?;
+    match losses_of(alloc, &columns.shares, &rows.minus_rows, vars) {
+        Some(at_one) => Some((at_zero, at_one)),
+        None => {
+            drop(at_zero);
+            None
+        }
+    }
+}
+
 /// What is written out of a program's base rows, where there is room for it.
 pub(crate) fn written_of(
     alloc: Global,
@@ -171,11 +191,15 @@ pub(crate) fn written_of(
     let Ok(terms) = terms_of_rows(alloc, model, numbering, &columns.entries, rows) else {
         return None;
     };
-    let at_zero = losses_of(alloc, &columns.shares, &rows.plus_rows, vars)?;
-    let at_one = losses_of(alloc, &columns.shares, &rows.minus_rows, vars)?;
-    Some(Written {
-        terms,
-        at_zero,
-        at_one,
-    })
+    match both_losses(alloc, columns, rows, vars) {
+        Some((at_zero, at_one)) => Some(Written {
+            terms,
+            at_zero,
+            at_one,
+        }),
+        None => {
+            drop(terms);
+            None
+        }
+    }
 }

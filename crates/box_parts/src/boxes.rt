@@ -91,7 +91,9 @@ pub fn write_kept(
 ) -> Result<(), NoMemory> {
     let matrix = BaseMatrix::build(alloc, model)?;
     repeat_kept(alloc, &matrix, times);
-    write_kept_by(alloc, model, &matrix, out)
+    let written = write_kept_by(alloc, model, &matrix, out);
+    drop(matrix);
+    written
 }
 
 /// Tightens a box by one row.
@@ -225,7 +227,9 @@ fn write_along_by(
 {
     let mut kept = KeptBox::free(alloc, matrix)?;
     let end = end_along(alloc, model, &mut kept, records);
-    write_where(model, &kept, &end, out)
+    let written = write_where(model, &kept, &end, out);
+    drop(kept);
+    written
 }
 
 /// How the free box is tightened along records, and the box.
@@ -236,5 +240,7 @@ pub fn write_along(
     out: &mut Bytes,
 ) -> Result<(), NoMemory> {
     let matrix = BaseMatrix::build(alloc, model)?;
-    write_along_by(alloc, model, &matrix, records, out)
+    let written = write_along_by(alloc, model, &matrix, records, out);
+    drop(matrix);
+    written
 }

@@ -53,7 +53,9 @@ fn write_dives_by(
 {
     let mut kept = KeptBox::free(alloc, matrix)?;
     let nodes = dives(alloc, model, &mut kept, plan, times);
-    write_count(out, b"nodes", nodes)
+    let written = write_count(out, b"nodes", nodes);
+    drop(kept);
+    written
 }
 
 fn write_dives_along(
@@ -66,7 +68,9 @@ fn write_dives_along(
     requires whole { length plan.now ≡ length (variables model.now) }
 {
     let matrix = BaseMatrix::build(alloc, model)?;
-    write_dives_by(alloc, model, &matrix, plan, times, out)
+    let written = write_dives_by(alloc, model, &matrix, plan, times, out);
+    drop(matrix);
+    written
 }
 
 /// The nodes of dives along a planned voyage, each of which begins at the root.

@@ -1,5 +1,5 @@
 //! Interchanges as they are read.
-ghost use Rattle.std.specs.Prelude.{◌≡◌, ◌≢◌, ◌⊎◌, ℕ, ◌+◌, ◌<◌, ◌≤◌, ◌^◌, ◌==◌, ◌||◌, true, false, List, [], ◌∷◌, ◌++◌, length, drop, slice_range, slice_index, IfErr, IfOk, IsTrue, OnOk};
+ghost use Rattle.std.specs.Prelude.{◌≡◌, ◌≢◌, ◌⊎◌, ℕ, ◌+◌, ◌<◌, ◌≤◌, ◌^◌, ◌==◌, ◌||◌, true, false, List, [], ◌∷◌, ◌++◌, length, drop, slice_range, slice_index, IfErr, IfOk, IsTrue, MatchResult, OnOk};
 ghost use Rattle.edifact_segments.specs.Characters.{Character, Plain};
 ghost use Rattle.edifact_segments.specs.Gathered.{with_elements};
 ghost use Rattle.edifact_segments.specs.Drafts.{Drafts, DraftsWith, Finds, Reads};
@@ -26,13 +26,70 @@ pub fn read_interchange(alloc: Global, bytes: &[u8]) -> Result<SegmentList, SegF
     ensures read { IfOk result (λ segments. IsInterchange bytes.now segments) }
     ensures fault { IfErr result (λ e. (e ≡ SegFault.NoMemory) ⊎ HasFault bytes.now e) }
 {
-    let (scanner, start) = read_advice(bytes)?;
     let mut segments = GatheredSegments::new(alloc);
+    match read_into(alloc, &mut segments, bytes) {
+        Ok(()) => finished(segments),
+        Err(fault) => {
+            drop(segments);
+            Err(fault)
+        }
+    }
+}
+
+/// The list of the segments.
+fn finished(segments: GatheredSegments) -> Result<SegmentList, SegFault>
+    ensures { MatchResult result (λ list. list ≡ segments) (λ e. e ≡ SegFault.NoMemory) }
+{
+    match segments.finish() {
+        Ok(list) => Ok(list),
+        Err(NoMemory) => Err(SegFault::NoMemory),
+    }
+}
+
+/// Reads the segments of an interchange into a list that has none.
+fn read_into(alloc: Global, segments: &mut GatheredSegments, bytes: &[u8]) -> Result<(), SegFault>
+    requires small { length bytes.now ≤ 2 ^ 29 }
+    requires empty { segments.old ≡ [] }
+    ensures read { OnOk result (IsInterchange bytes.now segments.new) }
+    ensures fault { IfErr result (λ e. (e ≡ SegFault.NoMemory) ⊎ HasFault bytes.now e) }
+{
     let mut draft = Draft::new(alloc);
+    let read = read_by(&mut draft, segments, bytes);
+    drop(draft);
+    read
+}
+
+/// Reads the segments of an interchange into a list that has none, one after the other by the same draft.
+fn read_by(draft: &mut Draft, segments: &mut GatheredSegments, bytes: &[u8]) -> Result<(), SegFault>
+    requires small { length bytes.now ≤ 2 ^ 29 }
+    requires empty { segments.old ≡ [] }
+    ensures read { OnOk result (IsInterchange bytes.now segments.new) }
+    ensures fault { IfErr result (λ e. (e ≡ SegFault.NoMemory) ⊎ HasFault bytes.now e) }
+{
+    let (scanner, start) = read_advice(bytes)?;
+    read_segments(draft, segments, &scanner, bytes, start)
+}
+
+/// Reads the segments of a text that begins at a place.
+fn read_segments(
+    draft: &mut Draft,
+    segments: &mut GatheredSegments,
+    scanner: &Scanner,
+    bytes: &[u8],
+    start: usize,
+) -> Result<(), SegFault>
+    requires small { length bytes.now ≤ 2 ^ 29 }
+    requires empty { segments.old ≡ [] }
+    requires table { IsTable scanner.now.service scanner.now.ordinary }
+    requires within { start ≤ length bytes.now }
+    requires starts { Starts bytes.now scanner.now.service (drop start bytes.now) }
+    ensures read { OnOk result (IsInterchange bytes.now segments.new) }
+    ensures fault { IfErr result (λ e. (e ≡ SegFault.NoMemory) ⊎ HasFault bytes.now e) }
+{
     let mut at = skip_gap(bytes, start);
     while at < bytes.len() {
         let number = segments.len() as u32 + 1;
-        let (tag, next) = next_segment(&mut draft, &scanner, bytes, at, number)?;
+        let (tag, next) = next_segment(draft, scanner, bytes, at, number)?;
         if !is_headed(number, tag) {
             return Err(SegFault::NoHeader);
         }
@@ -42,7 +99,7 @@ pub fn read_interchange(alloc: Global, bytes: &[u8]) -> Result<SegmentList, SegF
             if at < bytes.len() {
                 return Err(SegFault::Trailing { at: at as u64 });
             }
-            return Ok(segments.finish()?);
+            return Ok(());
         }
     }
     match segments.len() {

@@ -215,7 +215,9 @@ fn write_followed_by<'a>(
 {
     let mut gauge = loose_gauge(alloc, matrix)?;
     let done = follow_dives(alloc, model, table, kept, &mut gauge, plan, most, times);
-    write_done(&done, out)
+    let written = write_done(&done, out);
+    drop(gauge);
+    written
 }
 
 /// The same by a matrix.
@@ -233,9 +235,12 @@ fn write_followed_from<'a>(
 {
     let mut kept = KeptBox::free(alloc, matrix)?;
     let table = RowTable::build(alloc, matrix);
-    write_followed_by(
+    let written = write_followed_by(
         alloc, model, matrix, &table, &mut kept, plan, most, times, out,
-    )
+    );
+    drop(table);
+    drop(kept);
+    written
 }
 
 /// The same along a plan.
@@ -250,7 +255,9 @@ fn write_followed(
     requires { length plan.now ≡ length (variables model.now) }
 {
     let matrix = BaseMatrix::build(alloc, model)?;
-    write_followed_from(alloc, model, &matrix, plan, most, times, out)
+    let written = write_followed_from(alloc, model, &matrix, plan, most, times, out);
+    drop(matrix);
+    written
 }
 
 /// What is done in dives that a gauge follows, with so many raises at most at each node.

@@ -229,7 +229,9 @@ fn write_kept_value(
     requires table { table.now ≡ model.now }
 {
     let mut gauge = free_gauge(alloc, model)?;
-    write_gauge(alloc, model, table, &mut gauge, records, out)
+    let written = write_gauge(alloc, model, table, &mut gauge, records, out);
+    drop(gauge);
+    written
 }
 
 /// The dual value of the box and the multipliers of records by its definition.
@@ -267,7 +269,10 @@ pub fn write_value(
     write_defined_value(alloc, model, records, out)?;
     let matrix = BaseMatrix::build(alloc, model)?;
     let table = RowTable::build(alloc, &matrix);
-    write_kept_value(alloc, model, &table, records, out)
+    let written = write_kept_value(alloc, model, &table, records, out);
+    drop(table);
+    drop(matrix);
+    written
 }
 
 /// Whether a row's multiplier, raised by 1, raises the dual value. The multiplier is then as before.
@@ -371,7 +376,9 @@ fn write_raises_by(
 {
     let mut gauge = free_gauge(alloc, model)?;
     go_along(alloc, model, table, &mut gauge, records)?;
-    write_raises_there(alloc, model, table, &mut gauge, cut, out)
+    let written = write_raises_there(alloc, model, table, &mut gauge, cut, out);
+    drop(gauge);
+    written
 }
 
 /// The same from the multipliers of records.
@@ -384,7 +391,10 @@ pub fn write_raises(
 ) -> Result<(), NoMemory> {
     let matrix = BaseMatrix::build(alloc, model)?;
     let table = RowTable::build(alloc, &matrix);
-    write_raises_by(alloc, model, &table, records, cut, out)
+    let written = write_raises_by(alloc, model, &table, records, cut, out);
+    drop(table);
+    drop(matrix);
+    written
 }
 
 /// A box that is kept, tightened by all base rows.
@@ -402,7 +412,9 @@ fn tightened_by(alloc: Global, matrix: &BaseMatrix) -> Result<Box01, NoMemory>
     ensures { IfOk result (λ b. length b ≡ length (variables matrix.now)) }
 {
     let mut kept = KeptBox::free(alloc, matrix)?;
-    tightened_box(alloc, &mut kept)
+    let tightened = tightened_box(alloc, &mut kept);
+    drop(kept);
+    tightened
 }
 
 /// Raises the multipliers of a gauge from none, so many times over. How many raises there were the last time.
@@ -445,7 +457,10 @@ fn write_root_over(
     let table = RowTable::build(alloc, matrix);
     let mut gauge = tightened_gauge(alloc, model, matrix)?;
     let raised = raise_often(alloc, &table, &mut gauge, times);
-    write_worth(&gauge, raised, out)
+    let written = write_worth(&gauge, raised, out);
+    drop(gauge);
+    drop(table);
+    written
 }
 
 /// The dual value of the tightened free box after raises from none, so many times over, and how many there were.
@@ -456,5 +471,7 @@ pub fn write_root(
     out: &mut Bytes,
 ) -> Result<(), NoMemory> {
     let matrix = BaseMatrix::build(alloc, model)?;
-    write_root_over(alloc, model, &matrix, times, out)
+    let written = write_root_over(alloc, model, &matrix, times, out);
+    drop(matrix);
+    written
 }

@@ -7,7 +7,7 @@ use bookings::{Bookings, read_bookings};
 use certificate::{Tree, read_cert};
 use ship_profile::read_profile;
 use std::alloc::Global;
-use stow_data::{Cargo, Ship};
+use stow_data::{Cargo, Seq, Ship};
 use stow_io::Folder;
 
 /// The ship of a profile. None where the file can't be read or is refused.
@@ -49,12 +49,20 @@ pub fn cargo_of<F: Folder>(
 }
 
 /// The records of a file in the form of a certificate. None where there is none.
-pub fn records_of<F: Folder>(alloc: Global, name: &str, folder: &mut F) -> Option<Tree> {
+fn records_of<F: Folder>(alloc: Global, name: &str, folder: &mut F) -> Option<Tree> {
     let Ok(text) = folder.read(name) else {
         return None;
     };
     match read_cert(alloc, text.as_slice()) {
         Ok((_, tree)) => Some(tree),
         Err(_) => None,
+    }
+}
+
+/// The records of a file in the form of a certificate, none where there is none.
+pub fn records_in<F: Folder>(alloc: Global, name: &str, folder: &mut F) -> Tree {
+    match records_of(alloc, name, folder) {
+        Some(records) => records,
+        None => Seq::new(alloc),
     }
 }

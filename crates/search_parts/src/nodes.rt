@@ -146,7 +146,9 @@ fn write_nodes_over(
     requires voyage { tables.now ≡ model.now }
 {
     let mut desk = desk_at(alloc, model, tables)?;
-    write_nodes_at(alloc, model, &mut desk, times, out)
+    let written = write_nodes_at(alloc, model, &mut desk, times, out);
+    drop(desk);
+    written
 }
 
 /// The nodes on ways from the root by value 1, on one desk.
@@ -160,7 +162,10 @@ pub fn write_nodes(
 {
     let matrix = BaseMatrix::build(alloc, model)?;
     let tables = Tables::build(alloc, &matrix);
-    write_nodes_over(alloc, model, &tables, times, out)
+    let written = write_nodes_over(alloc, model, &tables, times, out);
+    drop(tables);
+    drop(matrix);
+    written
 }
 
 /// Begins a node, which closes at once at a cut of 0.
@@ -218,7 +223,9 @@ fn write_again_over(
     requires voyage { tables.now ≡ model.now }
 {
     let mut desk = desk_at(alloc, model, tables)?;
-    write_again_at(alloc, model, &mut desk, times, out)
+    let written = write_again_at(alloc, model, &mut desk, times, out);
+    drop(desk);
+    written
 }
 
 /// How many records lie on the way to the last node, which is begun so many times from the root.
@@ -232,5 +239,8 @@ pub fn write_again(
 {
     let matrix = BaseMatrix::build(alloc, model)?;
     let tables = Tables::build(alloc, &matrix);
-    write_again_over(alloc, model, &tables, times, out)
+    let written = write_again_over(alloc, model, &tables, times, out);
+    drop(tables);
+    drop(matrix);
+    written
 }

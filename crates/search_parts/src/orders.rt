@@ -2,13 +2,13 @@
 ghost use Rattle.std.specs.Prelude.{◌≡◌};
 ghost use Rattle.stow_data.specs.Shipment.{IsCargo};
 
-use crate::files::{cargo_of, records_of, ship_of};
+use crate::files::{cargo_of, records_in, ship_of};
 use crate::nodes::{write_again, write_nodes, write_work};
 use box_parts::{write_along, write_dives, write_kept, write_plain, write_steps};
 use certificate::Tree;
 use price_parts::{write_follows, write_raises, write_root, write_value};
 use std::alloc::Global;
-use stow_data::{Bytes, Cargo, NoMemory, Seq, Ship, Word};
+use stow_data::{Bytes, Cargo, NoMemory, Ship, Word};
 use stow_io::Folder;
 use zero_one_model::{Model, ModelNo};
 
@@ -105,9 +105,55 @@ fn write_built(
     }
     cargo.obeys_rules();
     match Model::build(alloc, ship, cargo) {
-        Ok(model) => write_part(alloc, part, &model, records, number, out),
+        Ok(model) => {
+            let written = write_part(alloc, part, &model, records, number, out);
+            drop(model);
+            written
+        }
         Err(ModelNo::TooLarge { .. }) => out.extend(b"too large\n"),
         Err(ModelNo::NoMemory) => Err(NoMemory),
+    }
+}
+
+/// A part on the voyage of a ship.
+fn write_sailed<F: Folder>(
+    alloc: Global,
+    part: Part,
+    ship: &Ship,
+    bookings: &Word,
+    records: &Tree,
+    number: u64,
+    folder: &mut F,
+    out: &mut Bytes,
+) -> Result<(), NoMemory> {
+    match cargo_of(alloc, ship, bookings.as_str(), folder) {
+        Some(cargo) => {
+            let written = write_built(alloc, part, ship, &cargo, records, number, out);
+            drop(cargo);
+            written
+        }
+        None => out.extend(b"no voyage\n"),
+    }
+}
+
+/// A part with some records.
+fn write_with<F: Folder>(
+    alloc: Global,
+    part: Part,
+    profile: &Word,
+    bookings: &Word,
+    records: &Tree,
+    number: u64,
+    folder: &mut F,
+    out: &mut Bytes,
+) -> Result<(), NoMemory> {
+    match ship_of(alloc, profile.as_str(), folder) {
+        Some(ship) => {
+            let written = write_sailed(alloc, part, &ship, bookings, records, number, folder, out);
+            drop(ship);
+            written
+        }
+        None => out.extend(b"no voyage\n"),
     }
 }
 
@@ -121,17 +167,10 @@ fn write_order<F: Folder>(
     folder: &mut F,
     out: &mut Bytes,
 ) -> Result<(), NoMemory> {
-    let records = match records_of(alloc, records.as_str(), folder) {
-        Some(records) => records,
-        None => Seq::new(alloc),
-    };
-    let Some(ship) = ship_of(alloc, profile.as_str(), folder) else {
-        return out.extend(b"no voyage\n");
-    };
-    match cargo_of(alloc, &ship, bookings.as_str(), folder) {
-        Some(cargo) => write_built(alloc, part, &ship, &cargo, &records, number, out),
-        None => out.extend(b"no voyage\n"),
-    }
+    let records = records_in(alloc, records.as_str(), folder);
+    write_with(
+        alloc, part, profile, bookings, &records, number, folder, out,
+    )
 }
 
 /// What the words order, five words an order: a part, profile, bookings, records, a number.

@@ -12,6 +12,7 @@ mod list;
 mod names;
 mod numbers;
 mod plans;
+mod ship_tables;
 mod ships;
 mod short;
 mod tables;

@@ -2,15 +2,15 @@
 ghost use Rattle.std.specs.Prelude.{◌≡◌, ◌<◌, ◌≤◌, ◌↔◌, ℕ, IfOk, IsTrue, MatchOption, Some, length, slice_get};
 ghost use Rattle.stow_data.specs.Kinds.{rounded};
 
-use crate::cells::{CellNumber, cell_table, number_on};
+use crate::cells::{CellNumber, number_on};
 use crate::geometry::{
     Cover, CoverList, Half, Length, Place, Separation, SeparationList, Stack, Stacks,
 };
-use crate::hatches::{Naming, cover_table};
 use crate::list::{NoMemory, Seq};
 use crate::names::Name;
 use crate::numbers::{CoverNo, HalfNo, PlaceNo, StackNo};
-use crate::tables::{half_table, place_table, sides_of};
+use crate::ship_tables::ship_tables;
+use crate::tables::sides_of;
 use std::alloc::Global;
 use std::collections::BTreeMap;
 use std::marker::Model;
@@ -59,23 +59,24 @@ impl Ship {
         requires { IsShip (record { name = name; weight_step = weight_step; stacks = stacks; covers = covers; separations = separations }) }
         ensures { IfOk result (λ ship. ship ≡ record { name = name; weight_step = weight_step; stacks = stacks; covers = covers; separations = separations }) }
     {
-        let place_table = place_table(alloc, &stacks)?;
-        let half_table = half_table(alloc, &stacks)?;
-        let over_table = cover_table(alloc, stacks.len(), &covers, Naming::Under)?;
-        let under_table = cover_table(alloc, stacks.len(), &covers, Naming::On)?;
-        let cell_table = cell_table(alloc, &stacks, &place_table)?;
-        Ok(Ship {
-            name,
-            weight_step,
-            stacks,
-            covers,
-            separations,
-            place_table,
-            half_table,
-            over_table,
-            under_table,
-            cell_table,
-        })
+        match ship_tables(alloc, &stacks, &covers) {
+            Ok(tables) => Ok(Ship {
+                name,
+                weight_step,
+                stacks,
+                covers,
+                separations,
+                place_table: tables.places,
+                half_table: tables.halves,
+                over_table: tables.over,
+                under_table: tables.under,
+                cell_table: tables.cells,
+            }),
+            Err(no) => {
+                drop((name, stacks, covers, separations));
+                Err(no)
+            }
+        }
     }
 
     /// The name of the ship.

@@ -1,12 +1,13 @@
 -- The sums that hold a variable, by number.
-use Rattle.std.specs.Prelude.{◌≡◌, ℕ, ◌<◌, Bool, true, List, AllPairs, filter, length, nat_eq}
+use Rattle.std.specs.Prelude.{◌≡◌, ℕ, ◌<◌, Bool, true, List, [], AllPairs, filter, length, nat_eq, slice_index_or}
 use Rattle.std.specs.List.{list_any, range_with_len}
+use Rattle.flat_lists.specs.Transposed.{IsTransposed}
 use Rattle.zero_one_rows.specs.declared.program.Var.{Var}
 use Rattle.zero_one_rows.specs.Variables.{Voyage, variables, var}
 use Rattle.row_sums.specs.declared.sums.Sum.{Sum}
 use Rattle.row_sums.specs.Sums.{holds}
 use Rattle.sum_matrix.specs.declared.numbering.Numbering.{Numbering}
-use Rattle.sum_matrix.specs.Numbers.{number, IsThere}
+use Rattle.sum_matrix.specs.Numbers.{number, numbers, IsThere}
 
 -- the number stands in a list
 abbrev pub stands : ℕ → List ℕ → Bool
@@ -27,6 +28,13 @@ pub record IsHeldBy (m : Voyage) (z : Numbering) (x : Var) (n : ℕ) : Type 0 wh
 pub record AreSumsOf (m : Voyage) (z : Numbering) (x : Var) (ns : List ℕ) : Type 0 where
   pub only : (n : ℕ) → stands n ns ≡ true → IsHeldBy m z x n
   pub all : (s : Sum) → IsThere m s → holds m s x ≡ true → stands (number z s) ns ≡ true
+
+-- the variables of each sum, gathered from the sums of each variable
+pub record AreTurned (m : Voyage) (z : Numbering) (turned : List (List ℕ)) : Type 0 where
+  pub of_each : List (List ℕ)
+  pub each : length of_each ≡ length (variables m)
+  pub of : (v : ℕ) → v < length (variables m) → AreSumsOf m z (var m v) (slice_index_or of_each v [])
+  pub are_turned : IsTransposed of_each (numbers z) turned
 
 abbrev pub IsRising : List ℕ → Type 0
 IsRising ns = AllPairs (λ a b. a < b) ns

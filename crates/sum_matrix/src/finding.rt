@@ -1,5 +1,5 @@
 //! The sums of a variable.
-ghost use Rattle.std.specs.Prelude.{◌≡◌, ℕ, ◌+◌, ◌*◌, ◌<◌, ◌≤◌, Bool, true, length, slice_index_or, IfOk, OnOk};
+ghost use Rattle.std.specs.Prelude.{◌≡◌, ℕ, ◌+◌, ◌*◌, ◌<◌, ◌≤◌, Bool, true, [], length, slice_index_or, IfOk, OnOk};
 ghost use Rattle.stow_data.specs.Ship.{places, half_at};
 ghost use Rattle.zero_one_rows.specs.Variables.{place, kind, calls, all_kinds};
 ghost use Rattle.zero_one_rows.specs.Listed.{IsNamed};
@@ -223,6 +223,27 @@ fn add_stay(
     Ok(())
 }
 
+/// Appends all that holds a variable.
+fn add_all(
+    sums: &RowSums,
+    z: Numbering,
+    list: &mut Seq<usize>,
+    class: ClassNo,
+    x: &Var,
+) -> Result<(), NoMemory>
+    requires numbers { IsNumbering sums.now z }
+    requires named { IsNamed sums.now x.now }
+    requires class { class ≡ class_or_past sums.now.ship (kind sums.now x.now.kind).class }
+    requires empty { list.old ≡ [] }
+    ensures { OnOk result (AreSumsOf sums.now z x.now list.new) }
+{
+    let at = place_at(sums.ship(), x.place);
+    add_ends(sums, z, list, x)?;
+    add_moves(sums, z, list, &at, false, x)?;
+    add_moves(sums, z, list, &at, true, x)?;
+    add_stay(sums, z, list, &at, class, x)
+}
+
 /// The numbers of the sums that hold a variable. Its class is that of its kind.
 pub fn sums_of(
     alloc: Global,
@@ -237,10 +258,11 @@ pub fn sums_of(
     ensures { IfOk result (λ ns. AreSumsOf sums.now z x.now ns) }
 {
     let mut list = Seq::new(alloc);
-    let at = place_at(sums.ship(), x.place);
-    add_ends(sums, z, &mut list, x)?;
-    add_moves(sums, z, &mut list, &at, false, x)?;
-    add_moves(sums, z, &mut list, &at, true, x)?;
-    add_stay(sums, z, &mut list, &at, class, x)?;
-    Ok(list)
+    match add_all(sums, z, &mut list, class, x) {
+        Ok(_) => Ok(list),
+        Err(no) => {
+            drop(list);
+            Err(no)
+        }
+    }
 }

@@ -3,9 +3,10 @@ ghost use Rattle.std.specs.Prelude.{◌≡◌, ℕ, ◌<◌, ◌^◌, All, lengt
 ghost use Rattle.zero_one_rows.specs.Variables.{variables, var};
 ghost use Rattle.sum_matrix.specs.Numbers.{number as number_of, IsNumbering, IsThere};
 ghost use Rattle.row_sums.specs.declared.sums.Sum.{Sum};
-ghost use Rattle.sum_matrix.specs.Held.{variables_of, AreSumsOf, IsRising};
+ghost use Rattle.sum_matrix.specs.Held.{variables_of, AreSumsOf, AreTurned, IsRising};
+ghost use Rattle.flat_lists.specs.Transposed.{IsTransposed};
 
-use crate::listing::{kind_classes, list_sums};
+use crate::listing::list_sums;
 use crate::numbering::Numbering;
 use flat_lists::FlatLists;
 use row_sums::{RowSums, Sum};
@@ -35,6 +36,50 @@ impl<'a> Model for SumMatrix<'a> {
     ghost invariant = { IsBuilt };
 }
 
+/// The variables of each sum.
+fn variables_by_sum(
+    alloc: Global,
+    sums: &RowSums,
+    z: Numbering,
+    vars: &[Var],
+) -> Result<FlatLists<usize>, NoMemory>
+    requires numbers { IsNumbering sums.now z }
+    requires vars { vars.now ≡ variables sums.now }
+    ensures { IfOk result (λ lists. AreTurned sums.now z lists) }
+{
+    let each = list_sums(alloc, sums, z, vars)?;
+    let turned = each.transposed(alloc, z.numbers());
+    drop(each);
+    turned
+}
+
+/// How the sums are numbered, the variables of each sum, and the sums of each variable.
+fn numbered(
+    alloc: Global,
+    ship: &Ship,
+    cargo: &Cargo,
+    sums: &RowSums,
+    vars: &[Var],
+) -> Result<(Numbering, FlatLists<usize>, FlatLists<usize>), NoMemory>
+    requires voyage { sums.now ≡ record { ship = ship.now; cargo = cargo.now } }
+    requires vars { vars.now ≡ variables sums.now }
+    ensures numbers { IfOk result (λ l. IsNumbering sums.now l.0) }
+    ensures variables { IfOk result (λ l. AreTurned sums.now l.0 l.1) }
+    ensures holders { IfOk result (λ l. IsTransposed l.1 (length (variables sums.now)) l.2) }
+{
+    let Some(numbering) = Numbering::of(ship, cargo, sums.kinds()) else {
+        return Err(NoMemory);
+    };
+    let variables = variables_by_sum(alloc, sums, numbering, vars)?;
+    match variables.transposed(alloc, vars.len()) {
+        Ok(holders) => Ok((numbering, variables, holders)),
+        Err(no) => {
+            drop(variables);
+            Err(no)
+        }
+    }
+}
+
 impl<'a> SumMatrix<'a> {
     /// The matrix of the voyage of this ship and cargo, whose variables these are. Wants memory too where 64 bits can't count the sums.
     pub fn build(
@@ -48,21 +93,18 @@ impl<'a> SumMatrix<'a> {
         ensures numbers { IfOk result (λ a. IsNumbering a.voyage a.numbering) }
     {
         let sums = RowSums::build(alloc, ship, cargo)?;
-        let numbering = match Numbering::of(ship, cargo, sums.kinds()) {
-            Some(numbering) => numbering,
-            None => return Err(NoMemory),
-        };
-        let classes = kind_classes(alloc, &sums)?;
-        let each = list_sums(alloc, &sums, numbering, classes.as_slice(), vars)?;
-        let count = numbering.numbers();
-        let variables = each.transposed(alloc, count)?;
-        let holders = variables.transposed(alloc, vars.len())?;
-        Ok(SumMatrix {
-            sums,
-            numbering,
-            variables,
-            holders,
-        })
+        match numbered(alloc, ship, cargo, &sums, vars) {
+            Ok((numbering, variables, holders)) => Ok(SumMatrix {
+                sums,
+                numbering,
+                variables,
+                holders,
+            }),
+            Err(no) => {
+                drop(sums);
+                Err(no)
+            }
+        }
     }
 
     /// The voyage's sums.

@@ -3,7 +3,8 @@ ghost use Rattle.std.specs.Prelude.{◌≡◌, ◌↔◌, ◌<◌, ◌≤◌, If
 ghost use Rattle.stow_data.specs.Ship.{places};
 ghost use Rattle.stowage_rules.specs.Plan.{IsWellFormed};
 ghost use Rattle.voyage_meaning.specs.Moves.{Allowed, after, rehandles_of};
-ghost use Rattle.voyage_meaning.specs.Voyage.{IsVoyage, LeadsTo};
+ghost use Rattle.voyage_meaning.specs.Voyage.{IsVoyage, LeadsTo, start};
+ghost use Rattle.stow_data.specs.Plans as plans;
 ghost use Rattle.voyage_meaning.specs.Berths.{BelongsTo};
 ghost use Rattle.voyage_meaning.specs.Runs.{EndsAt, LeadsBy, Runs, SailsBy, StopsAt};
 
@@ -84,6 +85,34 @@ fn ends_at(berth: &Berth, ship: &Ship, cargo: &Cargo, plan: &Plan) -> bool
     }
 }
 
+/// The rehandles of the moves at a berth where they lead to this departure, or none where they don't.
+fn count_moves(
+    berth: &mut Berth,
+    ship: &Ship,
+    cargo: &Cargo,
+    call: CallNo,
+    moves: &[Move],
+    after: &Plan,
+) -> Option<u64>
+    requires belongs { BelongsTo ship.now cargo.now berth.old.state }
+    requires departs { length after.now ≡ length (places ship.now) }
+    ensures { (before : plans.Plan) → berth.old ≡ record { call = call; state = start ship.now cargo.now call before }
+        → MatchOption result (LeadsTo ship.now cargo.now call before moves.now after.now → ⊥) (λ n. LeadsBy ship.now cargo.now call before moves.now after.now n) }
+{
+    match run(berth, ship, cargo, moves) {
+        Err(_) => None,
+        Ok(count) => {
+            if !ends_at(berth, ship, cargo, after) {
+                return None;
+            }
+            if !is_departure(ship, cargo, after, call) {
+                return None;
+            }
+            Some(count)
+        }
+    }
+}
+
 /// The rehandles of a call whose moves lead from one departure to the next, or none where they don't.
 pub fn count_call(
     alloc: Global,
@@ -98,19 +127,11 @@ pub fn count_call(
     requires second { length after.now ≡ length (places ship.now) }
     ensures { IfOk result (λ o. MatchOption o (LeadsTo ship.now cargo.now call before.now moves.now after.now → ⊥) (λ n. LeadsBy ship.now cargo.now call before.now moves.now after.now n)) }
 {
-    let mut berth = Berth::arrive(alloc, ship, cargo, before.copy(alloc)?, call)?;
-    match run(&mut berth, ship, cargo, moves) {
-        Err(_) => Ok(None),
-        Ok(count) => {
-            if !ends_at(&berth, ship, cargo, after) {
-                return Ok(None);
-            }
-            if !is_departure(ship, cargo, after, call) {
-                return Ok(None);
-            }
-            Ok(Some(count))
-        }
-    }
+    let plan = before.copy(alloc)?;
+    let mut berth = Berth::arrive(alloc, ship, cargo, plan, call)?;
+    let counted = count_moves(&mut berth, ship, cargo, call, moves, after);
+    drop(berth);
+    Ok(counted)
 }
 
 /// A list of moves.

@@ -6,7 +6,8 @@ use Rattle.zero_one_rows.specs.declared.program.Var.{Var}
 use Rattle.zero_one_rows.specs.Variables.{Voyage, variables}
 use Rattle.zero_one_model.specs.declared.refusals.ModelNo.{ModelNo}
 use Rattle.zero_one_model.specs.declared.refusals.ModelNo.TheVariants.{TooLarge, NoMemory}
-use Rattle.program_rows.specs.Counted.{all_rows}
+use Rattle.program_rows.specs.declared.counts.RowCounts.{RowCounts}
+use Rattle.program_rows.specs.Counted.{base_rows, all_rows}
 
 -- within the limits of variables and rows
 pub record IsWithin (m : Voyage) : Type 0 where
@@ -33,3 +34,14 @@ abbrev pub BuildsVariables : Voyage → Result (List Var) ModelNo → Type 0
 BuildsVariables m (Ok xs) = (xs ≡ variables m) × (length (variables m) ≤ 200000)
 BuildsVariables m (Err (TooLarge limit n)) = Passes m limit n
 BuildsVariables m (Err NoMemory) = Unit {0}
+
+-- the numbers of rows, within their limit
+pub record AreCounts (m : Voyage) (c : RowCounts) : Type 0 where
+  pub base : c.base ≡ length (base_rows m)
+  pub all : c.all ≡ length (all_rows m)
+  pub few : length (all_rows m) ≤ 2000000
+
+abbrev pub BuildsCounts : Voyage → Result RowCounts ModelNo → Type 0
+BuildsCounts m (Ok c) = AreCounts m c
+BuildsCounts m (Err (TooLarge limit n)) = Passes m limit n
+BuildsCounts m (Err NoMemory) = Unit {0}

@@ -1,4 +1,5 @@
 pub mod Building
 pub mod Built
 pub mod Indexed
+pub mod Parts
 pub mod Runs

@@ -2,6 +2,7 @@
 ghost use Rattle.std.specs.Prelude.{◌≡◌, ℕ, ◌<◌, ◌≤◌, IfOk, length, map, slice_get, Some};
 ghost use Rattle.zero_one_rows.specs.declared.program.Row.{Row};
 ghost use Rattle.program_rows.specs.Counted.{base_in, rows_in};
+ghost use Rattle.program_rows.specs.Grouping.{IsGrouped};
 ghost use Rattle.zero_one_model.specs.Indexed.{NamesCells};
 ghost use Rattle.zero_one_model.specs.Runs.{leads, first_shelf, second_shelf, no_shelf, first_file, second_file, AreFiled};
 
@@ -139,6 +140,32 @@ fn second_files(
     Ok(keys)
 }
 
+/// The base rows by their first tier.
+fn group_first(alloc: Global, ship: &Ship, lists: &RowLists, base: u64) -> Result<Groups, NoMemory>
+    requires names { (k : ℕ) (r : Row) → slice_get (base_in lists.now) k ≡ Some r → NamesCells ship.now r }
+    requires few { length (rows_in lists.now) ≤ 2000000 }
+    requires base { base ≡ length (base_in lists.now) }
+    ensures { IfOk result (IsGrouped (map (first_file ship.now) (base_in lists.now)) (no_shelf ship.now)) }
+{
+    let keys = first_files(alloc, ship, lists, base)?;
+    let groups = group(alloc, keys.as_slice(), ship.stacks() as usize * TIERS);
+    drop(keys);
+    groups
+}
+
+/// The base rows by their second tier.
+fn group_second(alloc: Global, ship: &Ship, lists: &RowLists, base: u64) -> Result<Groups, NoMemory>
+    requires names { (k : ℕ) (r : Row) → slice_get (base_in lists.now) k ≡ Some r → NamesCells ship.now r }
+    requires few { length (rows_in lists.now) ≤ 2000000 }
+    requires base { base ≡ length (base_in lists.now) }
+    ensures { IfOk result (IsGrouped (map (second_file ship.now) (base_in lists.now)) (no_shelf ship.now)) }
+{
+    let keys = second_files(alloc, ship, lists, base)?;
+    let groups = group(alloc, keys.as_slice(), ship.stacks() as usize * TIERS);
+    drop(keys);
+    groups
+}
+
 /// The base rows of some lists, filed.
 pub fn file_rows(
     alloc: Global,
@@ -151,19 +178,15 @@ pub fn file_rows(
     requires base { base ≡ length (base_in lists.now) }
     ensures { IfOk result (λ f. AreFiled ship.now (base_in lists.now) f) }
 {
-    let none = ship.stacks() as usize * TIERS;
-    let by_first = group(
-        alloc,
-        first_files(alloc, ship, lists, base)?.as_slice(),
-        none,
-    )?;
-    let by_second = group(
-        alloc,
-        second_files(alloc, ship, lists, base)?.as_slice(),
-        none,
-    )?;
-    Ok(RowFiles {
-        by_first,
-        by_second,
-    })
+    let by_first = group_first(alloc, ship, lists, base)?;
+    match group_second(alloc, ship, lists, base) {
+        Ok(by_second) => Ok(RowFiles {
+            by_first,
+            by_second,
+        }),
+        Err(no) => {
+            drop(by_first);
+            Err(no)
+        }
+    }
 }

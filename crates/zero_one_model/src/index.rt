@@ -2,6 +2,7 @@
 ghost use Rattle.std.specs.Prelude.{◌≡◌, ℕ, ◌+◌, ◌*◌, ◌<◌, ◌≤◌, ◌^◌, IfOk, All, [], length, map, slice_index_or};
 ghost use Rattle.stow_data.specs.Ship.{halves, places};
 ghost use Rattle.stow_data.specs.Plans.{no_place};
+ghost use Rattle.program_rows.specs.Grouping.{IsGrouped};
 ghost use Rattle.zero_one_model.specs.Indexed.{shelf, lot, place_shelf, half_key, place_key, below_key, above_key, other_of, IsIndexOf, NamesCells, is_keyed, first_of, second_of};
 
 use program_rows::{Groups, group};
@@ -82,6 +83,90 @@ fn lot_keys(alloc: Global, kinds: u32, vars: &[Var]) -> Result<Seq<usize>, NoMem
     Ok(keys)
 }
 
+/// The variables of each kind.
+fn group_kinds(alloc: Global, kinds: u32, vars: &[Var]) -> Result<Groups, NoMemory>
+    requires { length vars.now ≤ 200000 }
+    ensures { IfOk result (IsGrouped (map (λ v. v.kind) vars.now) kinds) }
+{
+    let keys = kind_keys(alloc, vars)?;
+    let groups = group(alloc, keys.as_slice(), kinds as usize);
+    drop(keys);
+    groups
+}
+
+/// The variables of each tier of a stack.
+fn group_shelves(alloc: Global, ship: &Ship, vars: &[Var]) -> Result<Groups, NoMemory>
+    requires places { All (λ v. v.place < length (places ship.now)) vars.now }
+    requires few { length vars.now ≤ 200000 }
+    ensures { IfOk result (IsGrouped (map (λ v. place_shelf (slice_index_or (places ship.now) v.place no_place)) vars.now) (length ship.now.stacks * 40)) }
+{
+    let keys = shelf_keys(alloc, ship, vars)?;
+    let groups = group(alloc, keys.as_slice(), ship.stacks() as usize * TIERS);
+    drop(keys);
+    groups
+}
+
+/// The variables of each stack.
+fn group_stacks(alloc: Global, ship: &Ship, vars: &[Var]) -> Result<Groups, NoMemory>
+    requires places { All (λ v. v.place < length (places ship.now)) vars.now }
+    requires few { length vars.now ≤ 200000 }
+    ensures { IfOk result (IsGrouped (map (λ v. (slice_index_or (places ship.now) v.place no_place).stack) vars.now) (length ship.now.stacks)) }
+{
+    let keys = stack_keys(alloc, ship, vars)?;
+    let groups = group(alloc, keys.as_slice(), ship.stacks() as usize);
+    drop(keys);
+    groups
+}
+
+/// The variables of each lot.
+fn group_lots(alloc: Global, calls: u32, kinds: u32, vars: &[Var]) -> Result<Groups, NoMemory>
+    requires { length vars.now ≤ 200000 }
+    ensures { IfOk result (IsGrouped (map (λ v. lot kinds v.put v.kind) vars.now) (calls * kinds)) }
+{
+    let keys = lot_keys(alloc, kinds, vars)?;
+    let groups = group(alloc, keys.as_slice(), calls as usize * kinds as usize);
+    drop(keys);
+    groups
+}
+
+/// The variables of each tier of a stack, and of each stack.
+fn group_places(alloc: Global, ship: &Ship, vars: &[Var]) -> Result<(Groups, Groups), NoMemory>
+    requires places { All (λ v. v.place < length (places ship.now)) vars.now }
+    requires few { length vars.now ≤ 200000 }
+    ensures shelves { IfOk result (λ g. IsGrouped (map (λ v. place_shelf (slice_index_or (places ship.now) v.place no_place)) vars.now) (length ship.now.stacks * 40) g.0) }
+    ensures stacks { IfOk result (λ g. IsGrouped (map (λ v. (slice_index_or (places ship.now) v.place no_place).stack) vars.now) (length ship.now.stacks) g.1) }
+{
+    let shelves = group_shelves(alloc, ship, vars)?;
+    match group_stacks(alloc, ship, vars) {
+        Ok(stacks) => Ok((shelves, stacks)),
+        Err(no) => {
+            drop(shelves);
+            Err(no)
+        }
+    }
+}
+
+/// The variables of each kind, and of each lot.
+fn group_put(
+    alloc: Global,
+    calls: u32,
+    kinds: u32,
+    vars: &[Var],
+) -> Result<(Groups, Groups), NoMemory>
+    requires { length vars.now ≤ 200000 }
+    ensures kinds { IfOk result (λ g. IsGrouped (map (λ v. v.kind) vars.now) kinds g.0) }
+    ensures lots { IfOk result (λ g. IsGrouped (map (λ v. lot kinds v.put v.kind) vars.now) (calls * kinds) g.1) }
+{
+    let by_kind = group_kinds(alloc, kinds, vars)?;
+    match group_lots(alloc, calls, kinds, vars) {
+        Ok(by_lot) => Ok((by_kind, by_lot)),
+        Err(no) => {
+            drop(by_kind);
+            Err(no)
+        }
+    }
+}
+
 /// The index of a voyage's variables.
 pub fn index_of(
     alloc: Global,
@@ -94,22 +179,19 @@ pub fn index_of(
     requires few { length vars.now ≤ 200000 }
     ensures { IfOk result (λ x. IsIndexOf ship.now calls kinds vars.now x) }
 {
-    let shelves = ship.stacks() as usize * TIERS;
-    let lots = calls as usize * kinds as usize;
-    let by_kind = group(alloc, kind_keys(alloc, vars)?.as_slice(), kinds as usize)?;
-    let by_shelf = group(alloc, shelf_keys(alloc, ship, vars)?.as_slice(), shelves)?;
-    let by_stack = group(
-        alloc,
-        stack_keys(alloc, ship, vars)?.as_slice(),
-        ship.stacks() as usize,
-    )?;
-    let by_lot = group(alloc, lot_keys(alloc, kinds, vars)?.as_slice(), lots)?;
-    Ok(Index {
-        by_kind,
-        by_shelf,
-        by_stack,
-        by_lot,
-    })
+    let put = group_put(alloc, calls, kinds, vars)?;
+    match group_places(alloc, ship, vars) {
+        Ok((by_shelf, by_stack)) => Ok(Index {
+            by_kind: put.0,
+            by_shelf,
+            by_stack,
+            by_lot: put.1,
+        }),
+        Err(no) => {
+            drop(put);
+            Err(no)
+        }
+    }
 }
 
 /// Whether the variables of a row of this family are found by one or two keys.

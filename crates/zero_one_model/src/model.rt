@@ -2,16 +2,16 @@
 ghost use Rattle.std.specs.Prelude.{◌≡◌, ℕ, ◌+◌, ◌-◌, ◌*◌, ◌<◌, ◌≤◌, ◌≢◌, ◌^◌, ◌↔◌, true, false, length, slice_get, Some, IfOk, MatchOption, OnOk, All, ◌++◌, ◌∷◌, [], filter, flat_map, cond, Contains, pos, unsigned_abs, map, ◌&&◌};
 ghost use Rattle.std.specs.List.{AllPairs, range_with_len};
 
-use crate::building::{MOST_ROWS, built_variables};
-use crate::filing::{RowFiles, file_rows};
-use crate::index::{Index, has_keys, index_of, key_of_place};
+use crate::building::built_parts;
+use crate::filing::RowFiles;
+use crate::index::{Index, has_keys, key_of_place};
 use crate::lots::{may_cross, may_touch};
 use crate::refusals::ModelNo;
 use crate::runs::at_call;
 use chain_rows::Chain;
-use program_rows::{RowLists, count_rows, list_rows};
+use program_rows::RowLists;
 use std::alloc::Global;
-use stow_data::{CallNo, Cargo, KindNo, Kinds, Limit, NoMemory, Place, Seq, Ship, VarNo, kinds};
+use stow_data::{CallNo, Cargo, KindNo, Kinds, NoMemory, Place, Seq, Ship, VarNo, kinds};
 use zero_one_rows::{Row, RowList, Var, VarList, is_crossing_variable, place_at};
 
 /// Appends a variable's number where it is wanted.
@@ -64,30 +64,24 @@ impl<'a> Model<'a> {
         requires arrival { length cargo.now.arrival ≡ length (places ship.now) }
         ensures { Builds (record { ship = ship.now; cargo = cargo.now }) result }
     {
-        let _places = ship.places();
         let kinds = kinds(alloc, ship, cargo)?;
-        let vars = built_variables(alloc, ship, cargo, &kinds)?;
-        let counts = count_rows(ship, cargo, &kinds);
-        if counts.all > MOST_ROWS {
-            return Err(ModelNo::TooLarge {
-                limit: Limit::Rows,
-                value: counts.all,
-            });
+        match built_parts(alloc, ship, cargo, &kinds) {
+            Ok((vars, tables)) => Ok(Model {
+                ship,
+                cargo,
+                kinds,
+                vars,
+                lists: tables.lists,
+                base: tables.counts.base,
+                rows: tables.counts.all,
+                index: tables.index,
+                files: tables.files,
+            }),
+            Err(no) => {
+                drop(kinds);
+                Err(no)
+            }
         }
-        let lists = list_rows(alloc, ship, cargo, &kinds)?;
-        let index = index_of(alloc, ship, cargo.calls(), kinds.len(), vars.as_slice())?;
-        let files = file_rows(alloc, ship, &lists, counts.base)?;
-        Ok(Model {
-            ship,
-            cargo,
-            kinds,
-            vars,
-            lists,
-            base: counts.base,
-            rows: counts.all,
-            index,
-            files,
-        })
     }
 
     /// The number of variables.

@@ -4,8 +4,8 @@ use Rattle.zero_one_rows.specs.Variables.{variables}
 use Rattle.base_matrix.proofs.Filing.{same_voyage}
 use Rattle.base_matrix.proofs.building.matrix_of.Goals as goal
 
-pub build-requires : goal.build-requires
-build-requires c = c.as_slice.ensures ∙ c.in_ok-vars.ensures ∙ ap variables (sym (same_voyage c.args.model.now c.ship.result.now c.cargo.result.now c.ship.ensures c.cargo.ensures))
+pub build-matrix-requires : goal.build-matrix-requires
+build-matrix-requires c = c.as_slice.ensures ∙ c.in_ok-vars.ensures ∙ ap variables (sym (same_voyage c.args.model.now c.ship.result.now c.cargo.result.now c.ship.ensures c.cargo.ensures))
 
 pub returns : goal.returns
-returns c = IfOk-weaker c.build.result _ _ (λ a e. e ∙ same_voyage c.args.model.now c.ship.result.now c.cargo.result.now c.ship.ensures c.cargo.ensures) c.build.ensures.voyage
+returns c = IfOk-weaker c.build-matrix.result _ _ (λ a e. e ∙ same_voyage c.args.model.now c.ship.result.now c.cargo.result.now c.ship.ensures c.cargo.ensures) c.build-matrix.ensures.voyage

@@ -1,4 +1,4 @@
-use Rattle.std.proofs.Common.{refl, drop, ◌∙◌}
+use Rattle.std.proofs.Common.{refl, drop}
 use Rattle.std.proofs.lemmas.Result.{err_from_is_err_and}
 use Rattle.edifact_segments.specs.Scanning.{Complete}
 use Rattle.edifact_segments.proofs.GrammarLemmas.{tells-front, finds-err, no_tag, has_tag}
