@@ -8,22 +8,21 @@ trap 'rm -rf "$folder"' EXIT
 cd "$folder"
 git init -q
 mkdir -p crates/read_bench/src crates/fill_bench/src
-for crate in stow_data edifact_segments baplie_model baplie_read; do
+for crate in stow_data edifact_segments baplie; do
     cp -r "$root/crates/$crate" crates/
 done
 cat >crates.txt <<'TXT'
 stow_data: arrayvec
 edifact_segments: stow_data
-baplie_model: stow_data edifact_segments
-baplie_read: stow_data edifact_segments baplie_model
+baplie: stow_data edifact_segments itoa
 fill_bench: stow_data
-read_bench: baplie_read stow_data
+read_bench: baplie stow_data
 TXT
 cat >crates/read_bench/src/main.rt <<'RT'
 //! Makes a long bay plan and reads it.
 #![tactic(auto)]
 
-use baplie_read::read_baplie;
+use baplie::read_baplie;
 use std::io;
 use stow_data::{Bytes, NoMemory};
 
@@ -66,7 +65,7 @@ fn main(rt: HostRuntime) -> io::Result<()> {
 }
 RT
 # The same program without the reading: its time is taken off.
-sed -e '/^use baplie_read/d' -e '/match read_baplie/,/^    }$/c\    println!(rt; "{length} bytes")' \
+sed -e '/^use baplie::/d' -e '/match read_baplie/,/^    }$/c\    println!(rt; "{length} bytes")' \
     crates/read_bench/src/main.rt >crates/fill_bench/src/main.rt
 for crate in read_bench fill_bench; do
     if ! (cd "crates/$crate" && rt run) >"$crate.log" 2>&1; then

@@ -7,8 +7,8 @@ use Rattle.stow_data.specs.Ship.{Ship, fits}
 use Rattle.stow_data.specs.Plans.{place_at}
 use Rattle.toml_values.specs.Values.{◌>>=◌}
 use Rattle.bookings.specs.declared.shipment.Bookings.{Bookings}
-use Rattle.baplie_model.specs.declared.parts.CellGroup.{CellGroup}
-use Rattle.baplie_model.specs.declared.parts.Facts.{Facts}
+use Rattle.baplie.specs.declared.parts.CellGroup.{CellGroup}
+use Rattle.baplie.specs.declared.parts.Facts.{Facts}
 use Rattle.arrival_plan.specs.declared.faults.ArrivalFault.{ArrivalFault}
 use Rattle.arrival_plan.specs.declared.faults.ArrivalFault.TheVariants.{NoSuchCell, WrongLength, Twice, NotInRotation, CellTaken, Rule, TooLarge, NoMemory}
 use Rattle.arrival_plan.specs.declared.stowage.Stowage.{Stowage}

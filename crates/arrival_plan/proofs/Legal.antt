@@ -28,7 +28,7 @@ use Rattle.bookings.specs.BookedCargo.{container_of}
 use Rattle.bookings.specs.Reading.{has_id}
 use Rattle.bookings.specs.Rules.{IsBooking, IsBookings}
 use Rattle.bookings.proofs.CargoLaws.{all_containers, cargo_has_rules}
-use Rattle.baplie_model.specs.declared.parts.CellGroup.{CellGroup}
+use Rattle.baplie.specs.declared.parts.CellGroup.{CellGroup}
 use Rattle.arrival_plan.specs.declared.stowage.Stowage.{Stowage}
 use Rattle.arrival_plan.specs.Arriving.{arriving, cargo_with, nothing}
 use Rattle.arrival_plan.specs.Settled.{AreRead, KeepsAsked}

@@ -16,8 +16,8 @@ use Rattle.stowage_rules.specs.Plan.{Holds}
 use Rattle.stowage_rules.proofs.Items.{slice_get-set_same, slice_get_in}
 use Rattle.toml_values.proofs.ValueLaws.{bound, same_Ok}
 use Rattle.bookings.specs.declared.shipment.Bookings.{Bookings}
-use Rattle.baplie_model.specs.declared.parts.CellGroup.{CellGroup}
-use Rattle.baplie_model.specs.declared.parts.Facts.{Facts}
+use Rattle.baplie.specs.declared.parts.CellGroup.{CellGroup}
+use Rattle.baplie.specs.declared.parts.Facts.{Facts}
 use Rattle.arrival_plan.specs.declared.faults.ArrivalFault.TheVariants.{NoSuchCell, WrongLength, Twice, NotInRotation, CellTaken}
 use Rattle.arrival_plan.specs.declared.stowage.Placed.{Placed}
 use Rattle.arrival_plan.specs.declared.stowage.Stowage.{Stowage}

@@ -23,8 +23,8 @@ use Rattle.stowage_rules.proofs.Items.{slice_get-set_other, slice_get-set_same, 
 use Rattle.toml_values.proofs.ValueLaws.{bound, same_Ok}
 use Rattle.bookings.specs.declared.shipment.Bookings.{Bookings}
 use Rattle.bookings.specs.Reading.{has_id}
-use Rattle.baplie_model.specs.declared.parts.CellGroup.{CellGroup}
-use Rattle.baplie_model.specs.declared.parts.Facts.{Facts}
+use Rattle.baplie.specs.declared.parts.CellGroup.{CellGroup}
+use Rattle.baplie.specs.declared.parts.Facts.{Facts}
 use Rattle.arrival_plan.specs.declared.stowage.Placed.{Placed}
 use Rattle.arrival_plan.specs.declared.stowage.Stowage.{Stowage}
 use Rattle.arrival_plan.specs.Cells.{is_taken}

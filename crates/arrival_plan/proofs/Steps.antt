@@ -12,8 +12,8 @@ use Rattle.stow_data.proofs.Fitting.{fits_said}
 use Rattle.toml_values.specs.Values.{◌>>=◌}
 use Rattle.toml_values.proofs.ValueLaws.{bound, err_is_no_ok, same_Ok}
 use Rattle.bookings.specs.declared.shipment.Bookings.{Bookings}
-use Rattle.baplie_model.specs.declared.parts.CellGroup.{CellGroup}
-use Rattle.baplie_model.specs.declared.parts.Facts.{Facts}
+use Rattle.baplie.specs.declared.parts.CellGroup.{CellGroup}
+use Rattle.baplie.specs.declared.parts.Facts.{Facts}
 use Rattle.arrival_plan.specs.declared.faults.ArrivalFault.{ArrivalFault}
 use Rattle.arrival_plan.specs.declared.faults.ArrivalFault.TheVariants.{NoSuchCell, WrongLength, Twice, NotInRotation, CellTaken}
 use Rattle.arrival_plan.specs.declared.stowage.Placed.{Placed}

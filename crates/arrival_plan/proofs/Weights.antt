@@ -8,13 +8,13 @@ use Rattle.std.specs.List.{position_or_len}
 use Rattle.std.specs.Option.{option_or}
 use Rattle.edifact_segments.specs.declared.segments.Segment.{Segment}
 use Rattle.edifact_segments.proofs.Lengths as lengths
-use Rattle.baplie_model.specs.declared.parts.CellGroup.{CellGroup}
-use Rattle.baplie_model.specs.declared.parts.Message.{Message}
-use Rattle.baplie_model.specs.Faults.{body, groups, head, rest}
-use Rattle.baplie_model.specs.Groups.{cell_group, facts_from, text_in}
-use Rattle.baplie_model.specs.Messages.{IsMessageOf}
-use Rattle.baplie_model.specs.Segments.{closes, is_container, is_unverified, is_verified, opens}
-use Rattle.baplie_model.specs.Texts.{at_most, is_mark, read_at, weight_of}
+use Rattle.baplie.specs.declared.parts.CellGroup.{CellGroup}
+use Rattle.baplie.specs.declared.parts.Message.{Message}
+use Rattle.baplie.specs.Faults.{body, groups, head, rest}
+use Rattle.baplie.specs.Groups.{cell_group, facts_from, text_in}
+use Rattle.baplie.specs.Messages.{IsMessageOf}
+use Rattle.baplie.specs.Segments.{closes, is_container, is_unverified, is_verified, opens}
+use Rattle.baplie.specs.Texts.{at_most, is_mark, read_at, weight_of}
 use Rattle.arrival_plan.specs.Settled.{AreRead}
 
 abbrev IsLight : CellGroup → Type 0

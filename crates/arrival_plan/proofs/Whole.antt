@@ -9,7 +9,7 @@ use Rattle.stowage_rules.specs.Departure.{HasArrival}
 use Rattle.stowage_rules.specs.Faults.{IsFirstFault}
 use Rattle.bookings.specs.declared.shipment.Bookings.{Bookings}
 use Rattle.bookings.specs.Rules.{IsBookings}
-use Rattle.baplie_model.specs.declared.parts.CellGroup.{CellGroup}
+use Rattle.baplie.specs.declared.parts.CellGroup.{CellGroup}
 use Rattle.arrival_plan.specs.declared.faults.ArrivalFault.{ArrivalFault}
 use Rattle.arrival_plan.specs.declared.faults.ArrivalFault.TheVariants.{NoSuchCell, WrongLength, Twice, NotInRotation, CellTaken, Rule, TooLarge, NoMemory}
 use Rattle.arrival_plan.specs.declared.stowage.Stowage.{Stowage}

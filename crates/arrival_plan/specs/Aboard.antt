@@ -4,8 +4,8 @@ use Rattle.std.specs.Prelude.{◌≡◌, ◌<◌, ◌≤◌, ◌+◌, ◌-◌, �
 use Rattle.stow_data.specs.Ship.{Ship, HasNumber}
 use Rattle.stow_data.specs.Shipment.{Cargo}
 use Rattle.stowage_rules.specs.Plan.{Holds}
-use Rattle.baplie_model.specs.declared.parts.CellGroup.{CellGroup}
-use Rattle.baplie_model.specs.declared.parts.Facts.{Facts}
+use Rattle.baplie.specs.declared.parts.CellGroup.{CellGroup}
+use Rattle.baplie.specs.declared.parts.Facts.{Facts}
 use Rattle.arrival_plan.specs.Arriving.{container_of}
 
 -- the first call of a port, from call 1 on

@@ -10,8 +10,8 @@ use Rattle.stowage_rules.specs.Departure.{HasArrival, IsPlugged, IsSupported, Is
 use Rattle.stowage_rules.specs.Faults.{IsFirstFault}
 use Rattle.toml_values.specs.Values.{◌>>=◌}
 use Rattle.bookings.specs.declared.shipment.Bookings.{Bookings}
-use Rattle.baplie_model.specs.declared.parts.CellGroup.{CellGroup}
-use Rattle.baplie_model.specs.declared.parts.Message.{Message}
+use Rattle.baplie.specs.declared.parts.CellGroup.{CellGroup}
+use Rattle.baplie.specs.declared.parts.Message.{Message}
 use Rattle.arrival_plan.specs.declared.faults.ArrivalFault.{ArrivalFault}
 use Rattle.arrival_plan.specs.declared.faults.ArrivalFault.TheVariants as fault
 use Rattle.arrival_plan.specs.Arriving.{arriving, cargo_with}

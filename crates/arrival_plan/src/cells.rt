@@ -5,7 +5,7 @@ ghost use Rattle.stow_data.specs.Ship.{fits, places};
 ghost use Rattle.stow_data.specs.Plans.{place_at};
 ghost use Rattle.arrival_plan.specs.Cells.{IsTakenOn, first_call, is_taken, place_of};
 
-use baplie_model::CellGroup;
+use baplie::CellGroup;
 use stow_data::{CallNo, Half, Length, Name, PlaceNo, Plan, Ship};
 use stowage_rules::{is_filled, takes_side};
 

@@ -9,7 +9,7 @@ use crate::cells::{first_call, is_taken, place_of, takes};
 use crate::faults::ArrivalFault;
 use crate::ids::{booked_ids, enter, is_among};
 use crate::stowage::{Placed, Stowage};
-use baplie_model::{CellGroup, Facts};
+use baplie::{CellGroup, Facts};
 use bookings::Bookings;
 use std::alloc::Global;
 use std::collections::BTreeSet;

@@ -3,10 +3,10 @@ ghost use Rattle.std.specs.Prelude.{ℕ, ◌≡◌, ◌≤◌, ◌^◌, List, Ok
 ghost use Rattle.stow_data.specs.Ship.{Ship};
 ghost use Rattle.stow_data.specs.Shipment.{Cargo};
 ghost use Rattle.bookings.specs.declared.shipment.Bookings.{Bookings};
-ghost use Rattle.baplie_model.specs.declared.parts.CellGroup.{CellGroup};
-ghost use Rattle.baplie_model.specs.declared.parts.Facts.{Facts};
-ghost use Rattle.baplie_model.specs.declared.parts.Message.{Message};
-ghost use Rattle.baplie_model.specs.Messages.{IsMessageOf};
+ghost use Rattle.baplie.specs.declared.parts.CellGroup.{CellGroup};
+ghost use Rattle.baplie.specs.declared.parts.Facts.{Facts};
+ghost use Rattle.baplie.specs.declared.parts.Message.{Message};
+ghost use Rattle.baplie.specs.Messages.{IsMessageOf};
 ghost use Rattle.arrival_plan.specs.Aboard.{IsAboardAs, containers_before};
 ghost use Rattle.arrival_plan.specs.Settled.{AreRead, Settles};
 

@@ -13,7 +13,7 @@ ghost use Rattle.arrival_plan.specs.Settled.{AreRead, IsAsked, KeepsAsked, Settl
 use crate::faults::ArrivalFault;
 use crate::groups::arriving;
 use crate::stowage::Stowage;
-use baplie_model::{CellGroup, Message};
+use baplie::{CellGroup, Message};
 use bookings::{Bookings, cargo_of};
 use std::alloc::Global;
 use stow_data::{

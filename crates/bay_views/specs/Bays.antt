@@ -1,7 +1,7 @@
 -- The bays of a picture (ISO 9711).
 use Rattle.std.specs.Prelude.{ℕ, zero, suc, ◌++◌, ◌+◌, ◌-◌, ◌*◌, ◌%◌, ◌==◌, nat_eq, Bool, List, [], ◌∷◌, map, if◌then◌else◌}
 use Rattle.std.specs.List.{list_any}
-use Rattle.baplie_model.specs.declared.parts.CellGroup.{CellGroup}
+use Rattle.baplie.specs.declared.parts.CellGroup.{CellGroup}
 
 abbrev pub has : List ℕ → ℕ → Bool
 has numbers n = list_any (λ m. m == n) numbers

@@ -1,8 +1,8 @@
 -- What is drawn for each cell group.
 use Rattle.std.specs.Prelude.{ℕ, ◌+◌, ◌*◌, ◌-◌, ◌/◌, ◌%◌, ◌==◌, Bool, true, false, List, map, Option, Some, None, if◌then◌else◌}
-use Rattle.baplie_model.specs.declared.parts.Facts.{Facts}
-use Rattle.baplie_model.specs.declared.parts.CellGroup.{CellGroup}
-use Rattle.baplie_model.specs.Texts.{cell_digits}
+use Rattle.baplie.specs.declared.parts.Facts.{Facts}
+use Rattle.baplie.specs.declared.parts.CellGroup.{CellGroup}
+use Rattle.baplie.specs.Texts.{cell_digits}
 use Rattle.bay_views.specs.declared.cells.Cell.{Cell}
 use Rattle.bay_views.specs.declared.sheets.Sheet.{Sheet}
 use Rattle.bay_views.specs.Frames.{left_of, top_of}

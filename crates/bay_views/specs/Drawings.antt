@@ -2,8 +2,8 @@
 use Rattle.std.specs.Prelude.{ℕ, ◌+◌, ◌-◌, ◌*◌, ◌/◌, ◌%◌, ◌^◌, min, nat_lt, codes, List, [], ◌∷◌, ◌++◌, length, flat_map, count_by, slice_get, slice_index_or, Option, Some, None, if◌then◌else◌}
 use Rattle.std.specs.Fmt.{decimal}
 use Rattle.std.specs.List.{sum_by}
-use Rattle.baplie_model.specs.declared.parts.CellGroup.{CellGroup}
-use Rattle.baplie_model.specs.Texts.{digit}
+use Rattle.baplie.specs.declared.parts.CellGroup.{CellGroup}
+use Rattle.baplie.specs.Texts.{digit}
 use Rattle.stow_report.specs.Listings.{holds, kilograms}
 use Rattle.bay_views.specs.declared.frames.Frame.{Frame}
 use Rattle.bay_views.specs.declared.sheets.Sheet.{Sheet}

@@ -1,7 +1,7 @@
 -- The text of a cell (SVG 1.1).
 use Rattle.std.specs.Prelude.{ℕ, ◌+◌, ◌-◌, ◌/◌, ◌%◌, nat_le, Bool, is_some, codes, List, [], ◌∷◌, ◌++◌, length, drop, Option, Some, None, if◌then◌else◌}
 use Rattle.std.specs.Fmt.{decimal}
-use Rattle.baplie_model.specs.declared.parts.Facts.{Facts}
+use Rattle.baplie.specs.declared.parts.Facts.{Facts}
 use Rattle.stow_report.specs.Listings.{length_text}
 use Rattle.bay_views.specs.declared.cells.Cell.{Cell}
 use Rattle.bay_views.specs.Escapes.{escaped}

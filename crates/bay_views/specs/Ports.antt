@@ -3,8 +3,8 @@ use Rattle.std.specs.Prelude.{ℕ, ◌+◌, ◌*◌, ◌%◌, ◌/◌, ◌++◌,
 use Rattle.std.specs.List.{list_any, position_or_len, sum_by}
 use Rattle.std.specs.Fmt.{decimal}
 use Rattle.std.specs.Cmp.Lexicographic.{pointwise}
-use Rattle.baplie_model.specs.declared.parts.Facts.{Facts}
-use Rattle.baplie_model.specs.declared.parts.CellGroup.{CellGroup}
+use Rattle.baplie.specs.declared.parts.Facts.{Facts}
+use Rattle.baplie.specs.declared.parts.CellGroup.{CellGroup}
 use Rattle.bay_views.specs.Escapes.{escaped}
 
 abbrev pub same_text : List ℕ → List ℕ → Bool

@@ -1,7 +1,7 @@
 -- Where the bays of a picture stand.
 use Rattle.std.specs.Prelude.{ℕ, ◌+◌, ◌-◌, ◌*◌, ◌/◌, ◌%◌, ◌^◌, ◌<◌, ◌≤◌, ◌==◌, min, max, List, length}
 use Rattle.std.specs.List.{position_or_len}
-use Rattle.baplie_model.specs.declared.parts.CellGroup.{CellGroup}
+use Rattle.baplie.specs.declared.parts.CellGroup.{CellGroup}
 use Rattle.bay_views.specs.declared.sheets.Sheet.{Sheet}
 use Rattle.bay_views.specs.Frames.{IsFrame, frame_of, bay_width, bay_height}
 use Rattle.bay_views.specs.Bays.{long_bays, drawn_bays, home_of}

@@ -3,7 +3,7 @@ ghost use Rattle.std.specs.Prelude.{◌≡◌, ◌<◌, ◌≤◌, ◌+◌, ◌+
 ghost use Rattle.stow_report.specs.Listings.{IsCell};
 ghost use Rattle.bay_views.specs.Bays.{number_if, has, has_bay, long_bays, home_of, homes, drawn_bays, evens};
 
-use baplie_model::CellGroup;
+use baplie::CellGroup;
 use std::alloc::Global;
 use stow_data::{NoMemory, NumberList};
 

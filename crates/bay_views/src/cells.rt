@@ -6,7 +6,7 @@ ghost use Rattle.bay_views.specs.Cells.{width_of, half_of, cell_of};
 
 use crate::bays::home_of;
 use crate::sheets::Sheet;
-use baplie_model::{CellGroup, cell_text};
+use baplie::{CellGroup, cell_text};
 
 /// A cell on the sheet, in pixels.
 #[derive(Clone, Copy, Debug, PartialEq, Eq)]

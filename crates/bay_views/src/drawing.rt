@@ -12,7 +12,7 @@ use crate::marks::{
     put, write_filled, write_label, write_number, write_raw, write_rect, write_vacant,
 };
 use crate::sheets::{Sheet, sheet_of};
-use baplie_model::CellGroup;
+use baplie::CellGroup;
 use std::alloc::Global;
 use stow_data::{Bytes, NameList, NoMemory};
 

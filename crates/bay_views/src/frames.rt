@@ -3,7 +3,7 @@ ghost use Rattle.std.specs.Prelude.{◌≡◌, ◌<◌, ◌≤◌, All};
 ghost use Rattle.stow_report.specs.Listings.{IsCell};
 ghost use Rattle.bay_views.specs.Frames.{IsFrame, side_of, is_deck, bare, with_row, with_tier, with_group, frame_of, columns, deck_height, hold_height, bay_width, bay_height, column, left_of, hold_begin, top_of, row_of};
 
-use baplie_model::CellGroup;
+use baplie::CellGroup;
 
 /// The columns and tiers that each bay of a picture is drawn with: the least that hold all cells.
 #[derive(Clone, Copy, Debug, PartialEq, Eq)]

@@ -1,7 +1,7 @@
 //! What holds of every picture.
 ghost use Rattle.std.specs.Prelude.{◌≡◌, ℕ, List, false, count_by, length};
 ghost use Rattle.std.specs.List.{list_any};
-ghost use Rattle.baplie_model.specs.declared.parts.CellGroup.{CellGroup};
+ghost use Rattle.baplie.specs.declared.parts.CellGroup.{CellGroup};
 ghost use Rattle.stow_report.specs.Listings.{holds};
 ghost use Rattle.bay_views.specs.declared.sheets.Sheet.{Sheet};
 ghost use Rattle.bay_views.specs.Escapes.{breaks_out, IsWritten, written, written_text, escaped, escaped_text};

@@ -5,7 +5,7 @@ ghost use Rattle.bay_views.specs.Ports.{same_text, is_port, with_port, with_fact
 ghost use Rattle.bay_views.specs.Drawings.{totals, counts, entry_left, entry_top, entry_at, entry, entry_of, legend};
 
 use crate::marks::{put, write_label, write_name, write_number, write_raw, write_swatch};
-use baplie_model::{CellGroup, Facts};
+use baplie::{CellGroup, Facts};
 use stow_data::{Bytes, Name, NameList, NoMemory};
 use stow_report::{containers_in, kilograms_in};
 

@@ -7,7 +7,7 @@ ghost use Rattle.bay_views.specs.Marks.{raw, when, only_if, rect, swatch, label,
 
 use crate::cells::Cell;
 use crate::escaping::escape;
-use baplie_model::Facts;
+use baplie::Facts;
 use itoa::Buffer;
 use stow_data::{Bytes, Length, Name, NoMemory};
 

@@ -7,7 +7,7 @@ ghost use Rattle.bay_views.specs.Sheets.{IsSheet, sheet_of, legend_lines, per_li
 
 use crate::bays::{drawn_bays, long_bays};
 use crate::frames::{Frame, frame_of};
-use baplie_model::CellGroup;
+use baplie::CellGroup;
 use std::alloc::Global;
 use stow_data::{NoMemory, NumberList};
 

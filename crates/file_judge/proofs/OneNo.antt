@@ -9,9 +9,9 @@ use Rattle.stow_data.specs.Profile.{IsShip}
 use Rattle.proof_trees.proofs.Lesser.{proves_lesser}
 use Rattle.zero_one_rows.specs.Variables.{Voyage}
 use Rattle.zero_one_rows.specs.Rows.{whole}
-use Rattle.baplie_model.specs.declared.parts.Message.{Message}
-use Rattle.baplie_model.specs.Messages.{IsMessageOf}
-use Rattle.baplie_read.specs.declared.faults.BaplieFault.{BaplieFault}
+use Rattle.baplie.specs.declared.parts.Message.{Message}
+use Rattle.baplie.specs.Messages.{IsMessageOf}
+use Rattle.baplie.specs.declared.faults.BaplieFault.{BaplieFault}
 use Rattle.certificate.specs.declared.tree.Head.{Head}
 use Rattle.certificate.specs.declared.tree.Record.{Record}
 use Rattle.certificate.specs.declared.refusals.BoundNo.{BoundNo}

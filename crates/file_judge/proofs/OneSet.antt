@@ -9,7 +9,7 @@ use Rattle.stowage_rules.specs.Faults.{IsFirstFault, MeetsRules}
 use Rattle.stowage_rules.proofs.InRank.{breaks}
 use Rattle.voyage_meaning.specs.Voyage.{HasCount}
 use Rattle.plan_lifts.specs.Lifted.{IsFirstIllegal}
-use Rattle.baplie_model.specs.declared.parts.Message.{Message}
+use Rattle.baplie.specs.declared.parts.Message.{Message}
 use Rattle.plan_files.specs.Shown.{ShowAll, Shows, shown_by}
 use Rattle.shown_plans.specs.declared.faults.FileNo.{FileNo}
 use Rattle.shown_plans.specs.PlanOf.{plan_of}

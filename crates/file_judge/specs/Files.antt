@@ -2,11 +2,11 @@
 use Rattle.std.specs.Prelude.{◌≡◌, ◌≢◌, ◌⊎◌, ℕ, suc, List, [], ◌∷◌, map, Option, Some, None}
 use Rattle.stow_data.specs.Ship.{Ship}
 use Rattle.stow_data.specs.Shipment.{Cargo}
-use Rattle.baplie_model.specs.declared.parts.Message.{Message}
-use Rattle.baplie_model.specs.Messages.{IsMessageOf}
-use Rattle.baplie_read.specs.declared.faults.BaplieFault.{BaplieFault}
-use Rattle.baplie_read.specs.declared.faults.BaplieFault.TheVariants as baplie
-use Rattle.baplie_read.specs.Reading.{IsBaplieFault}
+use Rattle.baplie.specs.declared.parts.Message.{Message}
+use Rattle.baplie.specs.Messages.{IsMessageOf}
+use Rattle.baplie.specs.declared.faults.BaplieFault.{BaplieFault}
+use Rattle.baplie.specs.declared.faults.BaplieFault.TheVariants as baplie
+use Rattle.baplie.specs.Reading.{IsBaplieFault}
 use Rattle.plan_files.specs.Shown.{shown_by}
 use Rattle.plan_checker.specs.declared.faults.PlanNo.{PlanNo}
 use Rattle.plan_checker.specs.declared.faults.PlanNo.TheVariants as plan

@@ -6,7 +6,7 @@ ghost use Rattle.stow_data.specs.Profile.{IsShip};
 ghost use Rattle.stow_data.specs.Plans.{Plan};
 ghost use Rattle.stowage_rules.specs.Departure.{IsStowed};
 ghost use Rattle.bookings.specs.declared.shipment.Bookings.{Bookings};
-ghost use Rattle.baplie_model.specs.declared.parts.CellGroup.{CellGroup};
+ghost use Rattle.baplie.specs.declared.parts.CellGroup.{CellGroup};
 ghost use Rattle.arrival_plan.specs.Settled.{told};
 ghost use Rattle.plan_files.specs.DepartureFile.{groups, message_of};
 ghost use Rattle.shown_plans.specs.PlanOf.{plan_of};

@@ -2,7 +2,7 @@
 ghost use Rattle.std.specs.Prelude.{◌≡◌};
 ghost use Rattle.file_judge.specs.declared.refusals.JudgeNo.TheVariants.{NoMemory as WantOfMemory};
 
-use baplie_read::BaplieFault;
+use baplie::BaplieFault;
 use certificate::BoundNo;
 use plan_checker::PlanNo;
 use stow_data::{CallNo, NoMemory};

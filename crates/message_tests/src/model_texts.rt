@@ -1,5 +1,5 @@
 //! Each public call once.
-use baplie_model::{cell_text, length_of_type, read_cell_text, read_count, read_weight};
+use baplie::{cell_text, length_of_type, read_cell_text, read_count, read_weight};
 use std::test::Fail;
 use stow_data::Length;
 

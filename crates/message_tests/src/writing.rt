@@ -1,6 +1,5 @@
 //! Bay plans as they are written (SMDG BAPLIE 2.2).
-use baplie_read::read_baplie;
-use baplie_write::{read_is_whole, write_baplie};
+use baplie::{read_baplie, read_is_whole, write_baplie};
 use std::alloc::Global;
 use std::test::Fail;
 use stow_data::Bytes;

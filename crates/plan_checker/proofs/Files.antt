@@ -15,7 +15,7 @@ use Rattle.plan_lifts.specs.declared.lifting.LiftsFault.{LiftsFault}
 use Rattle.plan_lifts.specs.declared.lifting.LiftsFault.TheVariants as lifting
 use Rattle.plan_lifts.specs.declared.lifting.LiftsFault.TheVariants.{Illegal}
 use Rattle.std.specs.Prelude.{IfErr, IfOk, MatchResult, Result}
-use Rattle.baplie_model.specs.declared.parts.Message.{Message}
+use Rattle.baplie.specs.declared.parts.Message.{Message}
 use Rattle.plan_files.specs.Shown.{IsLegalFileSet, ShowAll, Shows, shown_by}
 use Rattle.shown_plans.specs.declared.faults.FileNo.{FileNo}
 use Rattle.shown_plans.proofs.Formed.{shown_aboard, shown_formed}

@@ -10,7 +10,7 @@ use Rattle.plan_lifts.specs.declared.lifting.LiftsFault.{LiftsFault}
 use Rattle.plan_lifts.specs.declared.lifting.LiftsFault.TheVariants as lifting
 use Rattle.plan_lifts.specs.declared.lifting.LiftsFault.TheVariants.{Illegal}
 use Rattle.stowage_rules.specs.Departure.{AreDepartures}
-use Rattle.baplie_model.specs.declared.parts.Message.{Message}
+use Rattle.baplie.specs.declared.parts.Message.{Message}
 use Rattle.plan_files.specs.Shown.{CellGroup, IsLegalFileSet, ShowAll, Shows, shown_by}
 use Rattle.shown_plans.specs.PlanOf.{plan_of}
 use Rattle.plan_checker.specs.declared.faults.PlanNo.{PlanNo}

@@ -6,7 +6,7 @@ ghost use Rattle.plan_files.specs.Shown.{ShowAll, Shows, shown_by};
 ghost use Rattle.plan_checker.specs.Checked.{AreCounted, HasRehandles, IsFileFault, IsPlanNo, IsRuleFault, IsUnshown, told_by};
 
 use crate::faults::PlanNo;
-use baplie_model::Message;
+use baplie::Message;
 use plan_lifts::{LiftsFault, lifts};
 use shown_plans::{FileNo, plan_of_message, told_is_shown};
 use std::alloc::Global;

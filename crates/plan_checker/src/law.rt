@@ -4,7 +4,7 @@ ghost use Rattle.stow_data.specs.Ship.{Ship};
 ghost use Rattle.stow_data.specs.Shipment.{Cargo, IsCargo};
 ghost use Rattle.stow_data.specs.Profile.{IsShip};
 ghost use Rattle.stow_data.specs.Plans.{Plan};
-ghost use Rattle.baplie_model.specs.declared.parts.Message.{Message};
+ghost use Rattle.baplie.specs.declared.parts.Message.{Message};
 ghost use Rattle.plan_files.specs.Shown.{IsLegalFileSet, shown_by};
 ghost use Rattle.plan_checker.specs.declared.faults.PlanNo.{PlanNo};
 ghost use Rattle.plan_checker.specs.declared.faults.PlanNo.TheVariants.{NoMemory as WantOfMemory};

@@ -14,14 +14,14 @@ use Rattle.stow_data.specs.declared.geometry.Length.{Length}
 use Rattle.stow_data.specs.declared.geometry.Length.TheVariants.{Twenty, Forty}
 use Rattle.stow_data.specs.Ship.{bay_of, length_in}
 use Rattle.stow_data.proofs.Members.{Member, map_at}
-use Rattle.baplie_model.specs.declared.parts.CellGroup.{CellGroup}
-use Rattle.baplie_model.specs.Faults.{body, head, groups, rest}
-use Rattle.baplie_model.specs.Finding.{scan, group_cause}
-use Rattle.baplie_model.specs.Groups.{cell_group, long_of_bay}
-use Rattle.baplie_model.specs.Segments.{closes, opens}
-use Rattle.baplie_write.proofs.Parts.{clean, none_found}
-use Rattle.baplie_write.proofs.Scans.{open-cut}
-use Rattle.baplie_write.proofs.Taken.{interchange_writable}
+use Rattle.baplie.specs.declared.parts.CellGroup.{CellGroup}
+use Rattle.baplie.specs.Faults.{body, head, groups, rest}
+use Rattle.baplie.specs.Finding.{scan, group_cause}
+use Rattle.baplie.specs.Groups.{cell_group, long_of_bay}
+use Rattle.baplie.specs.Segments.{closes, opens}
+use Rattle.baplie.proofs.WrittenParts.{clean, none_found}
+use Rattle.baplie.proofs.Scans.{open-cut}
+use Rattle.baplie.proofs.Taken.{interchange_writable}
 use Rattle.plan_files.specs.DepartureFile.{AreArrived, AreOf}
 use Rattle.plan_files.proofs.Good.{EachRead, IsCut, each_read, joined}
 

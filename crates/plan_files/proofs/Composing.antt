@@ -12,7 +12,7 @@ use Rattle.stow_data.proofs.Members.{range-more as range-more-one}
 use Rattle.bookings.specs.declared.shipment.Bookings.{Bookings}
 use Rattle.stow_data.specs.Plans.{Plan, held}
 use Rattle.plan_files.specs.DepartureFile.{group_at}
-use Rattle.baplie_model.specs.declared.parts.CellGroup.{CellGroup}
+use Rattle.baplie.specs.declared.parts.CellGroup.{CellGroup}
 
 pub compose_more : {B : Type 0} (f : B → List ℕ) (xs : List B) (i : ℕ) (d : B) (front list new : List (List (List ℕ))) → i < length xs → list ≡ front ++ map f (take i xs) ∷ [] → new ≡ on_last (λ e. e ++ f (get_or xs i d) ∷ []) list → new ≡ front ++ map f (take (i + 1) xs) ∷ []
 compose_more f xs i d front list new l e m =

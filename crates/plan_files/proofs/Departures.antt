@@ -7,18 +7,18 @@ use Rattle.edifact_segments.specs.ReadBack.{IsWritable}
 use Rattle.edifact_segments.specs.declared.segments.Segment.{Segment}
 use Rattle.stow_data.specs.Shipment.{Cargo}
 use Rattle.bookings.specs.declared.shipment.Bookings.{Bookings}
-use Rattle.baplie_model.specs.declared.parts.CellGroup.{CellGroup}
-use Rattle.baplie_model.specs.Faults as faults
-use Rattle.baplie_model.specs.Finding.{groups_fault}
-use Rattle.baplie_model.specs.Groups.{cell_group}
-use Rattle.baplie_model.specs.Segments.{closes}
-use Rattle.baplie_model.specs.Messages.{IsMessageOf}
+use Rattle.baplie.specs.declared.parts.CellGroup.{CellGroup}
+use Rattle.baplie.specs.Faults as faults
+use Rattle.baplie.specs.Finding.{groups_fault}
+use Rattle.baplie.specs.Groups.{cell_group}
+use Rattle.baplie.specs.Segments.{closes}
+use Rattle.baplie.specs.Messages.{IsMessageOf}
 use Rattle.plan_files.specs.DepartureFile as file
 use Rattle.plan_files.specs.DepartureFile.{port_of, file_text, message_of}
 use Rattle.plan_files.specs.DepartureSegments.{unb, unh, bgm, dtm, tdt, loc}
-use Rattle.baplie_write.specs.Whole.{IsWhole, content, segments_of}
-use Rattle.baplie_write.proofs.Built.{AreParts, read_by_parts}
-use Rattle.baplie_write.proofs.Parts.{interchange}
+use Rattle.baplie.specs.Whole.{IsWhole, content, segments_of}
+use Rattle.baplie.proofs.Built.{AreParts, read_by_parts}
+use Rattle.baplie.proofs.WrittenParts.{interchange}
 use Rattle.plan_files.proofs.Good.{AllGood, joined, all_told, groups_quiet, groups-writable, head-groups, groups-groups, open-groups}
 use Rattle.plan_files.proofs.Texts.{IsText, IsDate, closed}
 use Rattle.plan_files.proofs.Writable.{all_writable, writable-unb, writable-unh, writable-bgm, writable-dtm, writable-tdt, writable-loc}

@@ -11,7 +11,7 @@ use Rattle.stow_data.proofs.PlanLookups.{container_is}
 use Rattle.bookings.specs.declared.shipment.Bookings.{Bookings}
 use Rattle.plan_files.specs.DepartureFile.{group_by, group_at}
 use Rattle.plan_files.proofs.Composing.{groups_below, groups_more}
-use Rattle.baplie_model.specs.declared.parts.CellGroup.{CellGroup}
+use Rattle.baplie.specs.declared.parts.CellGroup.{CellGroup}
 
 module _ (ship : Ship) (cargo : Cargo) (bookings : Bookings) (arrived : List CellGroup) (plan : Plan) (n : ℕ) where
   -- a container stands at the next place

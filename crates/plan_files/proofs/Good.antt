@@ -7,13 +7,13 @@ use Rattle.std.specs.List.{flat_map, list_any}
 use Rattle.std.specs.Option.{option_or}
 use Rattle.edifact_segments.specs.ReadBack.{IsWritable}
 use Rattle.edifact_segments.specs.declared.segments.Segment.{Segment}
-use Rattle.baplie_model.specs.declared.causes.Cause.{Cause}
-use Rattle.baplie_model.specs.declared.parts.CellGroup.{CellGroup}
-use Rattle.baplie_model.specs.Faults.{head, groups}
-use Rattle.baplie_model.specs.Finding.{scan, group_cause, groups_fault}
-use Rattle.baplie_model.specs.Groups.{cell_group}
-use Rattle.baplie_model.specs.Segments.{closes, opens}
-use Rattle.baplie_write.proofs.Scans.{neither, any-append, none≢some}
+use Rattle.baplie.specs.declared.causes.Cause.{Cause}
+use Rattle.baplie.specs.declared.parts.CellGroup.{CellGroup}
+use Rattle.baplie.specs.Faults.{head, groups}
+use Rattle.baplie.specs.Finding.{scan, group_cause, groups_fault}
+use Rattle.baplie.specs.Groups.{cell_group}
+use Rattle.baplie.specs.Segments.{closes, opens}
+use Rattle.baplie.proofs.Scans.{neither, any-append, none≢some}
 
 -- a LOC+147 and what stands behind it, up to the next one or the end
 pub record IsCut (group : List Segment) : Type 0 where

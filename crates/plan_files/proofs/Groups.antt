@@ -5,11 +5,11 @@ use Rattle.std.specs.List.{list_any}
 use Rattle.edifact_segments.specs.ReadBack.{IsWritable}
 use Rattle.edifact_segments.specs.declared.segments.Segment.{Segment}
 use Rattle.bookings.specs.declared.shipment.Booking.{Booking}
-use Rattle.baplie_model.specs.Groups.{cell_group, cell_in, class_from, class_in, facts_from, is_long, long_of_bay, name_of, text_in, weight_in}
-use Rattle.baplie_model.specs.Segments.{closes, element, is_container, is_cooled, is_one, names_port, opens}
-use Rattle.baplie_model.specs.Texts.{cell_of, long_of}
-use Rattle.baplie_model.specs.declared.parts.CellGroup.{CellGroup}
-use Rattle.baplie_model.proofs.CellDigits.{cell-known}
+use Rattle.baplie.specs.Groups.{cell_group, cell_in, class_from, class_in, facts_from, is_long, long_of_bay, name_of, text_in, weight_in}
+use Rattle.baplie.specs.Segments.{closes, element, is_container, is_cooled, is_one, names_port, opens}
+use Rattle.baplie.specs.Texts.{cell_of, long_of}
+use Rattle.baplie.specs.declared.parts.CellGroup.{CellGroup}
+use Rattle.baplie.proofs.CellDigits.{cell-known}
 use Rattle.plan_files.specs.DepartureFile.{Group, group_segments, cell_group_of}
 use Rattle.plan_files.specs.DepartureSegments.{loc, cell_text, cell_segment, mea, tmp, temperature_segments, rff, eqd, dgs, goods_segments}
 use Rattle.plan_files.proofs.Good.{IsGood}

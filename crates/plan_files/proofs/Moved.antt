@@ -9,14 +9,14 @@ use Rattle.edifact_segments.specs.ReadBack.{IsPrintable, IsPrintableElement, Are
 use Rattle.edifact_segments.specs.declared.segments.Segment.{Segment}
 use Rattle.edifact_segments.proofs.CanonicalLemmas.{map-trimmed-canonical}
 use Rattle.stow_data.specs.declared.geometry.Length.{Length}
-use Rattle.baplie_model.specs.declared.causes.Cause.{Cause}
-use Rattle.baplie_model.specs.declared.causes.Cause.TheVariants.{NotBaplie, BadCell, NoWeightOrPort}
-use Rattle.baplie_model.specs.Finding.{scan, group_causes, group_cause}
-use Rattle.baplie_model.specs.Groups.{cell_group, cell_in, facts_at, facts_from, lacks, long_of_bay, prior, shows}
-use Rattle.baplie_model.specs.Segments.{component, element, is_container, is_one, opens, same_text}
-use Rattle.baplie_model.specs.Texts.{long_of}
-use Rattle.baplie_model.proofs.CellDigits.{cell-known}
-use Rattle.baplie_write.proofs.Scans.{none≢some, scan-cons, scan-first}
+use Rattle.baplie.specs.declared.causes.Cause.{Cause}
+use Rattle.baplie.specs.declared.causes.Cause.TheVariants.{NotBaplie, BadCell, NoWeightOrPort}
+use Rattle.baplie.specs.Finding.{scan, group_causes, group_cause}
+use Rattle.baplie.specs.Groups.{cell_group, cell_in, facts_at, facts_from, lacks, long_of_bay, prior, shows}
+use Rattle.baplie.specs.Segments.{component, element, is_container, is_one, opens, same_text}
+use Rattle.baplie.specs.Texts.{long_of}
+use Rattle.baplie.proofs.CellDigits.{cell-known}
+use Rattle.baplie.proofs.Scans.{none≢some, scan-cons, scan-first}
 use Rattle.plan_files.specs.DepartureFile.{moved, moved_segment}
 use Rattle.plan_files.specs.DepartureSegments.{one, cell_text, segment}
 use Rattle.plan_files.proofs.Good.{IsCut, IsGood}

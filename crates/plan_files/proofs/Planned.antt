@@ -26,11 +26,11 @@ use Rattle.toml_values.specs.Values.{is_code}
 use Rattle.bookings.specs.Reading.{length_of}
 use Rattle.bookings.specs.Rules.{IsBooking, IsBookings}
 use Rattle.arrival_plan.specs.Settled.{told}
-use Rattle.baplie_model.specs.declared.parts.CellGroup.{CellGroup}
-use Rattle.baplie_model.specs.declared.parts.Facts.{Facts}
-use Rattle.baplie_model.specs.Groups.{cell_group, long_of_bay}
-use Rattle.baplie_model.specs.Texts.{long_of}
-use Rattle.baplie_write.specs.Whole.{IsWhole}
+use Rattle.baplie.specs.declared.parts.CellGroup.{CellGroup}
+use Rattle.baplie.specs.declared.parts.Facts.{Facts}
+use Rattle.baplie.specs.Groups.{cell_group, long_of_bay}
+use Rattle.baplie.specs.Texts.{long_of}
+use Rattle.baplie.specs.Whole.{IsWhole}
 use Rattle.plan_files.specs.DepartureFile.{AreArrived, no_booking, no_group, port_of, number_at, booked_group, cell_group_of, group_by, group_at, groups, message_of, moved, moved_segments}
 use Rattle.plan_files.proofs.Arrived.{few_arrived, long_by_bay, one_out, put_out, put_out_else, read_group, total, total_joined}
 use Rattle.plan_files.proofs.Departures.{IsBookedHead, is_whole}

@@ -5,17 +5,17 @@ use Rattle.std.specs.Prelude.{find, is_none, nat_lt}
 use Rattle.std.specs.List.{list_any}
 use Rattle.edifact_segments.specs.declared.segments.Segment.{Segment}
 use Rattle.stow_data.specs.declared.geometry.Length.{Length}
-use Rattle.baplie_model.specs.declared.causes.Cause.{Cause}
-use Rattle.baplie_model.specs.declared.causes.Cause.TheVariants.{NotBaplie, BadCell, NameTooLong, LengthLeftOut, BadWeight, NoWeightOrPort}
-use Rattle.baplie_model.specs.declared.causes.Prior.{Prior}
-use Rattle.baplie_model.specs.Finding.{scan, group_causes, group_cause}
-use Rattle.baplie_model.specs.Groups.{is_long, lacks, prior, shows}
-use Rattle.baplie_model.specs.Segments.{is_container, is_danger, names_port}
-use Rattle.baplie_model.specs.Texts.{long_of}
+use Rattle.baplie.specs.declared.causes.Cause.{Cause}
+use Rattle.baplie.specs.declared.causes.Cause.TheVariants.{NotBaplie, BadCell, NameTooLong, LengthLeftOut, BadWeight, NoWeightOrPort}
+use Rattle.baplie.specs.declared.causes.Prior.{Prior}
+use Rattle.baplie.specs.Finding.{scan, group_causes, group_cause}
+use Rattle.baplie.specs.Groups.{is_long, lacks, prior, shows}
+use Rattle.baplie.specs.Segments.{is_container, is_danger, names_port}
+use Rattle.baplie.specs.Texts.{long_of}
 use Rattle.plan_files.specs.DepartureFile.{Group, group_segments}
 use Rattle.plan_files.specs.DepartureSegments.{loc, cell_segment, mea, tmp, temperature_segments, rff, eqd, dgs, goods_segments}
-use Rattle.baplie_write.proofs.Scans.{scan-cons}
-use Rattle.baplie_model.proofs.CellDigits.{cell-known}
+use Rattle.baplie.proofs.Scans.{scan-cons}
+use Rattle.baplie.proofs.CellDigits.{cell-known}
 use Rattle.plan_files.proofs.Known.{weight-known}
 use Rattle.plan_files.proofs.Texts.{IsText}
 

@@ -13,8 +13,8 @@ use Rattle.stow_data.proofs.PlanLookups.{is_held}
 use Rattle.stowage_rules.specs.Departure.{IsStowed}
 use Rattle.bookings.specs.declared.shipment.Bookings.{Bookings}
 use Rattle.arrival_plan.specs.Settled.{told}
-use Rattle.baplie_model.specs.declared.parts.CellGroup as baplie
-use Rattle.baplie_model.specs.declared.parts.Facts.{Facts}
+use Rattle.baplie.specs.declared.parts.CellGroup as baplie
+use Rattle.baplie.specs.declared.parts.Facts.{Facts}
 use Rattle.plan_files.specs.Shown.{CellGroup, Shows, shown_at, shown_by, shown_in}
 use Rattle.plan_files.specs.DepartureFile.{cell_at, cells, group_at, group_by, groups, message_of, moved, no_group, number_at, port_of, shown_from}
 use Rattle.plan_files.proofs.Showing.{groups_show}

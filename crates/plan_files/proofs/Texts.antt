@@ -9,12 +9,12 @@ use Rattle.std.specs.List.{list_all}
 use Rattle.std.specs.Prelude.{nat_le}
 use Rattle.edifact_segments.specs.Characters.{is_control}
 use Rattle.edifact_segments.specs.ReadBack.{IsPrintable}
-use Rattle.baplie_model.specs.Texts as texts
+use Rattle.baplie.specs.Texts as texts
 use Rattle.stow_data.specs.Profile.{is_class_byte, is_class, is_name_byte, is_name}
 use Rattle.toml_values.specs.Values.{is_code_byte, is_digit, is_code, is_digits}
-use Rattle.baplie_model.specs.Texts.{digit}
+use Rattle.baplie.specs.Texts.{digit}
 use Rattle.plan_files.specs.DepartureSegments.{cell_text}
-use Rattle.baplie_write.proofs.Counts.{both, numerals}
+use Rattle.baplie.proofs.Counts.{both, numerals}
 
 calm_by : (p : ℕ → Bool) → ((b : ℕ) → p b ≡ true → is_control b ≡ false) → (t : List ℕ) → list_all p t ≡ true → IsPrintable t
 calm_by p f [] h = tt

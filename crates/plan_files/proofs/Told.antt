@@ -13,8 +13,8 @@ use Rattle.toml_values.proofs.ValueLaws.{bound, same_Ok}
 use Rattle.bookings.specs.declared.shipment.Booking.{Booking}
 use Rattle.bookings.specs.declared.shipment.Bookings.{Bookings}
 use Rattle.bookings.specs.BookedCargo as booked
-use Rattle.baplie_model.specs.declared.parts.CellGroup.{CellGroup}
-use Rattle.baplie_model.specs.declared.parts.Facts.{Facts}
+use Rattle.baplie.specs.declared.parts.CellGroup.{CellGroup}
+use Rattle.baplie.specs.declared.parts.Facts.{Facts}
 use Rattle.arrival_plan.specs.declared.stowage.Stowage.{Stowage}
 use Rattle.arrival_plan.specs.Aboard.{IsFirstCall}
 use Rattle.arrival_plan.specs.Arriving.{arriving, cargo_with, container_of, nothing, placed, with_facts, with_groups, with_placed}

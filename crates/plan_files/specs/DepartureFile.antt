@@ -12,12 +12,12 @@ use Rattle.stow_data.specs.Plans.{Plan, place_at, container_at, held, place_numb
 use Rattle.plan_files.specs.Shown as shown
 use Rattle.bookings.specs.declared.shipment.Booking.{Booking}
 use Rattle.bookings.specs.declared.shipment.Bookings.{Bookings}
-use Rattle.baplie_model.specs.declared.parts.Facts.{Facts}
-use Rattle.baplie_model.specs.declared.parts.CellGroup.{CellGroup}
-use Rattle.baplie_model.specs.declared.parts.Message.{Message}
-use Rattle.baplie_model.specs.Messages.{IsMessageOf}
-use Rattle.baplie_model.specs.Segments.{element, component}
-use Rattle.baplie_write.specs.Whole.{segments_of}
+use Rattle.baplie.specs.declared.parts.Facts.{Facts}
+use Rattle.baplie.specs.declared.parts.CellGroup.{CellGroup}
+use Rattle.baplie.specs.declared.parts.Message.{Message}
+use Rattle.baplie.specs.Messages.{IsMessageOf}
+use Rattle.baplie.specs.Segments.{element, component}
+use Rattle.baplie.specs.Whole.{segments_of}
 use Rattle.plan_files.specs.DepartureSegments.{segment, one, cell_text, unb, unh, bgm, dtm, tdt, loc, cell_segment, mea, temperature_segments, rff, eqd, goods_segments}
 
 -- the port of a call

@@ -1,8 +1,8 @@
 -- The plan that a bay plan shows (SMDG BAPLIE 2.2, cell groups; cell numbers as in ISO 9711).
 use Rattle.std.specs.Prelude.{◌≡◌, ◌≢◌, ℕ, ◌+◌, ◌-◌, suc, List, [], ◌∷◌, Option, Some, None, flat_map, slice_get, length, All, AllPairs, ◌↔◌}
-use Rattle.baplie_model.specs.declared.parts.CellGroup as baplie
-use Rattle.baplie_model.specs.declared.parts.Facts.{Facts}
-use Rattle.baplie_model.specs.declared.parts.Message.{Message}
+use Rattle.baplie.specs.declared.parts.CellGroup as baplie
+use Rattle.baplie.specs.declared.parts.Facts.{Facts}
+use Rattle.baplie.specs.declared.parts.Message.{Message}
 use Rattle.stow_data.specs.declared.geometry.Half.{Half}
 use Rattle.stow_data.specs.declared.geometry.Place.{Place}
 use Rattle.stow_data.specs.declared.cargoes.Container.{Container}

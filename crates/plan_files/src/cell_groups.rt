@@ -6,7 +6,7 @@ ghost use Rattle.plan_files.specs.DepartureFile.{IsTold, booked_group, cell_grou
 
 use crate::departure_segments::{cell_segment, eqd, loc, mea, push_goods, push_temperature, rff};
 use crate::moved_groups::moved;
-use baplie_model::{CellGroup, Facts, GroupList};
+use baplie::{CellGroup, Facts, GroupList};
 use bookings::{Booking, Bookings};
 use edifact_segments::SegmentList;
 use std::alloc::Global;

@@ -5,13 +5,12 @@ ghost use Rattle.stow_data.specs.Plans.{IsKnown};
 ghost use Rattle.stowage_rules.specs.Plan.{IsWellFormed};
 ghost use Rattle.bookings.specs.Rules.{IsBookings};
 ghost use Rattle.arrival_plan.specs.Settled.{told};
-ghost use Rattle.baplie_model.specs.Messages.{IsMessageOf};
+ghost use Rattle.baplie.specs.Messages.{IsMessageOf};
 ghost use Rattle.plan_files.specs.DepartureFile.{AreArrived, IsTold, file_text, groups, head, message_of};
 
 use crate::cell_groups::{cell_groups, port_of};
 use crate::departure_segments::{bgm, dtm, loc, tdt, unb, unh};
-use baplie_model::{CellGroup, Message};
-use baplie_write::write_baplie;
+use baplie::{CellGroup, Message, write_baplie};
 use bookings::Bookings;
 use edifact_segments::SegmentList;
 use std::alloc::Global;

@@ -2,7 +2,7 @@
 ghost use Rattle.std.specs.Prelude.{◌≡◌, ◌++◌, ◌∷◌, [], IfOk, OnOk, drop, length, map, take};
 ghost use Rattle.plan_files.specs.DepartureSegments.{parties, unb, unh, bgm, dtm, tdt, loc, cell_segment, weight_code, mea, tmp, temperature_segments, rff, fullness, eqd, dgs, goods_segments};
 
-use baplie_model::{cell_text, digit};
+use baplie::{cell_text, digit};
 use bookings::Bookings;
 use edifact_segments::{ElementBuffer, Segment, SegmentList};
 use itoa::Buffer;

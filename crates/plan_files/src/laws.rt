@@ -9,9 +9,9 @@ ghost use Rattle.stowage_rules.specs.Departure.{IsStowed};
 ghost use Rattle.bookings.specs.declared.shipment.Bookings.{Bookings};
 ghost use Rattle.bookings.specs.Rules.{IsBookings};
 ghost use Rattle.arrival_plan.specs.Settled.{told};
-ghost use Rattle.baplie_model.specs.declared.parts.CellGroup.{CellGroup};
-ghost use Rattle.baplie_model.specs.Messages.{IsMessageOf};
-ghost use Rattle.baplie_write.specs.Whole.{IsWhole};
+ghost use Rattle.baplie.specs.declared.parts.CellGroup.{CellGroup};
+ghost use Rattle.baplie.specs.Messages.{IsMessageOf};
+ghost use Rattle.baplie.specs.Whole.{IsWhole};
 ghost use Rattle.plan_files.specs.DepartureFile.{AreArrived, file_text, groups, message_of};
 ghost use Rattle.plan_files.specs.Shown.{Shows, shown_by};
 

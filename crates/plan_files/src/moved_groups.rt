@@ -3,7 +3,7 @@ ghost use Rattle.std.specs.Prelude.{◌≡◌, ◌++◌, ◌∷◌, [], ◌<◌,
 ghost use Rattle.plan_files.specs.DepartureFile.{moved, moved_segment, moved_segments};
 
 use crate::departure_segments::compose;
-use baplie_model::{CellGroup, Facts, cell_text};
+use baplie::{CellGroup, Facts, cell_text};
 use edifact_segments::{ElementBuffer, ElementList, Segment, SegmentList};
 use std::alloc::Global;
 use stow_data::{Name, NoMemory};

@@ -5,8 +5,7 @@ ghost use Rattle.bookings.specs.Rules.{IsBookings};
 ghost use Rattle.arrival_plan.specs.Settled.{AreRead};
 
 use arrival_plan::{read_can_be_settled, settle};
-use baplie_model::Message;
-use baplie_read::read_baplie;
+use baplie::{Message, read_baplie};
 use bookings::{Bookings, read_bookings};
 use certificate::{Tree, read_cert};
 use ship_profile::read_profile;

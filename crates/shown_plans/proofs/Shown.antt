@@ -13,7 +13,7 @@ use Rattle.stow_data.proofs.Members.{Member, index_of, member_of, range_from}
 use Rattle.stow_data.proofs.PlanLookups.{container_is, is_container}
 use Rattle.stowage_rules.specs.Plan.{Holds}
 use Rattle.toml_values.proofs.ValueLaws.{bound, err_is_no_ok, same_Ok}
-use Rattle.baplie_model.specs.declared.parts.CellGroup as baplie
+use Rattle.baplie.specs.declared.parts.CellGroup as baplie
 use Rattle.plan_files.specs.Shown.{CellGroup, IsAboardGroup, SharesHalf, Shows, SomeSays, shown_in}
 use Rattle.plan_files.proofs.Pairs.{InPairs, all_pairs, all_pairs_at}
 use Rattle.shown_plans.specs.declared.faults.FileNo.TheVariants.{MissingContainer}

@@ -18,8 +18,8 @@ use Rattle.stowage_rules.specs.Plan.{Fills, Holds}
 use Rattle.stowage_rules.proofs.Items.{slice_get-set_other, slice_get-set_same, slice_get_in}
 use Rattle.toml_values.specs.Values.{◌>>=◌}
 use Rattle.toml_values.proofs.ValueLaws.{bound, same_Ok}
-use Rattle.baplie_model.specs.declared.parts.CellGroup as baplie
-use Rattle.baplie_model.specs.declared.parts.Facts.{Facts}
+use Rattle.baplie.specs.declared.parts.CellGroup as baplie
+use Rattle.baplie.specs.declared.parts.Facts.{Facts}
 use Rattle.arrival_plan.specs.Cells.{is_taken}
 use Rattle.arrival_plan.proofs.CellLaws.{taken_from, taken_somewhere}
 use Rattle.arrival_plan.proofs.Sound.{get_replicated, length_replicated, put_from, some_side}

@@ -16,8 +16,8 @@ use Rattle.stow_data.proofs.Fitting.{fits_said, fits_shown}
 use Rattle.stow_data.proofs.PlanLookups.{container_is, is_container, place_is}
 use Rattle.toml_values.specs.Values.{◌>>=◌}
 use Rattle.toml_values.proofs.ValueLaws.{bound, err_is_no_ok, same_Ok}
-use Rattle.baplie_model.specs.declared.parts.CellGroup as baplie
-use Rattle.baplie_model.specs.declared.parts.Facts.{Facts}
+use Rattle.baplie.specs.declared.parts.CellGroup as baplie
+use Rattle.baplie.specs.declared.parts.Facts.{Facts}
 use Rattle.arrival_plan.specs.Cells.{is_taken, place_of}
 use Rattle.arrival_plan.proofs.CellLaws.{place_told}
 use Rattle.arrival_plan.proofs.Onward.{has_number}

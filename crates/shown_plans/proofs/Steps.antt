@@ -6,8 +6,8 @@ use Rattle.std.proofs.lemmas.List.{drop_all}
 use Rattle.stow_data.specs.Ship.{Ship}
 use Rattle.stow_data.specs.Shipment.{Cargo}
 use Rattle.stow_data.specs.Plans.{container_at}
-use Rattle.baplie_model.specs.declared.parts.CellGroup.{CellGroup}
-use Rattle.baplie_model.specs.declared.parts.Facts.{Facts}
+use Rattle.baplie.specs.declared.parts.CellGroup.{CellGroup}
+use Rattle.baplie.specs.declared.parts.Facts.{Facts}
 use Rattle.shown_plans.specs.declared.faults.FileNo.{FileNo}
 use Rattle.shown_plans.specs.declared.faults.FileNo.TheVariants.{MissingContainer}
 use Rattle.shown_plans.specs.declared.standing.Spot.{Spot}

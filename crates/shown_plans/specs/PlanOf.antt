@@ -6,8 +6,8 @@ use Rattle.stow_data.specs.Ship.{Ship, places, fits}
 use Rattle.stow_data.specs.Shipment.{Cargo}
 use Rattle.stow_data.specs.Plans.{Plan, place_at, container_at, container_numbers}
 use Rattle.toml_values.specs.Values.{◌>>=◌}
-use Rattle.baplie_model.specs.declared.parts.CellGroup.{CellGroup}
-use Rattle.baplie_model.specs.declared.parts.Facts.{Facts}
+use Rattle.baplie.specs.declared.parts.CellGroup.{CellGroup}
+use Rattle.baplie.specs.declared.parts.Facts.{Facts}
 use Rattle.arrival_plan.specs.Cells.{place_of, is_taken}
 use Rattle.plan_files.specs.DepartureFile.{port_of}
 use Rattle.shown_plans.specs.declared.faults.FileNo.{FileNo}

@@ -10,7 +10,7 @@ use crate::faults::FileNo;
 use crate::ids::named;
 use crate::standing::{Spot, Standing};
 use arrival_plan::{is_taken, place_of, takes};
-use baplie_model::{CellGroup, Facts};
+use baplie::{CellGroup, Facts};
 use plan_files::port_of;
 use std::collections::BTreeMap;
 use stow_data::{CallNo, Cargo, ContainerNo, FlagList, Name, PlaceNo, Ship};

@@ -4,7 +4,7 @@ ghost use Rattle.stow_data.specs.Ship.{Ship};
 ghost use Rattle.stow_data.specs.Shipment.{Cargo, IsCargo};
 ghost use Rattle.stow_data.specs.Profile.{IsShip};
 ghost use Rattle.stow_data.specs.Plans.{Plan};
-ghost use Rattle.baplie_model.specs.declared.parts.CellGroup.{CellGroup};
+ghost use Rattle.baplie.specs.declared.parts.CellGroup.{CellGroup};
 ghost use Rattle.plan_files.specs.Shown.{Shows, shown_in};
 ghost use Rattle.shown_plans.specs.PlanOf.{plan_of};
 

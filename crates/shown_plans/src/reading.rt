@@ -10,7 +10,7 @@ use crate::groups::add_group;
 use crate::ids::id_table;
 use crate::missing::first_missing;
 use crate::standing::Standing;
-use baplie_model::{CellGroup, Message};
+use baplie::{CellGroup, Message};
 use std::alloc::Global;
 use stow_data::{CallNo, Cargo, Plan, Ship};
 

@@ -7,7 +7,7 @@ use Rattle.stowage_rules.specs.Departure.{AreDepartures}
 use Rattle.arrival_plan.specs.Settled.{groups_of}
 use Rattle.plan_files.specs.DepartureFile.{AreArrived, groups, message_of}
 use Rattle.plan_files.specs.Shown.{ShowAll, Shows, shown_by}
-use Rattle.baplie_model.specs.declared.parts.Message.{Message}
+use Rattle.baplie.specs.declared.parts.Message.{Message}
 use Rattle.plan_files.proofs.Departures.{reads_as}
 use Rattle.plan_files.proofs.Planned.{plan_whole}
 use Rattle.plan_files.proofs.ShownBy.{plan_shown}

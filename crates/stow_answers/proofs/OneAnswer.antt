@@ -4,8 +4,8 @@ use Rattle.std.specs.Prelude.{◌⊎◌}
 use Rattle.stow_io.specs.Files.{Files}
 use Rattle.stow_data.specs.declared.limits.Limit.{Limit}
 use Rattle.stow_data.specs.declared.limits.Limit.TheVariants.{Calls, Containers, Places, Variables, Rows, Certificate}
-use Rattle.baplie_model.specs.declared.parts.Message.{Message}
-use Rattle.baplie_read.specs.declared.faults.BaplieFault.{BaplieFault}
+use Rattle.baplie.specs.declared.parts.Message.{Message}
+use Rattle.baplie.specs.declared.faults.BaplieFault.{BaplieFault}
 use Rattle.zero_one_rows.specs.Variables.{Voyage}
 use Rattle.zero_one_model.specs.Building.{IsWithin, Passes}
 use Rattle.stow_report.specs.Refusals.{refusal_text}

@@ -4,11 +4,11 @@ use Rattle.stow_io.specs.Files.{Files}
 use Rattle.stow_data.specs.declared.limits.Limit.{Limit}
 use Rattle.zero_one_rows.specs.Variables.{Voyage}
 use Rattle.zero_one_model.specs.Building.{IsWithin, Passes}
-use Rattle.baplie_model.specs.declared.parts.Message.{Message}
-use Rattle.baplie_read.specs.declared.faults.BaplieFault.{BaplieFault}
-use Rattle.baplie_read.specs.declared.faults.BaplieFault.TheVariants.{NoMemory}
-use Rattle.baplie_model.specs.Messages.{IsMessageOf}
-use Rattle.baplie_read.specs.Reading.{IsBaplieFault}
+use Rattle.baplie.specs.declared.parts.Message.{Message}
+use Rattle.baplie.specs.declared.faults.BaplieFault.{BaplieFault}
+use Rattle.baplie.specs.declared.faults.BaplieFault.TheVariants.{NoMemory}
+use Rattle.baplie.specs.Messages.{IsMessageOf}
+use Rattle.baplie.specs.Reading.{IsBaplieFault}
 use Rattle.stow_report.specs.Refusals.{refusal_text}
 use Rattle.stow_report.specs.Inputs.{limit_line}
 use Rattle.stow_report.specs.Listings.{listing_text}

@@ -2,8 +2,8 @@
 use Rattle.std.specs.Prelude.{◌≡◌, ℕ, List, [], ◌∷◌, ◌++◌, map, Option, Some, None}
 use Rattle.stow_data.specs.Plans.{Plan}
 use Rattle.plan_files.specs.Shown.{IsLegalFileSet, shown_by}
-use Rattle.baplie_model.specs.declared.parts.Message.{Message}
-use Rattle.baplie_model.specs.Messages.{IsMessageOf}
+use Rattle.baplie.specs.declared.parts.Message.{Message}
+use Rattle.baplie.specs.Messages.{IsMessageOf}
 use Rattle.program_ends.specs.declared.files.NamedFile.{NamedFile}
 use Rattle.program_ends.specs.declared.files.Work.{Work}
 use Rattle.stow_report.specs.Reports.{report_text}

@@ -4,7 +4,7 @@ ghost use Rattle.stow_report.specs.Refusals.{refusal_text};
 ghost use Rattle.stow_report.specs.Inputs.{limit_line};
 ghost use Rattle.stow_report.specs.Verdicts.{cert_line, file_line};
 
-use baplie_read::BaplieFault;
+use baplie::BaplieFault;
 use certificate::CertFault;
 use std::alloc::Global;
 use stow_data::{Bytes, Limit, NoMemory};

@@ -6,8 +6,7 @@ ghost use Rattle.stow_answers.specs.Answers.{IsShown, ShowOf};
 ghost use Rattle.voyage_inputs.specs.Named.{IsStop, IsQuiet};
 
 use crate::refusing::file_text;
-use baplie_model::Message;
-use baplie_read::{BaplieFault, read_baplie};
+use baplie::{BaplieFault, Message, read_baplie};
 use program_ends::{FileList, Finding, Work};
 use std::alloc::Global;
 use stow_data::NoMemory;

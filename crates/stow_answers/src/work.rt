@@ -6,7 +6,7 @@ ghost use Rattle.voyage_inputs.specs.Booked.{IsBooked};
 ghost use Rattle.stow_answers.specs.Work.{ArePlans, ArePlansOrNone, file_name, file_of, files_of, departure_files, cert_name, cert_file, finding_of, work_of, AreTextsOf};
 
 use crate::refusing::limit_text;
-use baplie_model::CellGroup;
+use baplie::CellGroup;
 use certificate::{Outcome, write_cert};
 use plan_files::departure_text;
 use plan_search::Planned;

@@ -8,13 +8,13 @@ use Rattle.std.specs.List.{list_all, position_or_len}
 use Rattle.edifact_segments.specs.Grammar.{IsInterchange}
 use Rattle.edifact_segments.specs.declared.segments.Segment.{Segment}
 use Rattle.edifact_segments.proofs.Lengths as lengths
-use Rattle.baplie_model.specs.declared.parts.CellGroup.{CellGroup}
-use Rattle.baplie_model.specs.declared.parts.Message.{Message}
-use Rattle.baplie_model.specs.Faults.{body, groups, head, rest}
-use Rattle.baplie_model.specs.Groups.{cell_group}
-use Rattle.baplie_model.specs.Messages.{IsMessage}
-use Rattle.baplie_model.specs.Segments.{opens, closes, component}
-use Rattle.baplie_model.specs.Texts.{digit_of, value, is_digit, is_cell, cell_of}
+use Rattle.baplie.specs.declared.parts.CellGroup.{CellGroup}
+use Rattle.baplie.specs.declared.parts.Message.{Message}
+use Rattle.baplie.specs.Faults.{body, groups, head, rest}
+use Rattle.baplie.specs.Groups.{cell_group}
+use Rattle.baplie.specs.Messages.{IsMessage}
+use Rattle.baplie.specs.Segments.{opens, closes, component}
+use Rattle.baplie.specs.Texts.{digit_of, value, is_digit, is_cell, cell_of}
 use Rattle.stow_report.specs.Listings.{IsCell, AreListable}
 
 digit_small : (b : ℕ) → digit_of b ≤ 9

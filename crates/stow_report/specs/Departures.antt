@@ -1,7 +1,7 @@
 -- The lines of departure files that a check refuses.
 use Rattle.std.specs.Prelude.{ℕ, ℤ, pos, true, List, [], ◌∷◌, ◌++◌}
 use Rattle.stowage_rules.specs.declared.faults.RuleBroken.{RuleBroken}
-use Rattle.baplie_read.specs.declared.faults.BaplieFault.{BaplieFault}
+use Rattle.baplie.specs.declared.faults.BaplieFault.{BaplieFault}
 use Rattle.shown_plans.specs.declared.faults.FileNo.{FileNo}
 use Rattle.shown_plans.specs.declared.faults.FileNo.TheVariants as file
 use Rattle.plan_checker.specs.declared.faults.PlanNo.{PlanNo}

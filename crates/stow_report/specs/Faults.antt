@@ -2,9 +2,9 @@
 use Rattle.std.specs.Prelude.{ℕ, ℤ, pos, false, List, [], ◌∷◌}
 use Rattle.edifact_segments.specs.declared.faults.SegFault.{SegFault}
 use Rattle.edifact_segments.specs.declared.faults.SegFault.TheVariants.{NoHeader, BadUna, Unterminated, ControlByte, BadTag, NoTrailer, Trailing, NoMemory}
-use Rattle.baplie_model.specs.declared.causes.Cause.{Cause}
-use Rattle.baplie_model.specs.declared.causes.Cause.TheVariants.{CountWrong}
-use Rattle.baplie_model.specs.Faults.{number}
+use Rattle.baplie.specs.declared.causes.Cause.{Cause}
+use Rattle.baplie.specs.declared.causes.Cause.TheVariants.{CountWrong}
+use Rattle.baplie.specs.Faults.{number}
 use Rattle.stow_report.specs.declared.lines.Group.TheVariants.{Edifact, Baplie}
 use Rattle.stow_report.specs.declared.lines.Line.{Line}
 use Rattle.stow_report.specs.Refusals.{numbered}

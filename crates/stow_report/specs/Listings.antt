@@ -4,9 +4,9 @@ use Rattle.std.specs.Fmt.{decimal}
 use Rattle.std.specs.List.{sum_by}
 use Rattle.stow_data.specs.declared.geometry.Length.{Length}
 use Rattle.stow_data.specs.declared.geometry.Length.TheVariants.{Twenty, Forty}
-use Rattle.baplie_model.specs.declared.parts.Facts.{Facts}
-use Rattle.baplie_model.specs.declared.parts.CellGroup.{CellGroup}
-use Rattle.baplie_model.specs.Texts.{cell_digits}
+use Rattle.baplie.specs.declared.parts.Facts.{Facts}
+use Rattle.baplie.specs.declared.parts.CellGroup.{CellGroup}
+use Rattle.baplie.specs.Texts.{cell_digits}
 
 -- a bay below 1,000, a row and a tier below 100
 abbrev pub IsCell : CellGroup → Type 0

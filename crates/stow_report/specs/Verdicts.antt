@@ -4,8 +4,8 @@ use Rattle.certificate.specs.declared.faults.CertFault.{CertFault}
 use Rattle.certificate.specs.declared.faults.CertFault.TheVariants as cert
 use Rattle.certificate.specs.declared.refusals.BoundNo.{BoundNo}
 use Rattle.certificate.specs.declared.refusals.BoundNo.TheVariants as bound
-use Rattle.baplie_read.specs.declared.faults.BaplieFault.{BaplieFault}
-use Rattle.baplie_read.specs.declared.faults.BaplieFault.TheVariants.{Seg, At, NoMemory}
+use Rattle.baplie.specs.declared.faults.BaplieFault.{BaplieFault}
+use Rattle.baplie.specs.declared.faults.BaplieFault.TheVariants.{Seg, At, NoMemory}
 use Rattle.edifact_segments.specs.declared.faults.SegFault.TheVariants as seg
 use Rattle.stow_report.specs.declared.lines.Group.TheVariants as group
 use Rattle.stow_report.specs.declared.lines.Line.{Line}

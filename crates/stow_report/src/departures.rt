@@ -5,7 +5,7 @@ ghost use Rattle.stow_report.specs.Departures.{departure_line, of_plan, plan_lin
 
 use crate::lines::{Field, Group, Line, numbered};
 use crate::verdicts::file_line;
-use baplie_read::BaplieFault;
+use baplie::BaplieFault;
 use plan_checker::PlanNo;
 use shown_plans::FileNo;
 use std::alloc::Global;

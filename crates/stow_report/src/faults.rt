@@ -1,10 +1,10 @@
 //! Refusals of bay plans.
 ghost use Rattle.std.specs.Prelude.{◌≡◌, IfOk};
-ghost use Rattle.baplie_model.specs.Faults.{number};
+ghost use Rattle.baplie.specs.Faults.{number};
 ghost use Rattle.stow_report.specs.Faults.{interchange_line, message_line};
 
 use crate::lines::{Group, Line, numbered};
-use baplie_model::Cause;
+use baplie::Cause;
 use edifact_segments::SegFault;
 use std::alloc::Global;
 use stow_data::NoMemory;

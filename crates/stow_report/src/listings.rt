@@ -4,7 +4,7 @@ ghost use Rattle.std.specs.Fmt.{decimal};
 ghost use Rattle.std.specs.List.{sum_by};
 ghost use Rattle.stow_report.specs.Listings.{AreListable, length_text, facts_text, group_text, holds, kilograms, total_line, listing_text};
 
-use baplie_model::{CellGroup, Facts, cell_text};
+use baplie::{CellGroup, Facts, cell_text};
 use itoa::Buffer;
 use std::alloc::Global;
 use stow_data::{Bytes, Length, NoMemory};

@@ -4,7 +4,7 @@ ghost use Rattle.stow_report.specs.Verdicts.{cert_line, of_bound, bound_line, fi
 
 use crate::faults::{interchange_line, message_line};
 use crate::lines::{Group, Line, numbered};
-use baplie_read::BaplieFault;
+use baplie::BaplieFault;
 use certificate::{BoundNo, CertFault};
 use edifact_segments::SegFault;
 use std::alloc::Global;

@@ -1,11 +1,11 @@
 -- What the files are read as.
 use Rattle.std.specs.Prelude.{◌≡◌, ◌≢◌, ℕ, List, Option, IfSome}
 use Rattle.stow_io.specs.Files.{Files, bytes_at}
-use Rattle.baplie_model.specs.declared.parts.Message.{Message}
-use Rattle.baplie_model.specs.Messages.{IsMessageOf}
-use Rattle.baplie_read.specs.declared.faults.BaplieFault.{BaplieFault}
-use Rattle.baplie_read.specs.declared.faults.BaplieFault.TheVariants.{Seg, At, NoMemory}
-use Rattle.baplie_read.specs.Reading.{IsBaplieFault}
+use Rattle.baplie.specs.declared.parts.Message.{Message}
+use Rattle.baplie.specs.Messages.{IsMessageOf}
+use Rattle.baplie.specs.declared.faults.BaplieFault.{BaplieFault}
+use Rattle.baplie.specs.declared.faults.BaplieFault.TheVariants.{Seg, At, NoMemory}
+use Rattle.baplie.specs.Reading.{IsBaplieFault}
 use Rattle.edifact_segments.specs.declared.faults.SegFault.TheVariants as seg
 use Rattle.stow_report.specs.declared.lines.Line.{Line}
 use Rattle.stow_report.specs.Refusals.{refusal_text}

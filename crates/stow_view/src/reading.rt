@@ -4,7 +4,7 @@ ghost use Rattle.stow_io.specs.Causes.{Rose};
 ghost use Rattle.stow_report.specs.Refusals.{refusal_text};
 ghost use Rattle.stow_view.specs.Reading.{file_line, IsViewOf, TellsOf, IsStop};
 
-use baplie_read::{BaplieFault, Message, read_baplie};
+use baplie::{BaplieFault, Message, read_baplie};
 use edifact_segments::SegFault;
 use std::alloc::Global;
 use stow_data::{Bytes, NoMemory, Seq, Word};

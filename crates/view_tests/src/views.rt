@@ -2,7 +2,7 @@
 ghost use Rattle.std.specs.Prelude.{◌<◌};
 ghost use Rattle.stow_report.specs.Listings.{IsCell};
 
-use baplie_model::{CellGroup, Facts};
+use baplie::{CellGroup, Facts};
 use bay_views::{add_ports, escape, escape_text, index_page, picture};
 use edifact_segments::SegmentList;
 use std::alloc::Global;

@@ -7,7 +7,7 @@ use Rattle.stow_data.specs.Ship.{Ship}
 use Rattle.ship_profile.specs.ShipText.{profile_of}
 use Rattle.bookings.specs.Reading.{bookings_of}
 use Rattle.bookings.specs.declared.shipment.Bookings.{Bookings}
-use Rattle.baplie_model.specs.declared.parts.Message.{Message}
+use Rattle.baplie.specs.declared.parts.Message.{Message}
 use Rattle.voyage_inputs.specs.declared.voyage.BookedVoyage.{BookedVoyage}
 use Rattle.voyage_inputs.specs.declared.reading.ReadStop.{ReadStop}
 use Rattle.voyage_inputs.specs.declared.reading.ReadStop.TheVariants.{Failed, FailedOwn, NoMemory}

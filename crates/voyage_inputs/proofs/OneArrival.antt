@@ -13,7 +13,7 @@ use Rattle.stowage_rules.specs.Plan.{Fills}
 use Rattle.stowage_rules.specs.Departure.{HasArrival, half_of}
 use Rattle.stowage_rules.specs.Faults.{IsFault, IsFirstFault}
 use Rattle.bookings.specs.declared.shipment.Bookings.{Bookings}
-use Rattle.baplie_model.specs.declared.parts.CellGroup.{CellGroup}
+use Rattle.baplie.specs.declared.parts.CellGroup.{CellGroup}
 use Rattle.arrival_plan.specs.declared.faults.ArrivalFault.{ArrivalFault}
 use Rattle.arrival_plan.specs.declared.faults.ArrivalFault.TheVariants.{NoSuchCell, WrongLength, Twice, NotInRotation, CellTaken, Rule, TooLarge, NoMemory}
 use Rattle.arrival_plan.specs.Settled.{AreTooMany, IsAsked, IsBroken, KeepsAsked, Settles, told}

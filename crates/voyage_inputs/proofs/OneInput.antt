@@ -10,9 +10,9 @@ use Rattle.bookings.specs.Reading.{bookings_of}
 use Rattle.bookings.specs.declared.faults.BookingFault.{BookingFault}
 use Rattle.bookings.specs.declared.shipment.Bookings.{Bookings}
 use Rattle.stow_data.specs.Shipment.{Cargo}
-use Rattle.baplie_model.specs.declared.parts.Message.{Message}
-use Rattle.baplie_model.specs.Messages.{IsMessageOf}
-use Rattle.baplie_read.specs.declared.faults.BaplieFault.{BaplieFault}
+use Rattle.baplie.specs.declared.parts.Message.{Message}
+use Rattle.baplie.specs.Messages.{IsMessageOf}
+use Rattle.baplie.specs.declared.faults.BaplieFault.{BaplieFault}
 use Rattle.arrival_plan.specs.declared.faults.ArrivalFault.{ArrivalFault}
 use Rattle.arrival_plan.specs.Settled.{Settles, groups_of}
 use Rattle.stow_report.specs.Inputs.{profile_line, booking_line}

@@ -3,15 +3,15 @@ use Rattle.std.proofs.Common.{◌≡◌, ◌≢◌, ℕ, List, refl, sym, ap, su
 use Rattle.std.proofs.lemmas.Option.{same_Some}
 use Rattle.edifact_segments.specs.declared.segments.Segment.{Segment}
 use Rattle.edifact_segments.proofs.OneReading as reading
-use Rattle.baplie_model.specs.declared.causes.Cause.{Cause}
-use Rattle.baplie_model.specs.declared.parts.CellGroup.{CellGroup}
-use Rattle.baplie_model.specs.declared.parts.Message.{Message}
-use Rattle.baplie_model.specs.Messages.{IsMessage, IsMessageOf}
-use Rattle.baplie_model.specs.Faults.{IsLeastFault}
-use Rattle.baplie_model.proofs.Whole.{one, not_both}
-use Rattle.baplie_read.specs.declared.faults.BaplieFault.{BaplieFault}
-use Rattle.baplie_read.specs.declared.faults.BaplieFault.TheVariants.{Seg, At, NoMemory}
-use Rattle.baplie_read.specs.Reading.{IsBaplieFault}
+use Rattle.baplie.specs.declared.causes.Cause.{Cause}
+use Rattle.baplie.specs.declared.parts.CellGroup.{CellGroup}
+use Rattle.baplie.specs.declared.parts.Message.{Message}
+use Rattle.baplie.specs.Messages.{IsMessage, IsMessageOf}
+use Rattle.baplie.specs.Faults.{IsLeastFault}
+use Rattle.baplie.proofs.Whole.{one, not_both}
+use Rattle.baplie.specs.declared.faults.BaplieFault.{BaplieFault}
+use Rattle.baplie.specs.declared.faults.BaplieFault.TheVariants.{Seg, At, NoMemory}
+use Rattle.baplie.specs.Reading.{IsBaplieFault}
 
 pub message_not_fault : (bytes : List ℕ) (message : Message) (fault : BaplieFault) → fault ≢ NoMemory → IsMessageOf bytes message → IsBaplieFault bytes fault → ⊥
 message_not_fault bytes message (Seg e) named h k = reading.never_both bytes h.segments e h.interchange k

@@ -3,8 +3,8 @@ use Rattle.std.specs.Prelude.{ℕ, ◌≤◌, ◌^◌, List, length, Option, Som
 use Rattle.stow_data.specs.Profile.{IsShip}
 use Rattle.stow_data.specs.Shipment.{IsCargo}
 use Rattle.bookings.specs.Rules.{IsBookings}
-use Rattle.baplie_model.specs.declared.parts.Message.{Message}
-use Rattle.baplie_model.specs.Messages.{IsMessageOf}
+use Rattle.baplie.specs.declared.parts.Message.{Message}
+use Rattle.baplie.specs.Messages.{IsMessageOf}
 use Rattle.arrival_plan.specs.Settled.{Settles, groups_of}
 use Rattle.voyage_inputs.specs.declared.voyage.BookedVoyage.{BookedVoyage}
 

@@ -7,11 +7,11 @@ use Rattle.ship_profile.specs.declared.faults.ProfileFault.{ProfileFault}
 use Rattle.bookings.specs.Reading.{bookings_of}
 use Rattle.bookings.specs.declared.faults.BookingFault.{BookingFault}
 use Rattle.bookings.specs.declared.shipment.Bookings.{Bookings}
-use Rattle.baplie_model.specs.declared.parts.Message.{Message}
-use Rattle.baplie_model.specs.Messages.{IsMessageOf}
-use Rattle.baplie_read.specs.declared.faults.BaplieFault.{BaplieFault}
-use Rattle.baplie_read.specs.declared.faults.BaplieFault.TheVariants as baplie
-use Rattle.baplie_read.specs.Reading.{IsBaplieFault}
+use Rattle.baplie.specs.declared.parts.Message.{Message}
+use Rattle.baplie.specs.Messages.{IsMessageOf}
+use Rattle.baplie.specs.declared.faults.BaplieFault.{BaplieFault}
+use Rattle.baplie.specs.declared.faults.BaplieFault.TheVariants as baplie
+use Rattle.baplie.specs.Reading.{IsBaplieFault}
 use Rattle.arrival_plan.specs.declared.faults.ArrivalFault.{ArrivalFault}
 use Rattle.arrival_plan.specs.declared.faults.ArrivalFault.TheVariants as arrival
 use Rattle.arrival_plan.specs.Settled.{Settles, groups_of}

@@ -10,8 +10,8 @@ use Rattle.bookings.specs.Reading.{bookings_of}
 use Rattle.bookings.specs.Rules.{IsBookings}
 use Rattle.bookings.specs.declared.faults.BookingFault.{BookingFault}
 use Rattle.bookings.specs.declared.shipment.Bookings.{Bookings}
-use Rattle.baplie_model.specs.declared.parts.Message.{Message}
-use Rattle.baplie_model.specs.Messages.{IsMessageOf}
+use Rattle.baplie.specs.declared.parts.Message.{Message}
+use Rattle.baplie.specs.Messages.{IsMessageOf}
 use Rattle.arrival_plan.specs.declared.faults.ArrivalFault.{ArrivalFault}
 use Rattle.arrival_plan.specs.declared.faults.ArrivalFault.TheVariants as arrival
 use Rattle.arrival_plan.specs.Settled.{Settles, groups_of}

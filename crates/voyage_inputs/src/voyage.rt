@@ -1,5 +1,5 @@
 //! A ship with its bookings and its cargo.
-use baplie_model::Message;
+use baplie::Message;
 use bookings::Bookings;
 use stow_data::{Cargo, Ship};
 

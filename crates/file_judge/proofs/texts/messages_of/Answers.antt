@@ -1,7 +1,7 @@
 use Rattle.std.proofs.Common.{◌≡◌, ◌<◌, ◌+◌, ◌∷◌, [], ◌++◌, ℕ, List, length, take, drop, sym, subst, ap, ◌∙◌, arith}
 use Rattle.std.proofs.lemmas.List.{length-take-le, take_more}
 use Rattle.std.proofs.lemmas.Result.{err_from_is_err_and}
-use Rattle.baplie_model.specs.declared.parts.Message.{Message}
+use Rattle.baplie.specs.declared.parts.Message.{Message}
 use Rattle.file_judge.specs.Files.{AreMessages, IsTextNo, IsTextsNo}
 use Rattle.file_judge.proofs.Reading.{faulty_at, messages_more, split_at}
 use Rattle.file_judge.proofs.texts.messages_of.Goals as goal

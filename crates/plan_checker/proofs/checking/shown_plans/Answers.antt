@@ -2,7 +2,7 @@ use Rattle.std.proofs.Common.{◌≡◌, ◌<◌, ◌+◌, ◌∷◌, [], ◌++�
 use Rattle.std.proofs.lemmas.List.{length-take-le, take_more}
 use Rattle.std.proofs.lemmas.Result.{err_from_is_err_and}
 use Rattle.stow_data.specs.Plans.{Plan}
-use Rattle.baplie_model.specs.declared.parts.Message.{Message}
+use Rattle.baplie.specs.declared.parts.Message.{Message}
 use Rattle.plan_files.specs.Shown.{ShowAll, Shows, shown_by}
 use Rattle.plan_checker.specs.Checked.{IsFileFault, IsUnshown}
 use Rattle.plan_checker.proofs.Files.{show_more, split_at, unshown_at}

@@ -3,9 +3,9 @@ use Rattle.std.specs.List.{flat_map}
 use Rattle.std.proofs.lemmas.Option.{slice_get_within}
 use Rattle.std.proofs.lemmas.Result.{IfOk-weaker}
 use Rattle.edifact_segments.specs.Written.{written}
-use Rattle.baplie_model.specs.declared.parts.Message.{Message}
-use Rattle.baplie_model.specs.Messages.{IsMessageOf}
-use Rattle.baplie_write.specs.Whole.{IsWhole, segments_of}
+use Rattle.baplie.specs.declared.parts.Message.{Message}
+use Rattle.baplie.specs.Messages.{IsMessageOf}
+use Rattle.baplie.specs.Whole.{IsWhole, segments_of}
 use Rattle.plan_files.specs.DepartureFile.{file_text, groups, message_of}
 use Rattle.plan_files.proofs.Departures.{reads_as}
 use Rattle.plan_files.proofs.Planned.{plan_whole}

@@ -1,6 +1,6 @@
 use Rattle.std.proofs.Common.{◌≡◌, ◌<◌, List, ℕ, length, sym, subst}
 use Rattle.std.specs.Prelude.{Ok}
-use Rattle.baplie_model.specs.declared.parts.CellGroup.{CellGroup}
+use Rattle.baplie.specs.declared.parts.CellGroup.{CellGroup}
 use Rattle.arrival_plan.specs.Settled.{groups_of, told}
 use Rattle.plan_files.specs.DepartureFile.{AreArrived}
 use Rattle.plan_files.proofs.Told.{same_rotation}

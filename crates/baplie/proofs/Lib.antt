@@ -1,0 +1,15 @@
+pub mod Digits
+pub mod CellDigits
+pub mod Least
+pub mod Whole
+pub mod Defaults
+pub mod Cuts
+pub mod Outcomes
+pub mod Readings
+pub mod Counts
+pub mod Trailers
+pub mod Scans
+pub mod WrittenParts
+pub mod Built
+pub mod Taken
+pub mod ReadBack

@@ -1,0 +1,10 @@
+use Rattle.std.proofs.Common.{◌≡◌, ◌≤◌, take, fold}
+use Rattle.baplie.specs.Texts.{with_digit}
+use Rattle.baplie.proofs.Digits.{nines}
+use Rattle.baplie.proofs.texts.value_of.Given as goal
+
+abbrev pub invariant-loop-byte : goal.invariant-loop-byte
+invariant-loop-byte l = record {
+  read : l.value ≡ fold with_digit 0 (take l.byte-index l.text);
+  small : l.value ≤ nines l.byte-index;
+}

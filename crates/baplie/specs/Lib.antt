@@ -1,0 +1,11 @@
+pub mod Texts
+pub mod Segments
+pub mod Groups
+pub mod Faults
+pub mod Messages
+pub mod Finding
+pub mod Told
+pub mod Roles
+pub mod Reading
+pub mod Causes
+pub mod Whole

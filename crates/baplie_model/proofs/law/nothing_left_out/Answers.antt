@@ -1,5 +1,0 @@
-use Rattle.baplie_model.proofs.Defaults.{all_told}
-use Rattle.baplie_model.proofs.law.nothing_left_out.Goals as goal
-
-pub returns : goal.returns
-returns c = all_told

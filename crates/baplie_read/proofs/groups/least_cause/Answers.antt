@@ -1,8 +1,0 @@
-use Rattle.std.proofs.Common.{rules}
-use Rattle.baplie_read.proofs.Readings.{least}
-use Rattle.baplie_read.proofs.groups.least_cause.Goals as goal
-
-pub returns : goal.returns
-returns c =
-    let e = least c.args.known c.args.segment.now c.args.role c.requires in
-    rw e (search rules)
