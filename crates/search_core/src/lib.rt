@@ -7,8 +7,6 @@ mod node_keys;
 mod records;
 mod seat;
 mod seats;
-#[cfg(test)]
-mod tests;
 
 pub use laws::{
     ended_keys_are_ended_nodes, ended_keys_are_told, held_keys_are_held_nodes,

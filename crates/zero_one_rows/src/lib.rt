@@ -6,8 +6,6 @@ mod crossing;
 mod laws;
 mod lookups;
 mod program;
-#[cfg(test)]
-mod tests;
 mod which_rows;
 
 pub use coefficients::{half_at, kind_at, place_at, stack_at, under};

@@ -1,5 +1,5 @@
 //! Two workers and one root, event by event.
-use crate::{Done, NodeKey, Refused, Seats};
+use search_core::{Done, NodeKey, Refused, Seats};
 use std::alloc::Global;
 use std::test::Fail;
 use stow_data::NoMemory;
