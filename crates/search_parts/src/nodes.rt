@@ -118,8 +118,8 @@ fn desk_at<'a>(alloc: Global, model: &Model, tables: &'a Tables<'a>) -> Result<D
     Desk::fresh(alloc, tables, planner)
 }
 
-/// The same on a desk.
-fn write_nodes_at(
+/// The nodes on ways from the root, told.
+fn write_nodes(
     alloc: Global,
     model: &Model,
     desk: &mut Desk,
@@ -132,40 +132,6 @@ fn write_nodes_at(
     let cut = cut_at(model, u64::MAX);
     let nodes = go_down_often(alloc, desk, cut, times)?;
     write_count(out, b"nodes", nodes)
-}
-
-/// The same on a desk of these tables.
-fn write_nodes_over(
-    alloc: Global,
-    model: &Model,
-    tables: &Tables,
-    times: u64,
-    out: &mut Bytes,
-) -> Result<(), NoMemory>
-    requires cargo { IsCargo model.now.cargo }
-    requires voyage { tables.now ≡ model.now }
-{
-    let mut desk = desk_at(alloc, model, tables)?;
-    let written = write_nodes_at(alloc, model, &mut desk, times, out);
-    drop(desk);
-    written
-}
-
-/// The nodes on ways from the root by value 1, on one desk.
-pub fn write_nodes(
-    alloc: Global,
-    model: &Model,
-    times: u64,
-    out: &mut Bytes,
-) -> Result<(), NoMemory>
-    requires { IsCargo model.now.cargo }
-{
-    let matrix = BaseMatrix::build(alloc, model)?;
-    let tables = Tables::build(alloc, &matrix);
-    let written = write_nodes_over(alloc, model, &tables, times, out);
-    drop(tables);
-    drop(matrix);
-    written
 }
 
 /// Begins a node, which closes at once at a cut of 0.
@@ -194,8 +160,8 @@ fn begin_both(alloc: Global, desk: &mut Desk, node: &Node, times: u64) -> Result
     Ok(())
 }
 
-/// The same on a desk.
-fn write_again_at(
+/// How many records lie on the way to the last node, which is begun so many times from the root.
+fn write_again(
     alloc: Global,
     model: &Model,
     desk: &mut Desk,
@@ -211,11 +177,21 @@ fn write_again_at(
     write_count(out, b"records", node.trail.len())
 }
 
-/// The same on a desk of these tables.
-fn write_again_over(
+/// What is done on one desk.
+#[derive(Clone, Copy)]
+pub enum Ways {
+    /// Ways from the root by value 1.
+    Down,
+    /// One such way, whose last node is begun again and again.
+    Again,
+}
+
+/// Ways on a desk of these tables.
+fn write_ways_over(
     alloc: Global,
     model: &Model,
     tables: &Tables,
+    ways: Ways,
     times: u64,
     out: &mut Bytes,
 ) -> Result<(), NoMemory>
@@ -223,15 +199,19 @@ fn write_again_over(
     requires voyage { tables.now ≡ model.now }
 {
     let mut desk = desk_at(alloc, model, tables)?;
-    let written = write_again_at(alloc, model, &mut desk, times, out);
+    let written = match ways {
+        Ways::Down => write_nodes(alloc, model, &mut desk, times, out),
+        Ways::Again => write_again(alloc, model, &mut desk, times, out),
+    };
     drop(desk);
     written
 }
 
-/// How many records lie on the way to the last node, which is begun so many times from the root.
-pub fn write_again(
+/// Ways from the root by value 1, so many times over on one desk.
+pub fn write_ways(
     alloc: Global,
     model: &Model,
+    ways: Ways,
     times: u64,
     out: &mut Bytes,
 ) -> Result<(), NoMemory>
@@ -239,7 +219,7 @@ pub fn write_again(
 {
     let matrix = BaseMatrix::build(alloc, model)?;
     let tables = Tables::build(alloc, &matrix);
-    let written = write_again_over(alloc, model, &tables, times, out);
+    let written = write_ways_over(alloc, model, &tables, ways, times, out);
     drop(tables);
     drop(matrix);
     written

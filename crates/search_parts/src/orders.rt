@@ -3,7 +3,7 @@ ghost use Rattle.std.specs.Prelude.{◌≡◌};
 ghost use Rattle.stow_data.specs.Shipment.{IsCargo};
 
 use crate::files::{cargo_of, records_in, ship_of};
-use crate::nodes::{write_again, write_nodes, write_work};
+use crate::nodes::{Ways, write_ways, write_work};
 use box_parts::{write_along, write_dives, write_kept, write_plain, write_steps};
 use certificate::Tree;
 use price_parts::{write_follows, write_raises, write_root, write_value};
@@ -85,8 +85,8 @@ fn write_part<'a>(
         Part::Gauge => write_follows(alloc, model, 0, number, out),
         Part::Prices => write_follows(alloc, model, MOST_RAISES, number, out),
         Part::Work => write_work(alloc, model, number, out),
-        Part::Nodes => write_nodes(alloc, model, number, out),
-        Part::Again => write_again(alloc, model, number, out),
+        Part::Nodes => write_ways(alloc, model, Ways::Down, number, out),
+        Part::Again => write_ways(alloc, model, Ways::Again, number, out),
     }
 }
 
