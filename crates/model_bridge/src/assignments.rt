@@ -7,15 +7,16 @@ ghost use Rattle.plan_lifts.specs.Lifted.{IsLifted};
 ghost use Rattle.zero_one_rows.specs.Variables.{variables, var};
 ghost use Rattle.solution_meaning.specs.Laws.{IsProblem};
 ghost use Rattle.model_bridge.specs.Sailed.{IsFull, BreaksNone};
+ghost use Rattle.model_bridge.specs.Pairs.{each_kind};
 ghost use Rattle.model_bridge.specs.Stays.{begin_in, is_of, is_run, is_stay, IsWithin};
 ghost use Rattle.model_bridge.specs.Assigned.{AreStays, BreaksNoRow, Costs, IsBoxOf};
 
 use crate::begins::{BeginTable, begin_table, plan_after};
-use crate::pairs::{KindList, kind_list};
+use crate::pairs::{KindList, box_kinds};
 use crossing_law::crossing_rows_hold;
 use plan_lifts::Lifted;
 use std::alloc::Global;
-use stow_data::{CallNo, Cargo, KindNo, NoMemory, PlaceNo, Plan, PlanList, Ship, VarNo, kinds};
+use stow_data::{CallNo, Cargo, KindNo, NoMemory, PlaceNo, Plan, PlanList, Ship, VarNo};
 use zero_one_model::{Box01, Model};
 use zero_one_rows::Var;
 
@@ -84,6 +85,35 @@ fn box_of_stays(
     Ok(full)
 }
 
+/// The solution, where the kinds of the containers are at hand.
+fn assigned(
+    alloc: Global,
+    ship: &Ship,
+    cargo: &Cargo,
+    model: &Model,
+    kinds: &KindList,
+    plans: &PlanList,
+    lifted: &Lifted,
+) -> Result<Box01, NoMemory>
+    requires kinds { kinds.now ≡ each_kind model.now }
+    requires ship { model.now.ship ≡ ship.now }
+    requires cargo { model.now.cargo ≡ cargo.now }
+    requires problem { IsProblem model.now }
+    requires lists { IsLifted ship.now cargo.now plans.now lifted.now.lists }
+    requires count { HasCount ship.now cargo.now plans.now lifted.now.count }
+    ensures stays { IfOk result (AreStays model.now plans.now lifted.now.lists) }
+    ensures full { IfOk result (IsFull model.now) }
+    ensures base_rows { IfOk result (BreaksNone model.now) }
+    ensures rows { IfOk result (BreaksNoRow model.now) }
+    ensures cost { IfOk result (λ full. Costs model.now full lifted.now.count) }
+{
+    let table = begin_table(alloc, ship, cargo, plans, &lifted.lists)?;
+    crossing_rows_hold();
+    let full = box_of_stays(alloc, cargo, model, kinds, plans, &table);
+    drop(table);
+    full
+}
+
 /// The solution of a voyage's departures: a full box that breaks no row and costs their rehandle count.
 ///
 /// A variable is 1 where a container of its kind stands at its place from the departure of the call at which it is put
@@ -108,9 +138,8 @@ pub fn assignment_of(
     ensures rows { IfOk result (BreaksNoRow model.now) }
     ensures cost { IfOk result (λ full. Costs model.now full lifted.now.count) }
 {
-    let kinds = kinds(alloc, ship, cargo)?;
-    let kinds = kind_list(alloc, cargo, model, &kinds)?;
-    let table = begin_table(alloc, ship, cargo, plans, &lifted.lists)?;
-    crossing_rows_hold();
-    box_of_stays(alloc, cargo, model, &kinds, plans, &table)
+    let kinds = box_kinds(alloc, ship, cargo, model)?;
+    let full = assigned(alloc, ship, cargo, model, &kinds, plans, lifted);
+    drop(kinds);
+    full
 }

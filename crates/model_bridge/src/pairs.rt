@@ -8,7 +8,7 @@ ghost use Rattle.zero_one_rows.specs.Variables.{variables};
 ghost use Rattle.model_bridge.specs.Pairs.{ones, listed_ones, pair_at_arrival, is_put, stays, is_freed, freed, loads, loading_at, kind_of_var, each_kind, IsNextHeld};
 
 use std::alloc::Global;
-use stow_data::{CallNo, Cargo, ContainerNo, KindNo, Kinds, NoMemory, Seq, VarNo};
+use stow_data::{CallNo, Cargo, ContainerNo, KindNo, Kinds, NoMemory, Seq, Ship, VarNo, kinds};
 use zero_one_model::{Box01, Model};
 use zero_one_rows::VarList;
 
@@ -185,7 +185,7 @@ fn put_at(alloc: Global, model: &Model, list: &VarList, call: CallNo) -> Result<
 }
 
 /// The kind of each container.
-pub fn kind_list(
+fn kind_list(
     alloc: Global,
     cargo: &Cargo,
     model: &Model,
@@ -200,6 +200,23 @@ pub fn kind_list(
         list.push(kinds.of(ContainerNo(c)))?;
     }
     Ok(list)
+}
+
+/// The kind of each container of a voyage.
+pub fn box_kinds(
+    alloc: Global,
+    ship: &Ship,
+    cargo: &Cargo,
+    model: &Model,
+) -> Result<KindList, NoMemory>
+    requires ship { model.now.ship ≡ ship.now }
+    requires cargo { model.now.cargo ≡ cargo.now }
+    ensures { IfOk result (λ list. list ≡ each_kind model.now) }
+{
+    let kinds = kinds(alloc, ship, cargo)?;
+    let list = kind_list(alloc, cargo, model, &kinds);
+    drop(kinds);
+    list
 }
 
 /// The kind of a variable; that of number 0 past the last variable.
@@ -276,6 +293,66 @@ fn boxes_to_put(
     boxes_by_kind(alloc, kinds, &pool)
 }
 
+/// The variables that are put at the call, by kind.
+fn vars_to_put(
+    alloc: Global,
+    model: &Model,
+    list: &VarList,
+    call: CallNo,
+) -> Result<VarList, NoMemory>
+    requires { All (λ v. v < length (variables model.now)) list.now }
+    ensures same { IfOk result (λ sorted. IsPermutation (filter (is_put model.now call) list.now) sorted) }
+    ensures order { IfOk result (λ sorted. IsNonDecreasingBy (kind_of_var model.now) sorted) }
+{
+    let put = put_at(alloc, model, list, call)?;
+    let sorted = vars_by_kind(alloc, model, &put);
+    drop(put);
+    sorted
+}
+
+/// The pairs that stay at the call, and behind them these variables with these containers.
+fn matched(
+    alloc: Global,
+    model: &Model,
+    held: &HeldList,
+    call: CallNo,
+    vars: &VarList,
+    boxes: &Containers,
+) -> Result<HeldList, NoMemory>
+    requires { All (λ e. e.0 < length (variables model.now)) held.now }
+    ensures { IfOk result (λ next. next ≡ filter (stays model.now call) held.now ++ zip vars.now boxes.now) }
+{
+    let mut pairs = kept(alloc, model, held, call)?;
+    match push_pairs(&mut pairs, vars, boxes) {
+        Ok(_) => Ok(pairs),
+        Err(no) => {
+            drop(pairs);
+            Err(no)
+        }
+    }
+}
+
+/// The pairs after a call at which these containers are put.
+fn held_with(
+    alloc: Global,
+    model: &Model,
+    list: &VarList,
+    held: &HeldList,
+    call: CallNo,
+    boxes: &Containers,
+) -> Result<HeldList, NoMemory>
+    requires list { All (λ v. v < length (variables model.now)) list.now }
+    requires vars { All (λ e. e.0 < length (variables model.now)) held.now }
+    requires same { IsPermutation (freed model.now call held.now ++ loading_at model.now call) boxes.now }
+    requires order { IsNonDecreasingBy (λ c. slice_index_or (each_kind model.now) c 0) boxes.now }
+    ensures { IfOk result (λ next. IsNextHeld model.now call list.now held.now next) }
+{
+    let vars = vars_to_put(alloc, model, list, call)?;
+    let next = matched(alloc, model, held, call, &vars, boxes);
+    drop(vars);
+    next
+}
+
 /// The pairs after a call: those that stay, and the variables that are put, matched with the containers to be put, kind
 /// by kind.
 pub fn held_after(
@@ -295,9 +372,7 @@ pub fn held_after(
     ensures { IfOk result (λ next. IsNextHeld model.now call list.now held.now next) }
 {
     let boxes = boxes_to_put(alloc, cargo, model, kinds, held, call)?;
-    let put = put_at(alloc, model, list, call)?;
-    let vars = vars_by_kind(alloc, model, &put)?;
-    let mut pairs = kept(alloc, model, held, call)?;
-    push_pairs(&mut pairs, &vars, &boxes)?;
-    Ok(pairs)
+    let next = held_with(alloc, model, list, held, call, &boxes);
+    drop(boxes);
+    next
 }

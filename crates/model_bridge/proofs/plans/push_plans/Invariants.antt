@@ -1,6 +1,6 @@
 use Rattle.std.proofs.Common.{◌≡◌, ◌+◌, length}
 use Rattle.model_bridge.proofs.Reached.{IsReached}
-use Rattle.model_bridge.proofs.plans.plan_of.Given as goal
+use Rattle.model_bridge.proofs.plans.push_plans.Given as goal
 
 abbrev pub invariant-loop-call : goal.invariant-loop-call
 invariant-loop-call l = record {
