@@ -10,13 +10,13 @@ use stow_data::{NoMemory, Seq};
 use zero_one_rows::{RaiseList, RowList};
 
 /// A list that stays as it is made. It takes two words and the room of its items, and from two items on three words more; no room is spare. Contracts see the list of its items.
-#[derive(Debug, Drop)]
+#[derive(Drop)]
 pub struct Few<T> {
     kept: Kept<T>,
 }
 
 /// The items by their number.
-#[derive(Debug, Drop)]
+#[derive(Drop)]
 enum Kept<T> {
     Nothing,
     One(Box<T>),

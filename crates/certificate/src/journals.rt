@@ -9,7 +9,7 @@ pub type Path = FlagList;
 pub type PathList = Seq<Path>;
 
 /// A node's record, at the node's path.
-#[derive(Debug, Drop)]
+#[derive(Drop)]
 pub struct Entry {
     pub path: Path,
     pub record_of: Record,

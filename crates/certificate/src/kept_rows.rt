@@ -9,13 +9,13 @@ use stow_data::{CallNo, HalfNo, KindNo, NoMemory, PlaceNo, Seq, StackNo};
 use zero_one_rows::{Raise, Row};
 
 /// A row in 24 bytes: the numbers of a crossing row, which few rows of a tree are, stand behind a pointer. Contracts see the row.
-#[derive(Debug, Drop)]
+#[derive(Drop)]
 pub struct KeptRow {
     form: Form,
 }
 
 /// The numbers of a row by its family, in the order of the text.
-#[derive(Debug, Drop)]
+#[derive(Drop)]
 enum Form {
     Flow(u32, CallNo, KindNo),
     Start(u32, PlaceNo),
@@ -30,7 +30,7 @@ enum Form {
 }
 
 /// The numbers of a crossing row.
-#[derive(Debug, Drop)]
+#[derive(Drop)]
 struct Crossing {
     length: u32,
     price: u32,
@@ -150,7 +150,7 @@ impl KeptRow {
 }
 
 /// A raise with its row kept. Contracts see the raise.
-#[derive(Debug, Drop)]
+#[derive(Drop)]
 pub struct KeptRaise {
     row: KeptRow,
     amount: i64,

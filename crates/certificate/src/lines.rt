@@ -3,7 +3,7 @@ use crate::tree::{End, Outcome};
 use zero_one_rows::{Raise, Row};
 
 /// A line of a certificate.
-#[derive(Debug, Drop)]
+#[derive(Drop)]
 pub enum Line {
     Title,
     Outcome(Outcome),

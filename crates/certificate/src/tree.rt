@@ -19,7 +19,7 @@ pub enum End {
 }
 
 /// What is done in one box.
-#[derive(Debug, Drop)]
+#[derive(Drop)]
 pub struct Record {
     /// The rows that tighten the box, in order.
     pub steps: Few<KeptRow>,

@@ -6,7 +6,7 @@ ghost use Rattle.certificate.specs.declared.words.Token.{Token};
 ghost use Rattle.certificate.specs.Reading.{key_text, token_text, IsToken};
 
 /// A word that is no number.
-#[derive(Clone, Copy, Debug, PartialEq, Eq)]
+#[derive(Clone, Copy)]
 pub(crate) enum Key {
     Step,
     Raise,
@@ -111,7 +111,7 @@ impl Key {
 }
 
 /// A word.
-#[derive(Clone, Copy, Debug, PartialEq, Eq)]
+#[derive(Clone, Copy)]
 pub(crate) enum Token {
     Word(Key),
     Number(u64),

@@ -1,16 +1,18 @@
 //! The search for a row whose multiplier can be raised with gain.
-ghost use Rattle.std.specs.Prelude.{◌≡◌, ℕ, ◌<◌, ◌≤◌, length, slice_get, Some, None, Ok, IfOk, IfSome};
+ghost use Rattle.std.specs.Prelude.{◌≡◌, ℕ, true, false, ◌<◌, ◌≤◌, ◌≤ℤ◌, length, slice_get, Some, None, Ok, IfOk, IfSome};
 ghost use Rattle.zero_one_rows.specs.Variables.{variables};
 ghost use Rattle.zero_one_rows.specs.declared.program.Row.{Row as Rows};
+ghost use Rattle.zero_one_rows.specs.Rows.{whole, is_base};
 ghost use Rattle.program_rows.specs.Counted.{all_rows, base_rows};
 ghost use Rattle.dual_bound.specs.Raising.{IsStuck};
 ghost use Rattle.kept_box.specs.Leaning.{Leans};
 ghost use Rattle.dual_bound.specs.Costs.{Priced};
+ghost use Rattle.dual_bound.specs.CrossGains.{gain_of};
 ghost use Rattle.dual_bound.specs.Rising.{IsFlat, Rises, AreCrossingFlat};
 
 use crate::costs::Costs;
 use crate::multipliers::Multipliers;
-use crate::offers::choose_crossing;
+use crate::offers::{Choice, choose_crossing};
 use crate::rising::{Rising, look, look_at};
 use crate::table::RowTable;
 use kept_box::LooseBox;
@@ -207,6 +209,37 @@ fn find_low(
         None => find_base(alloc, model, table, b, m, costs, from),
     }
 }
+
+// A row that can be raised with gain: the crossing row that is chosen, or else a base row, or any row where the chosen one can't rise.
+fn find_chosen(
+    alloc: Global,
+    model: &Model,
+    table: &RowTable,
+    b: &Box01,
+    m: &Multipliers,
+    costs: &Costs,
+    face: &mut Option<LooseBox>,
+    from: u64,
+    choice: &Choice,
+) -> Result<Option<Rising>, NoMemory>
+    requires table { table.now ≡ model.now }
+    requires face { IfSome face.old (λ f. f.voyage ≡ model.now) }
+    requires whole { length b.now ≡ length (variables model.now) }
+    requires priced { Priced model.now b.now m.now costs.now }
+    requires most { (r : Rows) → is_base r ≡ false → (whole model.now).has r ≡ true → gain_of model.now b.now costs.now.reduced.items r ≤ℤ choice.now.gain }
+    ensures face { IfSome face.new (λ f. f.voyage ≡ model.now) }
+    ensures none { result ≡ Ok None → IsStuck model.now b.now m.now }
+    ensures some { IfOk result (λ o. IfSome o (λ c. Rises model.now b.now m.now c)) }
+{
+    if choice.gain <= 0 {
+        return find_low(alloc, model, table, b, m, costs, face, from);
+    }
+    match look_at(alloc, model, table, b, m, costs, choice.row.as_ref())? {
+        Some(rising) => Ok(Some(rising)),
+        None => find_listed(alloc, model, table, b, m, costs, from),
+    }
+}
+
 /// A row that can be raised with gain: the crossing row that gains most, or else a base row. All rows are looked at only where what pairs of calls bring isn't kept, or where the best crossing row's multiplier can't rise.
 pub fn find(
     alloc: Global,
@@ -230,11 +263,7 @@ pub fn find(
         return find_listed(alloc, model, table, b, m, costs, from);
     };
     let choice = choose_crossing(model, pairs, b, costs);
-    if choice.gain <= 0 {
-        return find_low(alloc, model, table, b, m, costs, face, from);
-    }
-    if let Some(rising) = look_at(alloc, model, table, b, m, costs, choice.row)? {
-        return Ok(Some(rising));
-    }
-    find_listed(alloc, model, table, b, m, costs, from)
+    let found = find_chosen(alloc, model, table, b, m, costs, face, from, &choice);
+    drop(choice);
+    found
 }

@@ -47,14 +47,19 @@ impl<'a> Gauge<'a> {
         requires { length b ≡ length (variables model.now) }
         ensures { IfOk result (λ g. g ≡ record { voyage = model.now; box = b; multipliers = [] }) }
     {
-        let costs = Costs::start(alloc, model, &b)?;
-        Ok(Gauge {
-            model,
-            b,
-            multipliers: Multipliers::zero(alloc),
-            costs,
-            face: None,
-        })
+        match Costs::start(alloc, model, &b) {
+            Ok(costs) => Ok(Gauge {
+                model,
+                b,
+                multipliers: Multipliers::zero(alloc),
+                costs,
+                face: None,
+            }),
+            Err(no) => {
+                drop(b);
+                Err(no)
+            }
+        }
     }
 
     /// A box without multipliers, which also keeps by how much base rows are met where the reduced costs are least, while there is memory for it: raises then pass by all rows that gain nothing for that.
@@ -67,14 +72,19 @@ impl<'a> Gauge<'a> {
         ensures { IfOk result (λ g. g ≡ record { voyage = matrix.now; box = b; multipliers = [] }) }
     {
         let model = matrix.model();
-        let costs = Costs::start(alloc, model, &b)?;
-        Ok(Gauge {
-            model,
-            b,
-            multipliers: Multipliers::zero(alloc),
-            costs,
-            face: LooseBox::free(alloc, matrix).ok(),
-        })
+        match Costs::start(alloc, model, &b) {
+            Ok(costs) => Ok(Gauge {
+                model,
+                b,
+                multipliers: Multipliers::zero(alloc),
+                costs,
+                face: LooseBox::free(alloc, matrix).ok(),
+            }),
+            Err(no) => {
+                drop(b);
+                Err(no)
+            }
+        }
     }
 
     /// The box.

@@ -212,30 +212,43 @@ fn take(shares: &mut Vec<Share>, share: Share) -> Result<(), NoMemory> {
     Ok(())
 }
 
-// Chains by multiplicative weights, and how often each was taken.
-fn weighed(alloc: Global, sides: &PairSides, last: usize) -> Result<Vec<Share>, NoMemory>
+// Appends chains by multiplicative weights, and how often each was taken.
+fn weigh(shares: &mut Vec<Share>, sides: &PairSides, last: usize) -> Result<(), NoMemory>
     requires { last ≤ 12 }
 {
-    let mut shares = Vec::new(alloc);
     let mut weights = [LIGHT; PAIRS];
     let mut rate = HIGH;
     for _ in 0..TURNS {
         match best_share(sides, &weights, rate, last) {
             Some(share) => {
                 if !grow(&mut weights, &share.chain) {
-                    return Ok(shares);
+                    return Ok(());
                 }
-                take(&mut shares, share)?;
+                take(shares, share)?;
             }
             None => {
                 if rate < LEAST {
-                    return Ok(shares);
+                    return Ok(());
                 }
                 rate = rate.saturating_sub(rate / 8);
             }
         }
     }
-    Ok(shares)
+    Ok(())
+}
+
+// Chains by multiplicative weights, and how often each was taken.
+fn weighed(alloc: Global, sides: &PairSides, last: usize) -> Result<Vec<Share>, NoMemory>
+    requires { last ≤ 12 }
+{
+    let mut shares = Vec::new(alloc);
+    match weigh(&mut shares, sides, last) {
+        Ok(_) => Ok(shares),
+        Err(no) => {
+            drop(shares);
+            Err(no)
+        }
+    }
 }
 
 // How much room a chain's pairs leave.
@@ -329,7 +342,27 @@ fn fill(
     Ok(())
 }
 
-// A packing of chains as often as they were taken, scaled to the room: `up` of so many as one unit of room stands for is rounded up to it.
+// Appends chains as often as they were taken, scaled to the room: `up` of so many as one unit of room stands for is rounded up to it.
+fn pack(
+    plan: &mut Vec<Share>,
+    sides: &PairSides,
+    last: usize,
+    shares: &[Share],
+    up: u64,
+) -> Result<(), NoMemory>
+    requires { last ≤ 12 }
+{
+    let most = most_taken(shares);
+    let mut rooms = [ROOM; PAIRS];
+    for share in shares {
+        let parts = share.amount.saturating_mul(ROOM).saturating_add(up);
+        let wanted = parts.checked_div(most).unwrap_or(0);
+        place(plan, &mut rooms, share, wanted)?;
+    }
+    fill(plan, &mut rooms, sides, last)
+}
+
+// A packing of chains as often as they were taken.
 fn scaled(
     alloc: Global,
     sides: &PairSides,
@@ -339,16 +372,14 @@ fn scaled(
 ) -> Result<Vec<Share>, NoMemory>
     requires { last ≤ 12 }
 {
-    let most = most_taken(shares);
     let mut plan = Vec::new(alloc);
-    let mut rooms = [ROOM; PAIRS];
-    for share in shares {
-        let parts = share.amount.saturating_mul(ROOM).saturating_add(up);
-        let wanted = parts.checked_div(most).unwrap_or(0);
-        place(&mut plan, &mut rooms, share, wanted)?;
+    match pack(&mut plan, sides, last, shares, up) {
+        Ok(_) => Ok(plan),
+        Err(no) => {
+            drop(plan);
+            Err(no)
+        }
     }
-    fill(&mut plan, &mut rooms, sides, last)?;
-    Ok(plan)
 }
 
 // What a packing brings.
@@ -370,6 +401,32 @@ fn better(a: Vec<Share>, b: Vec<Share>) -> Vec<Share> {
     }
 }
 
+// The better one of a packing and another, if that could be made.
+fn better_made(a: Vec<Share>, b: Result<Vec<Share>, NoMemory>) -> Result<Vec<Share>, NoMemory> {
+    match b {
+        Ok(b) => Ok(better(a, b)),
+        Err(no) => {
+            drop(a);
+            Err(no)
+        }
+    }
+}
+
+// The best packing of what was taken, rounded down or to the nearest, or of chains that bring most alone.
+fn best_scaled(
+    alloc: Global,
+    sides: &PairSides,
+    last: usize,
+    shares: &[Share],
+) -> Result<Vec<Share>, NoMemory>
+    requires { last ≤ 12 }
+{
+    let half = most_taken(shares) / 2;
+    let down = scaled(alloc, sides, last, shares, 0)?;
+    let taken = better_made(down, scaled(alloc, sides, last, shares, half))?;
+    better_made(taken, scaled(alloc, sides, last, &[], 0))
+}
+
 // The best packing of a length: what was taken rounded down or to the nearest, or chains that bring most alone. Nothing where no chain brings anything.
 fn packed(alloc: Global, sides: &PairSides, last: usize) -> Result<Vec<Share>, NoMemory>
     requires { last ≤ 12 }
@@ -378,11 +435,21 @@ fn packed(alloc: Global, sides: &PairSides, last: usize) -> Result<Vec<Share>, N
         return Ok(Vec::new(alloc));
     }
     let shares = weighed(alloc, sides, last)?;
-    let half = most_taken(shares.as_slice()) / 2;
-    let down = scaled(alloc, sides, last, shares.as_slice(), 0)?;
-    let nearest = scaled(alloc, sides, last, shares.as_slice(), half)?;
-    let plain = scaled(alloc, sides, last, &[], 0)?;
-    Ok(better(better(down, nearest), plain))
+    let best = best_scaled(alloc, sides, last, shares.as_slice());
+    drop(shares);
+    best
+}
+
+// The wish for a chain of a packing.
+fn wish_of(share: Share, length: u32) -> Wish {
+    Wish {
+        row: Row::Cross {
+            length,
+            price: share.index.saturating_add(1),
+            chain: share.chain,
+        },
+        amount: share.amount,
+    }
 }
 
 // Appends the wishes of a length.
@@ -396,16 +463,22 @@ fn wish_for(
     requires { last ≤ 12 }
 {
     for share in packed(alloc, sides, last)? {
-        wishes.push(Wish {
-            row: Row::Cross {
-                length,
-                price: share.index.saturating_add(1),
-                chain: share.chain,
-            },
-            amount: share.amount,
-        })?;
+        wishes.push(wish_of(share, length))?;
     }
     Ok(())
+}
+
+// Appends the wishes of both lengths.
+fn wish_for_both(
+    wishes: &mut Vec<Wish>,
+    alloc: Global,
+    pairs: &PairTable,
+    last: usize,
+) -> Result<(), NoMemory>
+    requires { last ≤ 12 }
+{
+    wish_for(wishes, alloc, &pairs.short, last, 20)?;
+    wish_for(wishes, alloc, &pairs.long, last, 40)
 }
 
 /// The crossing rows to raise where no variable is fixed and no row has a multiplier.
@@ -413,7 +486,11 @@ pub fn wishes(alloc: Global, pairs: &PairTable, last: usize) -> Result<Vec<Wish>
     requires { last ≤ 12 }
 {
     let mut wishes = Vec::new(alloc);
-    wish_for(&mut wishes, alloc, &pairs.short, last, 20)?;
-    wish_for(&mut wishes, alloc, &pairs.long, last, 40)?;
-    Ok(wishes)
+    match wish_for_both(&mut wishes, alloc, pairs, last) {
+        Ok(_) => Ok(wishes),
+        Err(no) => {
+            drop(wishes);
+            Err(no)
+        }
+    }
 }

@@ -150,17 +150,50 @@ fn keys_of(alloc: Global, model: &Model, kinds: &Kinds) -> Result<Seq<u32>, NoMe
     Ok(keys)
 }
 
+// What pairs of 20 foot bring, and what those of 40 foot bring.
+fn both_sides(
+    alloc: Global,
+    model: &Model,
+    kinds: &Kinds,
+) -> Result<(PairSides, PairSides), NoMemory>
+    requires kinds { AreKinds model.now.ship.weight_step model.now.cargo.containers kinds.now }
+    ensures short { IfOk result (λ sides. AreSides model.now 20 sides.0) }
+    ensures long { IfOk result (λ sides. AreSides model.now 40 sides.1) }
+{
+    let short = sides_of(alloc, model, kinds, 20, Length::Twenty)?;
+    match sides_of(alloc, model, kinds, 40, Length::Forty) {
+        Ok(long) => Ok((short, long)),
+        Err(no) => {
+            drop(short);
+            Err(no)
+        }
+    }
+}
+
+// What pairs bring, where the kinds are at hand.
+fn table_by(alloc: Global, model: &Model, kinds: &Kinds) -> Result<PairTable, NoMemory>
+    requires kinds { AreKinds model.now.ship.weight_step model.now.cargo.containers kinds.now }
+    ensures { IfOk result (ArePairs model.now) }
+{
+    let keys = keys_of(alloc, model, kinds)?;
+    match both_sides(alloc, model, kinds) {
+        Ok((short, long)) => Ok(PairTable { short, long, keys }),
+        Err(no) => {
+            drop(keys);
+            Err(no)
+        }
+    }
+}
+
 impl PairTable {
     /// What pairs bring in a program.
     pub fn build(alloc: Global, model: &Model) -> Result<PairTable, NoMemory>
         ensures { IfOk result (ArePairs model.now) }
     {
         let kinds = kinds(alloc, model.ship(), model.cargo())?;
-        Ok(PairTable {
-            short: sides_of(alloc, model, &kinds, 20, Length::Twenty)?,
-            long: sides_of(alloc, model, &kinds, 40, Length::Forty)?,
-            keys: keys_of(alloc, model, &kinds)?,
-        })
+        let table = table_by(alloc, model, &kinds);
+        drop(kinds);
+        table
     }
 }
 

@@ -1,5 +1,5 @@
 //! Raises of multipliers.
-ghost use Rattle.std.specs.Prelude.{◌≡◌, true, ◌+◌, ◌<◌, ◌≤◌, ◌^◌, length, Some, None, Ok, IfOk, OnOk, OnErr, IfSome, IfNone, ◌⊎◌, IsTrue, ◌↔◌, pos, ◌-ℤ◌, ◌*ℤ◌, ◌<ℤ◌};
+ghost use Rattle.std.specs.Prelude.{◌≡◌, true, ◌+◌, ◌<◌, ◌≤◌, ◌^◌, [], ◌∷◌, ◌++◌, length, Some, None, Ok, IfOk, OnOk, OnErr, IfSome, IfNone, ◌⊎◌, IsTrue, ◌↔◌, pos, ◌-ℤ◌, ◌*ℤ◌, ◌<ℤ◌};
 ghost use Rattle.proof_trees.specs.Multipliers.{Multipliers as Prices, Closes, amount_of, with_amount};
 ghost use Rattle.certificate.specs.Entries.{same_row};
 ghost use Rattle.zero_one_rows.specs.Variables.{variables};
@@ -7,7 +7,7 @@ ghost use Rattle.zero_one_rows.specs.declared.program.Row.{Row as Rows};
 ghost use Rattle.zero_one_rows.specs.Rows.{whole};
 ghost use Rattle.dual_bound.specs.Raising.{AreMultipliers, IsStuck, Raises};
 ghost use Rattle.dual_bound.specs.Costs.{Priced, PricedSome};
-ghost use Rattle.dual_bound.specs.Rising.{Rises, Ends};
+ghost use Rattle.dual_bound.specs.Rising.{Rises, RisesBy, Ends};
 
 use crate::changing::add_amount;
 use crate::costs::Costs;
@@ -55,22 +55,23 @@ impl Costs {
         self.is_above(cut)
     }
 }
-// The same row, raised by this amount, if that is less and gains too.
-fn limited(
+
+// By how much to raise a row: by this amount, if that is less and gains too.
+fn limit(
     model: &Model,
     b: &Box01,
     m: &Multipliers,
     costs: &Costs,
-    rising: Rising,
+    rising: &Rising,
     amount: u64,
-) -> Rising
+) -> u64
     requires whole { length b.now ≡ length (variables model.now) }
     requires priced { Priced model.now b.now m.now costs.now }
-    requires rises { Rises model.now b.now m.now rising }
-    ensures { Rises model.now b.now m.now result }
+    requires rises { Rises model.now b.now m.now rising.now }
+    ensures { RisesBy model.now b.now m.now rising.now.row result }
 {
     if amount == 0 || amount >= rising.more {
-        return rising;
+        return rising.more;
     }
     let listed = Listed {
         row: &rising.row,
@@ -78,12 +79,9 @@ fn limited(
         terms: rising.terms.as_slice(),
     };
     if costs.gain(model, b, listed, amount) <= 0 {
-        return rising;
+        return rising.more;
     }
-    Rising {
-        more: amount,
-        ..rising
-    }
+    amount
 }
 
 // What is wished for, where it brings something.
@@ -104,11 +102,13 @@ fn granted(
     let Some(wish) = wish else {
         return Ok(None);
     };
-    let row = copy_of(&wish.row)?;
-    let Some(rising) = look_at(alloc, model, table, b, m, costs, Some(row))? else {
-        return Ok(None);
-    };
-    Ok(Some(limited(model, b, m, costs, rising, wish.amount)))
+    match look_at(alloc, model, table, b, m, costs, Some(&wish.row))? {
+        Some(rising) => {
+            let more = limit(model, b, m, costs, &rising, wish.amount);
+            Ok(Some(Rising { more, ..rising }))
+        }
+        None => Ok(None),
+    }
 }
 
 // A row that can be raised with gain: the one that is wished for, or else one that is found.
@@ -131,10 +131,19 @@ fn next(
     ensures none { result ≡ Ok None → IsStuck model.now b.now m.now }
     ensures some { IfOk result (λ o. IfSome o (λ c. Rises model.now b.now m.now c)) }
 {
-    if let Some(rising) = granted(alloc, model, table, b, m, costs, wish)? {
-        return Ok(Some(rising));
+    match granted(alloc, model, table, b, m, costs, wish)? {
+        Some(rising) => Ok(Some(rising)),
+        None => find(alloc, model, table, b, m, costs, face, from),
     }
-    find(alloc, model, table, b, m, costs, face, from)
+}
+
+// Appends a raise.
+fn note(raises: &mut RaiseList, row: &Row, amount: i64) -> Result<(), NoMemory>
+    ensures noted { OnOk result (raises.new ≡ raises.old ++ record { row = row.now; amount = amount } ∷ []) }
+    ensures refused { OnErr result (raises.new ≡ raises.old) }
+{
+    let row = copy_of(row)?;
+    raises.push(Raise { row, amount })
 }
 
 // Makes one raise, and appends it. After want of memory nothing is changed.
@@ -155,14 +164,10 @@ fn step(
     ensures refused { OnErr result ((m.new ≡ m.old) × (raises.new ≡ raises.old)) }
 {
     let by = signed(rising.more);
-    let raise = Raise {
-        row: copy_of(&rising.row)?,
-        amount: by,
-    };
     let place = m.place(&rising.row);
     let old = m.amount(place);
     m.give(place, copy_of(&rising.row)?, old + rising.more)?;
-    if raises.push(raise).is_err() {
+    if note(raises, &rising.row, by).is_err() {
         m.take_back(place, old);
         return Err(NoMemory);
     }
@@ -232,17 +237,22 @@ fn turn(
     if costs.closes(model, b, m, cut) {
         return Some(Raised::Reached);
     }
-    let Ok(found) = next(alloc, model, table, b, m, costs, face, *from, wish) else {
-        return Some(Raised::NoMemory);
-    };
-    let Some(rising) = found else {
-        return Some(Raised::Stuck);
-    };
-    if step(model, b, m, costs, &rising, raises).is_err() {
-        return Some(Raised::NoMemory);
+    match next(alloc, model, table, b, m, costs, face, *from, wish) {
+        Ok(Some(rising)) => {
+            let number = rising.number;
+            let made = step(model, b, m, costs, &rising, raises);
+            drop(rising);
+            match made {
+                Ok(()) => {
+                    *from = number;
+                    None
+                }
+                Err(_) => Some(Raised::NoMemory),
+            }
+        }
+        Ok(None) => Some(Raised::Stuck),
+        Err(_) => Some(Raised::NoMemory),
     }
-    *from = rising.number;
-    None
 }
 
 // The raises that are tried first: where no row has a multiplier and many raises are allowed, a packing.
@@ -265,6 +275,42 @@ fn first_wishes(
         Ok(wishes) => wishes,
         Err(NoMemory) => Vec::new(alloc),
     }
+}
+
+// Raises multipliers whose costs are kept, by these wishes first.
+fn raise_wished(
+    alloc: Global,
+    model: &Model,
+    table: &RowTable,
+    b: &Box01,
+    m: &mut Multipliers,
+    costs: &mut Costs,
+    face: &mut Option<LooseBox>,
+    cut: u64,
+    most: u32,
+    raises: &mut RaiseList,
+    wishes: &[Wish],
+) -> Raised
+    requires table { table.now ≡ model.now }
+    requires face { IfSome face.old (λ f. f.voyage ≡ model.now) }
+    requires whole { length b.now ≡ length (variables model.now) }
+    requires priced { Priced model.now b.now m.old costs.old }
+    ensures face { IfSome face.new (λ f. f.voyage ≡ model.now) }
+    ensures priced { Priced model.now b.now m.new costs.new }
+    ensures raised { Raises model.now b.now most m.old m.new raises.old raises.new }
+    ensures ends { Ends model.now b.now m.new cut result }
+    ensures spent { result ≡ Raised.Spent → length raises.new ≡ length raises.old + most }
+{
+    let mut from = 0;
+    for made in 0..most {
+        let wish = wishes.get(made as usize);
+        if let Some(end) = turn(
+            alloc, model, table, b, m, costs, face, cut, &mut from, wish, raises,
+        ) {
+            return end;
+        }
+    }
+    last(alloc, model, table, b, m, costs, face, cut)
 }
 
 /// Raises multipliers whose costs are kept.
@@ -291,16 +337,21 @@ pub fn raise_kept(
     ensures spent { result ≡ Raised.Spent → length raises.new ≡ length raises.old + most }
 {
     let wishes = first_wishes(alloc, model, table, m, most);
-    let mut from = 0;
-    for made in 0..most {
-        let wish = wishes.get(made as usize);
-        if let Some(end) = turn(
-            alloc, model, table, b, m, costs, face, cut, &mut from, wish, raises,
-        ) {
-            return end;
-        }
-    }
-    last(alloc, model, table, b, m, costs, face, cut)
+    let raised = raise_wished(
+        alloc,
+        model,
+        table,
+        b,
+        m,
+        costs,
+        face,
+        cut,
+        most,
+        raises,
+        wishes.as_slice(),
+    );
+    drop(wishes);
+    raised
 }
 
 // Adds a row without a multiplier to costs, with this one.
@@ -323,6 +374,27 @@ fn add_entry(
     add_amount(alloc, model, table, b, costs, row, signed(amount))
 }
 
+// Adds multipliers to the costs of none.
+fn price_all(
+    alloc: Global,
+    model: &Model,
+    table: &RowTable,
+    b: &Box01,
+    m: &Multipliers,
+    costs: &mut Costs,
+) -> Result<(), NoMemory>
+    requires multipliers { AreMultipliers model.now m.now }
+    requires table { table.now ≡ model.now }
+    requires whole { length b.now ≡ length (variables model.now) }
+    requires none { Priced model.now b.now [] costs.old }
+    ensures { OnOk result (Priced model.now b.now m.now costs.new) }
+{
+    for entry in m.as_slice() {
+        add_entry(alloc, model, table, b, costs, &entry.0, entry.1)?;
+    }
+    Ok(())
+}
+
 // The costs of multipliers in a box.
 fn price(
     alloc: Global,
@@ -337,10 +409,13 @@ fn price(
     ensures { IfOk result (λ c. Priced model.now b.now m.now c) }
 {
     let mut costs = Costs::start(alloc, model, b)?;
-    for entry in m.as_slice() {
-        add_entry(alloc, model, table, b, &mut costs, &entry.0, entry.1)?;
+    match price_all(alloc, model, table, b, m, &mut costs) {
+        Ok(_) => Ok(costs),
+        Err(no) => {
+            drop(costs);
+            Err(no)
+        }
     }
-    Ok(costs)
 }
 
 /// As `raise`, with a table of the program's rows at hand, which makes it fast: raises multipliers until the box closes at the cut, or no multiplier raised by 1 raises the dual value, or `most` raises are made. Each raise is appended to the list, also where memory is wanting after it.
@@ -369,9 +444,12 @@ pub fn raise_by(
         return Raised::NoMemory;
     };
     let mut face = None;
-    raise_kept(
+    let raised = raise_kept(
         alloc, model, table, b, m, &mut costs, &mut face, cut, most, raises,
-    )
+    );
+    drop(face);
+    drop(costs);
+    raised
 }
 
 /// Raises multipliers until the box closes at the cut, or no multiplier raised by 1 raises the dual value, or `most` raises are made. Each raise is appended to the list, also where memory is wanting after it.
@@ -395,5 +473,7 @@ pub fn raise(
     ensures spent { result ≡ Raised.Spent → length raises.new ≡ length raises.old + most }
 {
     let table = RowTable::none(alloc, model);
-    raise_by(alloc, model, &table, b, m, cut, most, raises)
+    let raised = raise_by(alloc, model, &table, b, m, cut, most, raises);
+    drop(table);
+    raised
 }

@@ -1,5 +1,5 @@
 //! One row looked at: whether its multiplier can be raised with gain, and by how much.
-ghost use Rattle.std.specs.Prelude.{◌≡◌, ◌+◌, ◌<◌, ◌≤◌, ◌^◌, length, slice_get, Some, None, Ok, IfOk, IfSome, IfNone, ◌<ℤ◌};
+ghost use Rattle.std.specs.Prelude.{◌≡◌, true, ◌+◌, ◌<◌, ◌≤◌, ◌^◌, length, slice_get, Some, None, Ok, IfOk, IfSome, IfNone, ◌<ℤ◌};
 ghost use Rattle.proof_trees.specs.Multipliers.{Multipliers as Prices, worth};
 ghost use Rattle.zero_one_rows.specs.Variables.{variables};
 ghost use Rattle.zero_one_rows.specs.declared.program.Row.{Row as Rows};
@@ -141,6 +141,36 @@ fn rising_of(
     }))
 }
 
+// Looks at a row: whether its multiplier can be raised by 1 with gain, and then by how much. Its terms are listed where they aren't kept.
+fn look_row(
+    alloc: Global,
+    model: &Model,
+    table: &RowTable,
+    b: &Box01,
+    m: &Multipliers,
+    costs: &Costs,
+    number: u64,
+    row: &Row,
+) -> Result<Option<Rising>, NoMemory>
+    requires place { slice_get (all_rows model.now) number ≡ Some row.now }
+    requires row { (whole model.now).has row.now ≡ true }
+    requires table { table.now ≡ model.now }
+    requires whole { length b.now ≡ length (variables model.now) }
+    requires priced { Priced model.now b.now m.now costs.now }
+    ensures none { result ≡ Ok None → IsFlat model.now b.now m.now row.now }
+    ensures some { IfOk result (λ o. IfSome o (λ c. Rises model.now b.now m.now c)) }
+{
+    if let Some((right, terms)) = table.row(number) {
+        let listed = Listed { row, right, terms };
+        return rising_of(alloc, model, b, m, costs, number, listed);
+    }
+    let terms = terms_of(alloc, model, row)?;
+    let listed = list_row(model, row, terms.as_slice());
+    let found = rising_of(alloc, model, b, m, costs, number, listed);
+    drop(terms);
+    found
+}
+
 /// Looks at the row with this number: whether its multiplier can be raised by 1 with gain, and then by how much.
 pub fn look(
     alloc: Global,
@@ -159,18 +189,11 @@ pub fn look(
     ensures some { IfOk result (λ o. IfSome o (λ c. Rises model.now b.now m.now c)) }
 {
     let row = model.row_at(number);
-    if let Some((right, terms)) = table.row(number) {
-        let listed = Listed {
-            row: &row,
-            right,
-            terms,
-        };
-        return rising_of(alloc, model, b, m, costs, number, listed);
-    }
-    let terms = terms_of(alloc, model, &row)?;
-    let listed = list_row(model, &row, terms.as_slice());
-    rising_of(alloc, model, b, m, costs, number, listed)
+    let found = look_row(alloc, model, table, b, m, costs, number, &row);
+    drop(row);
+    found
 }
+
 /// Looks at a row that may gain, if there is one.
 pub fn look_at(
     alloc: Global,
@@ -179,7 +202,7 @@ pub fn look_at(
     b: &Box01,
     m: &Multipliers,
     costs: &Costs,
-    row: Option<Row>,
+    row: Option<&Row>,
 ) -> Result<Option<Rising>, NoMemory>
     requires table { table.now ≡ model.now }
     requires whole { length b.now ≡ length (variables model.now) }
@@ -189,8 +212,8 @@ pub fn look_at(
     let Some(row) = row else {
         return Ok(None);
     };
-    let Some(number) = model.row_number(&row) else {
-        return Ok(None);
-    };
-    look(alloc, model, table, b, m, costs, number)
+    match model.row_number(row) {
+        Some(number) => look(alloc, model, table, b, m, costs, number),
+        None => Ok(None),
+    }
 }

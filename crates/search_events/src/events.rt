@@ -5,7 +5,7 @@ use certificate::Record;
 use search_core::Refused;
 
 /// What a worker does, by its number, which counts from 0.
-#[derive(Debug, Drop)]
+#[derive(Drop)]
 pub enum Event {
     /// The first child that waits goes to the back of the worker's deque.
     Push { worker: u32 },

@@ -23,7 +23,7 @@ use std::marker::Model;
 use stow_data::NoMemory;
 
 /// What a search by events ends with.
-#[derive(Debug, Drop)]
+#[derive(Drop)]
 pub struct Ended {
     /// The records that ended nodes, in the order of their events.
     pub entries: Journal,

@@ -4,7 +4,7 @@ use crate::trails::Trail;
 use certificate::Path;
 
 /// A node of a search.
-#[derive(Debug, Drop)]
+#[derive(Drop)]
 pub struct Node {
     /// The value of each branch from the root down to the node.
     pub path: Path,

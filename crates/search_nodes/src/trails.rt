@@ -8,7 +8,7 @@ use std::sync::Arc;
 use stow_data::{NoMemory, Seq};
 
 /// A record that several nodes have, and that none of them changes. Contracts see the record.
-#[derive(Debug, Drop)]
+#[derive(Drop)]
 pub struct SharedRecord {
     record: Arc<Record, Global>,
 }

@@ -1,15 +1,10 @@
-use Rattle.std.proofs.Common.{◌≡◌, ◌∙◌, subst}
+use Rattle.std.proofs.Common.{subst}
 use Rattle.zero_one_rows.specs.declared.program.Row.{Row}
 use Rattle.program_rows.specs.Counted.{all_rows}
 use Rattle.dual_bound.specs.Rising.{IsFlat}
 use Rattle.dual_bound.proofs.Flat.{same_place}
 use Rattle.dual_bound.proofs.rising.look.Goals as goal
 
-pub returns-in-Some-clause-none : goal.returns-in-Some-clause-none
-returns-in-Some-clause-none c = λ ok r at.
-    subst (λ (q : Row). IsFlat c.args.model.now c.args.b.now c.args.m.now q) (same_place (all_rows c.args.model.now) c.args.number c.row_at-row.result r c.row_at-row.ensures.place at) (c.rising_of.ensures.none ok)
-
 pub returns-clause-none : goal.returns-clause-none
 returns-clause-none c = λ ok r at.
-    let e : c.list_row-listed.result.row.now ≡ r = c.list_row-listed.ensures.row ∙ same_place (all_rows c.args.model.now) c.args.number c.row_at-row.result r c.row_at-row.ensures.place at in
-    subst (λ (q : Row). IsFlat c.args.model.now c.args.b.now c.args.m.now q) e (c.rising_of-2.ensures.none ok)
+    subst (λ (q : Row). IsFlat c.args.model.now c.args.b.now c.args.m.now q) (same_place (all_rows c.args.model.now) c.args.number c.row_at-row.result r c.row_at-row.ensures.place at) (c.look_row-found.ensures.none ok)

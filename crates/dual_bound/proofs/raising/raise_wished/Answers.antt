@@ -1,6 +1,6 @@
 use Rattle.std.proofs.Common.{arith}
 use Rattle.dual_bound.proofs.Raises.{raises_more}
-use Rattle.dual_bound.proofs.raising.raise_kept.Goals as goal
+use Rattle.dual_bound.proofs.raising.raise_wished.Goals as goal
 
 pub loop-made-preserved : goal.loop-made-preserved
 loop-made-preserved c =

@@ -1,7 +1,7 @@
 use Rattle.std.proofs.Common.{◌≡◌, ◌+◌, length, IfSome}
 use Rattle.dual_bound.specs.Costs.{Priced}
 use Rattle.dual_bound.specs.Raising.{Raises}
-use Rattle.dual_bound.proofs.raising.raise_kept.Given as goal
+use Rattle.dual_bound.proofs.raising.raise_wished.Given as goal
 
 abbrev pub invariant-loop-made : goal.invariant-loop-made
 invariant-loop-made l = record {

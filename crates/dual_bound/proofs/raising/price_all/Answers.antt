@@ -3,7 +3,7 @@ use Rattle.zero_one_rows.specs.declared.program.Row.{Row}
 use Rattle.proof_trees.specs.Multipliers.{Multipliers}
 use Rattle.dual_bound.specs.Costs.{Priced}
 use Rattle.dual_bound.proofs.Multiplied.{named_here, none_here, behind_here, all_read}
-use Rattle.dual_bound.proofs.raising.price.Goals as goal
+use Rattle.dual_bound.proofs.raising.price_all.Goals as goal
 
 pub add_entry-requires-clause-row : goal.add_entry-requires-clause-row
 add_entry-requires-clause-row c = (named_here c.args.model.now c.args.m.now c.as_slice-entry-items.result.now c.loop-entry.entry-index c.entry-item.result c.requires.multipliers c.as_slice-entry-items.ensures c.loop-entry-test.true c.entry-item.is).0
