@@ -3,7 +3,7 @@ use program_ends::Work;
 use stow_data::Bytes;
 
 /// The answer to an order.
-#[derive(Debug, Drop)]
+#[derive(Drop)]
 pub enum Answer {
     /// Files to be written, and a report to be printed after them.
     Work(Work),

@@ -45,7 +45,7 @@ fn cargo_with(
             Ok(Accepted::Yes(cargo))
         }
         Err(ArrivalFault::NoMemory) => Err(NoMemory),
-        Err(fault) => Ok(Accepted::No(refused(alloc, &arrival_line(alloc, fault)?)?)),
+        Err(fault) => Ok(Accepted::No(refused(alloc, arrival_line(alloc, fault)?)?)),
     }
 }
 
@@ -60,12 +60,19 @@ fn settled(
     requires read { HasText message }
     ensures { IfOk result (IsSettled ship.now bookings.now message) }
 {
-    match cargo_with(alloc, ship, bookings, &message)? {
-        Accepted::Yes(cargo) => Ok(Accepted::Yes(ComesIn {
+    match cargo_with(alloc, ship, bookings, &message) {
+        Ok(Accepted::Yes(cargo)) => Ok(Accepted::Yes(ComesIn {
             message: Some(message),
             cargo,
         })),
-        Accepted::No(answer) => Ok(Accepted::No(answer)),
+        Ok(Accepted::No(answer)) => {
+            drop(message);
+            Ok(Accepted::No(answer))
+        }
+        Err(no) => {
+            drop(message);
+            Err(no)
+        }
     }
 }
 
@@ -77,7 +84,7 @@ fn bay_plan_of(alloc: Global, bytes: &[u8]) -> Result<Accepted<Message>, NoMemor
     match read_baplie(alloc, bytes) {
         Ok(message) => Ok(Accepted::Yes(message)),
         Err(BaplieFault::NoMemory) => Err(NoMemory),
-        Err(fault) => Ok(Accepted::No(refused(alloc, &file_line(alloc, fault)?)?)),
+        Err(fault) => Ok(Accepted::No(refused(alloc, file_line(alloc, fault)?)?)),
     }
 }
 

@@ -66,7 +66,9 @@ fn ship_under<'a, F: Folder>(
     ensures failed { IfErr result (IsStop (Rose (F.faults folder.old) (F.faults folder.new)) (λ n. n ≡ name.now)) }
 {
     let text = read(folder, name)?;
-    match ship_of(alloc, text.as_slice()) {
+    let ship = ship_of(alloc, text.as_slice());
+    drop(text);
+    match ship {
         Ok(ship) => Ok(ship),
         Err(NoMemory) => Err(ReadStop::NoMemory),
     }
@@ -85,7 +87,9 @@ fn bookings_under<'a, F: Folder>(
     ensures failed { IfErr result (IsStop (Rose (F.faults folder.old) (F.faults folder.new)) (λ n. n ≡ name.now)) }
 {
     let text = read(folder, name)?;
-    match booked_of(alloc, text.as_slice()) {
+    let bookings = booked_of(alloc, text.as_slice());
+    drop(text);
+    match bookings {
         Ok(bookings) => Ok(bookings),
         Err(NoMemory) => Err(ReadStop::NoMemory),
     }
@@ -107,7 +111,9 @@ fn read_arrival<'a, F: Folder>(
     ensures failed { IfErr result (IsStop (Rose (F.faults folder.old) (F.faults folder.new)) (λ n. n ≡ name.now)) }
 {
     let text = read(folder, name)?;
-    match arrived(alloc, ship, bookings, text.as_slice()) {
+    let found = arrived(alloc, ship, bookings, text.as_slice());
+    drop(text);
+    match found {
         Ok(found) => Ok(found),
         Err(NoMemory) => Err(ReadStop::NoMemory),
     }
@@ -153,14 +159,21 @@ fn voyage_of<'a, F: Folder>(
     ensures failed { IfErr result (IsStop (Rose (F.faults folder.old) (F.faults folder.new)) (λ n. option_map (λ name. name.now) arrival.entry ≡ Some n)) }
 {
     ship.obeys_rules();
-    match comes_in(alloc, arrival, &ship, &bookings, folder)? {
-        Accepted::Yes(come) => Ok(Found::Voyage(BookedVoyage {
+    match comes_in(alloc, arrival, &ship, &bookings, folder) {
+        Ok(Accepted::Yes(come)) => Ok(Found::Voyage(BookedVoyage {
             ship,
             bookings,
             message: come.message,
             cargo: come.cargo,
         })),
-        Accepted::No(answer) => Ok(Found::Refused(answer)),
+        Ok(Accepted::No(answer)) => {
+            drop((ship, bookings));
+            Ok(Found::Refused(answer))
+        }
+        Err(stop) => {
+            drop((ship, bookings));
+            Err(stop)
+        }
     }
 }
 
@@ -182,9 +195,16 @@ pub fn read_inputs<'a, F: Folder>(
         Accepted::Yes(ship) => ship,
         Accepted::No(answer) => return Ok(Found::Refused(answer)),
     };
-    match bookings_under(alloc, inputs.bookings, folder)? {
-        Accepted::Yes(bookings) => voyage_of(alloc, inputs.arrival, ship, bookings, folder),
-        Accepted::No(answer) => Ok(Found::Refused(answer)),
+    match bookings_under(alloc, inputs.bookings, folder) {
+        Ok(Accepted::Yes(bookings)) => voyage_of(alloc, inputs.arrival, ship, bookings, folder),
+        Ok(Accepted::No(answer)) => {
+            drop(ship);
+            Ok(Found::Refused(answer))
+        }
+        Err(stop) => {
+            drop(ship);
+            Err(stop)
+        }
     }
 }
 
@@ -202,7 +222,7 @@ fn ship_of(alloc: Global, bytes: &[u8]) -> Result<Accepted<Ship>, NoMemory>
     match read_profile(alloc, bytes) {
         Ok(ship) => Ok(Accepted::Yes(ship)),
         Err(ProfileFault::NoMemory) => Err(NoMemory),
-        Err(fault) => Ok(Accepted::No(refused(alloc, &profile_line(alloc, fault)?)?)),
+        Err(fault) => Ok(Accepted::No(refused(alloc, profile_line(alloc, fault)?)?)),
     }
 }
 
@@ -214,6 +234,6 @@ fn booked_of(alloc: Global, bytes: &[u8]) -> Result<Accepted<Bookings>, NoMemory
     match read_bookings(alloc, bytes) {
         Ok(bookings) => Ok(Accepted::Yes(bookings)),
         Err(BookingFault::NoMemory) => Err(NoMemory),
-        Err(fault) => Ok(Accepted::No(refused(alloc, &booking_line(alloc, fault)?)?)),
+        Err(fault) => Ok(Accepted::No(refused(alloc, booking_line(alloc, fault)?)?)),
     }
 }

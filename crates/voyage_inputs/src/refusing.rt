@@ -8,11 +8,14 @@ use stow_data::NoMemory;
 use stow_report::{Group, Line, refusal};
 
 /// The answer to an input that is refused with this line.
-pub fn refused(alloc: Global, line: &Line) -> Result<Answer, NoMemory>
-    ensures { IfOk result (λ a. a ≡ refused line.now) }
+pub fn refused(alloc: Global, line: Line) -> Result<Answer, NoMemory>
+    ensures { IfOk result (λ a. a ≡ refused line) }
 {
-    let text = refusal(alloc, line)?;
-    match line.group {
+    let group = line.group;
+    let text = refusal(alloc, &line);
+    drop(line);
+    let text = text?;
+    match group {
         Group::Large => Ok(Answer::Large(text)),
         _ => Ok(Answer::Input(text)),
     }
