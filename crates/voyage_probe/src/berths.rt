@@ -136,6 +136,20 @@ fn steps_and_say(
     Ok(())
 }
 
+/// Does the moves of a text, and prints what each is answered, and what then is unfinished.
+fn say_moves_at(
+    ship: &Ship,
+    cargo: &Cargo,
+    berth: &mut Berth,
+    moves: &str,
+    out: &mut Bytes,
+) -> Result<(), Stop>
+    requires { BelongsTo ship.now cargo.now berth.old.state }
+{
+    steps_and_say(ship, cargo, berth, moves, out)?;
+    Ok(say_unfinished(out, berth.unfinished())?)
+}
+
 /// Does the moves of a text at a call that begins with this plan, and prints what each is answered, and what then is unfinished.
 pub fn say_moves(
     alloc: Global,
@@ -147,11 +161,11 @@ pub fn say_moves(
     out: &mut Bytes,
 ) -> Result<(), Stop> {
     if !is_sound(ship, cargo, &plan) {
-        say(out, "not well formed\n")?;
-        return Ok(());
+        drop(plan);
+        return Ok(say(out, "not well formed\n")?);
     }
     let mut berth = Berth::arrive(alloc, ship, cargo, plan, call)?;
-    steps_and_say(ship, cargo, &mut berth, moves, out)?;
-    say_unfinished(out, berth.unfinished())?;
-    Ok(())
+    let said = say_moves_at(ship, cargo, &mut berth, moves, out);
+    drop(berth);
+    said
 }

@@ -12,7 +12,7 @@ use plan_checker::{PlanNo, check_plan};
 use plan_files::departure_text;
 use shown_plans::{FileNo, plan_of_message};
 use std::alloc::Global;
-use stow_data::{Bytes, CallNo, Cargo, ContainerNo, NoMemory, Plan, PlanList, Seq, Word};
+use stow_data::{Bytes, CallNo, Cargo, ContainerNo, NoMemory, Plan, PlanList, Seq, Ship, Word};
 use stow_io::{Folder, MOST_READ, SureFolder};
 use stow_report::file_line;
 use voyage_inputs::BookedVoyage;
@@ -40,13 +40,24 @@ pub fn settle_often(
 ) -> Result<(), Stop>
     requires { IsBooked v.now }
 {
-    let Some(message) = message_of(alloc, bytes, out)? else {
-        return Ok(());
-    };
-    for _ in 0..times {
-        let _again = settle(alloc, &v.ship, &v.bookings, Some(&message));
+    match message_of(alloc, bytes, out)? {
+        Some(message) => {
+            settle_with(alloc, v, &message, times);
+            drop(message);
+            Ok(())
+        }
+        None => Ok(()),
     }
-    Ok(())
+}
+
+/// Settles the cargo so many times with this bay plan.
+fn settle_with(alloc: Global, v: &BookedVoyage, message: &Message, times: u32)
+    requires booked { IsBooked v.now }
+    requires read { AreRead message.now.groups }
+{
+    for _ in 0..times {
+        drop(settle(alloc, &v.ship, &v.bookings, Some(message)));
+    }
 }
 
 /// Prints the containers of a cargo in their order, each with its id and the calls at which it loads and leaves.
@@ -133,10 +144,18 @@ fn message_of(alloc: Global, bytes: &[u8], out: &mut Bytes) -> Result<Option<Mes
         Ok(message) => Ok(Some(message)),
         Err(BaplieFault::NoMemory) => Err(Stop::NoMemory),
         Err(fault) => {
-            say_line(alloc, out, &file_line(alloc, fault)?)?;
+            say_fault_of(alloc, fault, out)?;
             Ok(None)
         }
     }
+}
+
+/// Prints the line of the fault of a text that is no message.
+fn say_fault_of(alloc: Global, fault: BaplieFault, out: &mut Bytes) -> Result<(), NoMemory> {
+    let line = file_line(alloc, fault)?;
+    let said = say_line(alloc, out, &line);
+    drop(line);
+    said
 }
 
 /// Prints the plan that a text shows at a call, or why it shows none.
@@ -147,18 +166,41 @@ pub fn say_shown(
     bytes: &[u8],
     out: &mut Bytes,
 ) -> Result<(), Stop> {
-    let Some(message) = message_of(alloc, bytes, out)? else {
-        return Ok(());
-    };
-    match plan_of_message(alloc, &v.ship, &v.cargo, &message, call) {
-        Ok(plan) => {
-            say_call(out, "shown at", call)?;
-            say_plan(out, &v.ship, &plan)?;
+    match message_of(alloc, bytes, out)? {
+        Some(message) => {
+            let said = say_message(alloc, v, call, &message, out);
+            drop(message);
+            Ok(said?)
         }
-        Err(FileNo::NoMemory) => return Err(Stop::NoMemory),
-        Err(no) => say_plan_no(alloc, out, PlanNo::File { call, no })?,
+        None => Ok(()),
     }
-    Ok(())
+}
+
+/// Prints the plan that a message shows at a call, or why it shows none.
+fn say_message(
+    alloc: Global,
+    v: &BookedVoyage,
+    call: CallNo,
+    message: &Message,
+    out: &mut Bytes,
+) -> Result<(), NoMemory>
+    requires { length message.now.groups ≤ 2 ^ 29 }
+{
+    match plan_of_message(alloc, &v.ship, &v.cargo, message, call) {
+        Ok(plan) => {
+            let said = say_plan_at(out, &v.ship, call, &plan);
+            drop(plan);
+            said
+        }
+        Err(FileNo::NoMemory) => Err(NoMemory),
+        Err(no) => say_plan_no(alloc, out, PlanNo::File { call, no }),
+    }
+}
+
+/// Prints the plan that is shown at a call.
+fn say_plan_at(out: &mut Bytes, ship: &Ship, call: CallNo, plan: &Plan) -> Result<(), NoMemory> {
+    say_call(out, "shown at", call)?;
+    say_plan(out, ship, plan)
 }
 
 /// Prints the plan that the departure file of a departure shows.
@@ -204,6 +246,29 @@ fn add_message(messages: &mut MessageList, message: Message) -> Result<(), NoMem
     messages.push(message)
 }
 
+/// Appends the message of a file; false where its text is none, whose fault is printed.
+fn add_named(
+    alloc: Global,
+    files: &mut SureFolder,
+    name: &str,
+    messages: &mut MessageList,
+    out: &mut Bytes,
+) -> Result<bool, Stop>
+    requires { All (λ m. length m.groups ≤ 2 ^ 29) messages.old }
+    ensures { All (λ m. length m.groups ≤ 2 ^ 29) messages.new }
+{
+    let text = files.read(name)?;
+    let read = message_of(alloc, text.as_slice(), out);
+    drop(text);
+    match read? {
+        Some(message) => {
+            add_message(messages, message)?;
+            Ok(true)
+        }
+        None => Ok(false),
+    }
+}
+
 /// Appends the messages of the files of these names; false where a text is none, whose fault is printed.
 fn add_messages(
     alloc: Global,
@@ -218,11 +283,9 @@ fn add_messages(
     let Some((name, others)) = names.split_first() else {
         return Ok(true);
     };
-    let text = files.read(name.as_str())?;
-    let Some(message) = message_of(alloc, text.as_slice(), out)? else {
+    if !add_named(alloc, files, name.as_str(), messages, out)? {
         return Ok(false);
-    };
-    add_message(messages, message)?;
+    }
     add_messages(alloc, files, others, messages, out)
 }
 
@@ -237,20 +300,32 @@ pub fn say_check(
     requires { IsBooked v.now }
 {
     let mut messages = MessageList::new(alloc);
-    if !add_messages(alloc, files, names, &mut messages, out)? {
-        return Ok(());
-    }
-    if messages.len() >= 12 {
-        return Err(Stop::Unclear);
-    }
-    if messages.len() + 1 != v.cargo.calls() as usize {
+    let said = match add_messages(alloc, files, names, &mut messages, out) {
+        Ok(true) => say_checked(alloc, v, messages.as_slice(), out),
+        Ok(false) => Ok(()),
+        Err(stop) => Err(stop),
+    };
+    drop(messages);
+    said
+}
+
+/// Prints the rehandles of the departures that messages show, of which the first is that of call 1, or why they are refused.
+fn say_checked(
+    alloc: Global,
+    v: &BookedVoyage,
+    messages: &[Message],
+    out: &mut Bytes,
+) -> Result<(), Stop>
+    requires booked { IsBooked v.now }
+    requires few { All (λ m. length m.groups ≤ 2 ^ 29) messages.now }
+{
+    if messages.len() >= 12 || messages.len() + 1 != v.cargo.calls() as usize {
         return Err(Stop::Unclear);
     }
     comes_in_stowed(v);
-    match check_plan(alloc, &v.ship, &v.cargo, messages.as_slice()) {
-        Ok(count) => say_count(out, "rehandles", count)?,
-        Err(PlanNo::NoMemory) => return Err(Stop::NoMemory),
-        Err(no) => say_plan_no(alloc, out, no)?,
+    match check_plan(alloc, &v.ship, &v.cargo, messages) {
+        Ok(count) => Ok(say_count(out, "rehandles", count)?),
+        Err(PlanNo::NoMemory) => Err(Stop::NoMemory),
+        Err(no) => Ok(say_plan_no(alloc, out, no)?),
     }
-    Ok(())
 }

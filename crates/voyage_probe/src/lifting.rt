@@ -30,7 +30,7 @@ fn lifted_of(
     ensures count { IfOk result (λ lifted. HasCount ship.now cargo.now plans.now lifted.count) }
 {
     for _ in 1..times {
-        let _again = lifts(alloc, ship, cargo, plans)?;
+        drop(lifts(alloc, ship, cargo, plans)?);
     }
     lifts(alloc, ship, cargo, plans)
 }
@@ -180,8 +180,33 @@ fn is_same(ship: &Ship, a: &Plan, b: &Plan) -> bool {
     true
 }
 
-/// Does the moves of a call at its berth, prints them, what is unfinished and whether the departure is the one that is given;
+/// Does the moves of a call at a berth, prints them, what is unfinished and whether the departure is the one that is given;
 /// Ok has the rehandles.
+fn sail_at(
+    ship: &Ship,
+    cargo: &Cargo,
+    call: CallNo,
+    berth: &mut Berth,
+    moves: &MoveList,
+    after: &Plan,
+    out: &mut Bytes,
+) -> Result<u64, NoMemory>
+    requires { BelongsTo ship.now cargo.now berth.old.state }
+{
+    let rehandles = sail_moves(ship, cargo, call, berth, moves, out)?;
+    say(
+        out,
+        if is_same(ship, berth.plan(), after) {
+            ", departed, "
+        } else {
+            ", astray, "
+        },
+    )?;
+    say_unfinished(out, berth.unfinished())?;
+    Ok(rehandles)
+}
+
+/// The same at a berth where the call begins with this plan.
 fn sail_call(
     alloc: Global,
     v: &BookedVoyage,
@@ -196,18 +221,11 @@ fn sail_call(
         say(out, " not well formed\n")?;
         return Ok(0);
     }
-    let mut berth = Berth::arrive(alloc, &v.ship, &v.cargo, before.copy(alloc)?, call)?;
-    let rehandles = sail_moves(&v.ship, &v.cargo, call, &mut berth, moves, out)?;
-    say(
-        out,
-        if is_same(&v.ship, berth.plan(), after) {
-            ", departed, "
-        } else {
-            ", astray, "
-        },
-    )?;
-    say_unfinished(out, berth.unfinished())?;
-    Ok(rehandles)
+    let plan = before.copy(alloc)?;
+    let mut berth = Berth::arrive(alloc, &v.ship, &v.cargo, plan, call)?;
+    let sailed = sail_at(&v.ship, &v.cargo, call, &mut berth, moves, after, out);
+    drop(berth);
+    sailed
 }
 
 /// Does the moves of each call at its berth, beginning with this plan.

@@ -5,7 +5,7 @@ use crate::questions::{Asked, answer};
 use crate::stop::Stop;
 use std::alloc::Global;
 use std::str;
-use stow_data::{Bytes, Word, WordList};
+use stow_data::{Bytes, NoMemory, Word, WordList};
 use stow_io::{Folder, Sink, SureFolder};
 
 /// What the lines have told so far.
@@ -18,18 +18,45 @@ struct Told {
     asked: Asked,
 }
 
-fn nothing(alloc: Global) -> Result<Told, Stop> {
+/// A voyage of these files on which the ship comes in empty, the loader's departures, and each call once.
+fn asked_of(alloc: Global, profile: &str, bookings: &str) -> Result<Asked, NoMemory> {
+    let profile = Word::of(alloc, profile)?;
+    match Word::of(alloc, bookings) {
+        Ok(bookings) => Ok(Asked {
+            profile,
+            bookings,
+            arrival: None,
+            departures: WordList::new(alloc),
+            times: 1,
+        }),
+        Err(no) => {
+            drop(profile);
+            Err(no)
+        }
+    }
+}
+
+/// The same where the ship comes in with the bay plan of this name.
+fn asked_with(alloc: Global, asked: Asked, arrival: &str) -> Result<Asked, NoMemory> {
+    match Word::of(alloc, arrival) {
+        Ok(name) => Ok(Asked {
+            arrival: Some(name),
+            ..asked
+        }),
+        Err(no) => {
+            drop(asked);
+            Err(no)
+        }
+    }
+}
+
+fn nothing(alloc: Global) -> Result<Told, NoMemory> {
+    let asked = asked_of(alloc, "", "")?;
     Ok(Told {
         files: SureFolder::new(alloc),
         name: None,
         text: Bytes::new(alloc),
-        asked: Asked {
-            profile: Word::of(alloc, "")?,
-            bookings: Word::of(alloc, "")?,
-            arrival: None,
-            departures: WordList::new(alloc),
-            times: 1,
-        },
+        asked,
     })
 }
 
@@ -53,16 +80,11 @@ fn voyage(alloc: Global, names: &str) -> Result<Asked, Stop> {
     let (Some(profile), Some(bookings)) = (words.next(), words.next()) else {
         return Err(Stop::Unclear);
     };
-    Ok(Asked {
-        profile: Word::of(alloc, profile)?,
-        bookings: Word::of(alloc, bookings)?,
-        arrival: match words.next() {
-            Some(name) => Some(Word::of(alloc, name)?),
-            None => None,
-        },
-        departures: WordList::new(alloc),
-        times: 1,
-    })
+    let asked = asked_of(alloc, profile, bookings)?;
+    match words.next() {
+        Some(arrival) => Ok(asked_with(alloc, asked, arrival)?),
+        None => Ok(asked),
+    }
 }
 
 /// A line outside the files; what is answered is printed.
@@ -106,6 +128,35 @@ fn follow_line<K: Sink>(
     Ok(out.put(text.as_slice())?)
 }
 
+/// Follows the lines of a text.
+fn follow_lines<K: Sink>(
+    alloc: Global,
+    told: &mut Told,
+    text: &str,
+    out: &mut K,
+) -> Result<(), Stop> {
+    for line in text.lines() {
+        follow_line(alloc, told, line, out)?;
+    }
+    Ok(())
+}
+
+/// Follows the lines of a text, from its first.
+fn follow_text<K: Sink>(alloc: Global, text: &str, out: &mut K) -> Result<(), Stop> {
+    let mut told = nothing(alloc)?;
+    let followed = follow_lines(alloc, &mut told, text, out);
+    drop(told);
+    followed
+}
+
+/// Follows the lines of a file with these bytes.
+fn follow_bytes<K: Sink>(alloc: Global, bytes: &[u8], out: &mut K) -> Result<(), Stop> {
+    match str::from_utf8(bytes) {
+        Ok(text) => follow_text(alloc, text, out),
+        Err(_) => Err(Stop::Unclear),
+    }
+}
+
 /// Answers the questions of the file of this name.
 pub fn probe<F: Folder, K: Sink>(
     alloc: Global,
@@ -114,12 +165,7 @@ pub fn probe<F: Folder, K: Sink>(
     out: &mut K,
 ) -> Result<(), Stop> {
     let bytes = folder.read(name)?;
-    let Ok(text) = str::from_utf8(bytes.as_slice()) else {
-        return Err(Stop::Unclear);
-    };
-    let mut told = nothing(alloc)?;
-    for line in text.lines() {
-        follow_line(alloc, &mut told, line, out)?;
-    }
-    Ok(())
+    let followed = follow_bytes(alloc, bytes.as_slice(), out);
+    drop(bytes);
+    followed
 }

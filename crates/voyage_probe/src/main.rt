@@ -13,28 +13,43 @@ mod stop;
 
 use lines::probe;
 use program_ends::{given_words, say_name};
+use std::alloc::Global;
 use std::process::ExitCode;
+use std::rt::Files;
 use stop::Stop;
-use stow_io::{RealFolder, RealOut};
+use stow_data::Word;
+use stow_io::{Folder, RealFolder, RealOut, Sink};
+
+/// Answers the questions of the file of this name, and tells the status.
+fn status_of<F: Folder, K: Sink>(alloc: Global, name: &str, folder: &mut F, out: &mut K) -> u8 {
+    match probe(alloc, name, folder, out) {
+        Ok(()) => 0,
+        Err(Stop::Unclear) => {
+            say_name(out, b"unclear ", name);
+            6
+        }
+        Err(Stop::Failed) => 7,
+        Err(Stop::NoMemory) => 8,
+    }
+}
+
+/// The status of a run on these words.
+fn run<R: Files, K: Sink>(rt: &R, alloc: Global, words: &[Word], out: &mut K) -> u8 {
+    match words {
+        [_, name] => status_of(alloc, name.as_str(), &mut RealFolder::new(rt, alloc), out),
+        _ => 2,
+    }
+}
 
 fn main(rt: HostRuntime) -> ExitCode {
     let alloc = rt.alloc();
     let mut out = RealOut::new(&rt);
-    let Ok(words) = given_words(&rt, alloc, &mut out) else {
-        return ExitCode::from(2);
-    };
-    let name = match words.as_slice() {
-        [_, name] => name.as_str(),
-        _ => return ExitCode::from(2),
-    };
-    let mut folder = RealFolder::new(&rt, alloc);
-    match probe(alloc, name, &mut folder, &mut out) {
-        Ok(()) => ExitCode::from(0),
-        Err(Stop::Unclear) => {
-            say_name(&mut out, b"unclear ", name);
-            ExitCode::from(6)
+    match given_words(&rt, alloc, &mut out) {
+        Ok(words) => {
+            let status = run(&rt, alloc, words.as_slice(), &mut out);
+            drop(words);
+            ExitCode::from(status)
         }
-        Err(Stop::Failed) => ExitCode::from(7),
-        Err(Stop::NoMemory) => ExitCode::from(8),
+        Err(_) => ExitCode::from(2),
     }
 }

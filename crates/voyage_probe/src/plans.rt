@@ -101,7 +101,7 @@ pub fn say_load(
 {
     comes_in_stowed(v);
     for _ in 1..times {
-        let _again = load(alloc, &v.ship, &v.cargo)?;
+        drop(load(alloc, &v.ship, &v.cargo)?);
     }
     match load(alloc, &v.ship, &v.cargo)? {
         None => say(out, "no plan\n"),
