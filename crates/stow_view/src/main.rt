@@ -2,18 +2,10 @@
 //! through them.
 #![tactic(auto)]
 
-mod ending;
-mod naming;
-mod reading;
-mod status;
-mod top;
-mod work;
-
+use picture_files::{Status, view};
 use program_ends::{NoWords, given_words};
-use status::Status;
 use std::process::ExitCode;
 use stow_io::{RealFolder, RealOut};
-use top::view;
 
 fn main(rt: HostRuntime) -> ExitCode {
     let alloc = rt.alloc();
@@ -21,13 +13,12 @@ fn main(rt: HostRuntime) -> ExitCode {
     let status = match given_words(&rt, alloc, &mut out) {
         Ok(words) => {
             let mut folder = RealFolder::new(&rt, alloc);
-            view(alloc, &words, &mut folder, &mut out)
+            let status = view(alloc, &words, &mut folder, &mut out);
+            drop(words);
+            status
         }
         Err(NoWords::NoMemory) => Status::Memory,
         Err(NoWords::NotText) => Status::Words,
     };
     ExitCode::from(status as u8)
 }
-
-#[cfg(test)]
-mod tests;

@@ -1,7 +1,7 @@
 //! The writes and the report, with the status.
 ghost use Rattle.std.specs.Prelude.{◌≤◌};
 ghost use Rattle.program_ends.specs.Outside.{outside};
-ghost use Rattle.stow_view.specs.Ends.{Completes};
+ghost use Rattle.picture_files.specs.Ends.{Completes};
 
 use crate::status::Status;
 use program_ends::{Ended, Work, finish};

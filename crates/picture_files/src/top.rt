@@ -2,7 +2,7 @@
 ghost use Rattle.std.specs.Prelude.{◌≡◌, ◌≤◌};
 ghost use Rattle.stow_io.specs.Causes.{Rose};
 ghost use Rattle.program_ends.specs.Outside.{outside};
-ghost use Rattle.stow_view.specs.Ends.{IsRun, IsAnswer};
+ghost use Rattle.picture_files.specs.Ends.{IsRun, IsAnswer};
 
 use crate::ending::complete;
 use crate::naming::{are_together, names_in};
@@ -24,7 +24,9 @@ fn answer<'a, F: Folder>(alloc: Global, folder: &mut F, names: &'a [Word]) -> Re
         Ok(views) => views,
         Err(stop) => return Err(stop),
     };
-    match work_of(alloc, &views) {
+    let work = work_of(alloc, &views);
+    drop(views);
+    match work {
         Ok(work) => Ok(work),
         Err(NoMemory) => Err(Stop::NoMemory),
     }
@@ -51,7 +53,11 @@ pub fn view<F: Folder, K: Sink>(
         return Status::Words;
     }
     match answer(alloc, folder, names) {
-        Ok(work) => complete(&work, folder, out),
+        Ok(work) => {
+            let status = complete(&work, folder, out);
+            drop(work);
+            status
+        }
         Err(Stop::Refused(line)) => {
             say(out, line.as_slice());
             Status::Input

@@ -2,9 +2,9 @@
 use Rattle.std.proofs.Common.{◌≡◌, ℕ, ◌+◌, ◌<◌, ◌≤◌, List, [], ◌∷◌, ◌++◌, length, get_or, take, map, refl, ap, sym, ◌∙◌, arith}
 use Rattle.std.proofs.lemmas.Bool.Decides.{nat_tests}
 use Rattle.std.proofs.lemmas.List.{append-nil, map-append, map_more}
-use Rattle.stow_view.specs.declared.reading.View.{View}
+use Rattle.picture_files.specs.declared.reading.View.{View}
 use Rattle.program_ends.specs.declared.files.NamedFile.{NamedFile}
-use Rattle.stow_view.specs.Work.{file_of, pages_for, HasPages}
+use Rattle.picture_files.specs.Work.{file_of, pages_for, HasPages}
 
 pub files_more : (ports : List (List ℕ)) (views : List View) (files : List NamedFile) (file : NamedFile) (i : ℕ) (v : View) → i < length views → v ≡ get_or views i v → file ≡ file_of ports v → files ≡ map (file_of ports) (take i views) → files ++ file ∷ [] ≡ map (file_of ports) (take (i + 1) views)
 files_more ports views files file i v lt at is so =

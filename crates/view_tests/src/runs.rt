@@ -1,6 +1,5 @@
 //! Runs over folders in memory.
-use crate::status::Status;
-use crate::top::view;
+use picture_files::{Status, view};
 use std::alloc::Global;
 use std::test::Fail;
 use stow_data::{NoMemory, NumberList, Word, WordList};

@@ -1,9 +1,9 @@
 use Rattle.std.proofs.Common.{◌∙◌}
 use Rattle.std.proofs.Math.Nat.{le_trans}
 use Rattle.std.proofs.lemmas.List.Elements.{All-push}
-use Rattle.stow_view.specs.Reading.{IsViewOf}
-use Rattle.stow_view.proofs.ReadViews.{names_more}
-use Rattle.stow_view.proofs.reading.read_views.Goals as goal
+use Rattle.picture_files.specs.Reading.{IsViewOf}
+use Rattle.picture_files.proofs.ReadViews.{names_more}
+use Rattle.picture_files.proofs.reading.read_views.Goals as goal
 
 pub loop-name-preserved : goal.loop-name-preserved
 loop-name-preserved g c = record {

@@ -1,7 +1,7 @@
 //! The words of the command line, and the names of the files that are written.
 ghost use Rattle.std.specs.Prelude.{◌≡◌, ◌++◌, ◌||◌, ◌&&◌, not, nat_eq, codes, option_map, IfOk};
 ghost use Rattle.std.specs.List.{list_all, starts_with, ends_with};
-ghost use Rattle.stow_view.specs.Asked.{is_name, asked, picture_name};
+ghost use Rattle.picture_files.specs.Asked.{is_name, asked, picture_name};
 
 use std::alloc::Global;
 use stow_data::{NoMemory, Word, WordList};

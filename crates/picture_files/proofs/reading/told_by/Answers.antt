@@ -1,5 +1,5 @@
 use Rattle.stow_report.proofs.Cells.{listable}
-use Rattle.stow_view.proofs.reading.told_by.Goals as goal
+use Rattle.picture_files.proofs.reading.told_by.Goals as goal
 
 pub returns-in-Ok : goal.returns-in-Ok
 returns-in-Ok c = record {

@@ -1,7 +1,7 @@
 use Rattle.std.proofs.Common.{◌≡◌, ◌≤◌, take, map}
 use Rattle.std.specs.Prelude.{All}
-use Rattle.stow_view.specs.Reading.{IsViewOf}
-use Rattle.stow_view.proofs.reading.read_views.Given as goal
+use Rattle.picture_files.specs.Reading.{IsViewOf}
+use Rattle.picture_files.proofs.reading.read_views.Given as goal
 
 abbrev pub invariant-loop-name : goal.invariant-loop-name
 invariant-loop-name g l = record {

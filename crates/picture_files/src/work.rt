@@ -1,7 +1,7 @@
 //! What is written and printed for the bay plans.
 ghost use Rattle.std.specs.Prelude.{◌≡◌, ◌++◌, [], map, flat_map, All, IfOk, OnOk};
 ghost use Rattle.stow_report.specs.Listings.{AreListable};
-ghost use Rattle.stow_view.specs.Work.{ports_of, file_of, files_of, line_of, report_of, HasPages, IsWorkOf, AreDrawable};
+ghost use Rattle.picture_files.specs.Work.{ports_of, file_of, files_of, line_of, report_of, HasPages, IsWorkOf, AreDrawable};
 
 use crate::naming::{base_of, page_name, picture_name};
 use crate::reading::{View, ViewList};

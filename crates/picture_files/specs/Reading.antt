@@ -11,11 +11,11 @@ use Rattle.stow_report.specs.declared.lines.Line.{Line}
 use Rattle.stow_report.specs.Refusals.{refusal_text}
 use Rattle.stow_report.specs.Faults.{interchange_line, message_line}
 use Rattle.stow_report.specs.Listings.{AreListable}
-use Rattle.stow_view.specs.declared.reading.View.{View}
-use Rattle.stow_view.specs.declared.reading.Told.{Told}
-use Rattle.stow_view.specs.declared.reading.Told.TheVariants as told
-use Rattle.stow_view.specs.declared.reading.Stop.{Stop}
-use Rattle.stow_view.specs.declared.reading.Stop.TheVariants as stop
+use Rattle.picture_files.specs.declared.reading.View.{View}
+use Rattle.picture_files.specs.declared.reading.Told.{Told}
+use Rattle.picture_files.specs.declared.reading.Told.TheVariants as told
+use Rattle.picture_files.specs.declared.reading.Stop.{Stop}
+use Rattle.picture_files.specs.declared.reading.Stop.TheVariants as stop
 
 -- the bytes are those under the name, or no bytes where none stand there. Of a folder that doesn't tell they may be any
 abbrev pub IsContent : Option Files → List ℕ → List ℕ → Type 0

@@ -2,7 +2,7 @@
 ghost use Rattle.std.specs.Prelude.{◌≡◌, ◌≤◌, ◌^◌, length, map, All, Contains, IfOk, IfErr};
 ghost use Rattle.stow_io.specs.Causes.{Rose};
 ghost use Rattle.stow_report.specs.Refusals.{refusal_text};
-ghost use Rattle.stow_view.specs.Reading.{file_line, IsViewOf, TellsOf, IsStop};
+ghost use Rattle.picture_files.specs.Reading.{file_line, IsViewOf, TellsOf, IsStop};
 
 use baplie::{BaplieFault, Message, read_baplie};
 use edifact_segments::SegFault;
@@ -57,12 +57,30 @@ fn told_by(alloc: Global, bytes: &[u8]) -> Result<Told, NoMemory>
     match read_baplie(alloc, bytes) {
         Ok(message) => Ok(Told::Message(message)),
         Err(BaplieFault::NoMemory) => Err(NoMemory),
-        Err(fault) => Ok(Told::Line(refusal(alloc, &file_line(alloc, fault)?)?)),
+        Err(fault) => {
+            let line = file_line(alloc, fault)?;
+            let text = refusal(alloc, &line);
+            drop(line);
+            Ok(Told::Line(text?))
+        }
+    }
+}
+
+/// A bay plan with the name of its file.
+fn named(alloc: Global, name: &str, message: Message) -> Result<View, NoMemory>
+    ensures { IfOk result (λ v. v ≡ record { name = name.now; message = message }) }
+{
+    match Word::of(alloc, name) {
+        Ok(name) => Ok(View { name, message }),
+        Err(no) => {
+            drop(message);
+            Err(no)
+        }
     }
 }
 
 /// The bay plan of a file.
-#[tactic(auto, using(crate::proofs::ReadViews::view_of))]
+#[tactic(auto, using(crate::proofs::ReadViews::view_of, crate::proofs::ReadViews::view_name))]
 fn read_view<'a, F: Folder>(alloc: Global, folder: &mut F, name: &'a str) -> Result<View, Stop<'a>>
     ensures stays { F.files folder.new ≡ F.files folder.old }
     ensures named { IfOk result (λ v. v.name ≡ name.now) }
@@ -75,9 +93,11 @@ fn read_view<'a, F: Folder>(alloc: Global, folder: &mut F, name: &'a str) -> Res
         Err(FolderNo::Failed) => return Err(Stop::Failed(name)),
         Err(FolderNo::NoMemory) => return Err(Stop::NoMemory),
     };
-    match told_by(alloc, bytes.as_slice()) {
-        Ok(Told::Message(message)) => match Word::of(alloc, name) {
-            Ok(name) => Ok(View { name, message }),
+    let told = told_by(alloc, bytes.as_slice());
+    drop(bytes);
+    match told {
+        Ok(Told::Message(message)) => match named(alloc, name, message) {
+            Ok(view) => Ok(view),
             Err(NoMemory) => Err(Stop::NoMemory),
         },
         Ok(Told::Line(line)) => Err(Stop::Refused(line)),

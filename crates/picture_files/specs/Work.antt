@@ -3,8 +3,8 @@ use Rattle.std.specs.Prelude.{◌≡◌, ℕ, nat_lt, codes, List, [], ◌∷◌
 use Rattle.stow_report.specs.Listings.{AreListable}
 use Rattle.bay_views.specs.Ports.{with_ports}
 use Rattle.bay_views.specs.Drawings.{picture}
-use Rattle.stow_view.specs.Asked.{picture_name}
-use Rattle.stow_view.specs.declared.reading.View.{View}
+use Rattle.picture_files.specs.Asked.{picture_name}
+use Rattle.picture_files.specs.declared.reading.View.{View}
 use Rattle.program_ends.specs.declared.files.NamedFile.{NamedFile}
 use Rattle.program_ends.specs.declared.files.Work.{Work}
 

@@ -5,13 +5,13 @@ use Rattle.program_ends.specs.Ends.{Prints, fault_read, Finishes}
 use Rattle.program_ends.specs.Outside.{Outside, FolderRose}
 use Rattle.program_ends.specs.declared.ending.Ended.TheVariants as ended
 use Rattle.program_ends.specs.declared.files.Work.{Work}
-use Rattle.stow_view.specs.declared.reading.View.{View}
-use Rattle.stow_view.specs.declared.reading.Stop.{Stop}
-use Rattle.stow_view.specs.declared.status.Status.{Status}
-use Rattle.stow_view.specs.declared.status.Status.TheVariants as status
-use Rattle.stow_view.specs.Asked.{asked}
-use Rattle.stow_view.specs.Reading.{IsViewOf, IsStop, RefusesOne}
-use Rattle.stow_view.specs.Work.{IsWorkOf}
+use Rattle.picture_files.specs.declared.reading.View.{View}
+use Rattle.picture_files.specs.declared.reading.Stop.{Stop}
+use Rattle.picture_files.specs.declared.status.Status.{Status}
+use Rattle.picture_files.specs.declared.status.Status.TheVariants as status
+use Rattle.picture_files.specs.Asked.{asked}
+use Rattle.picture_files.specs.Reading.{IsViewOf, IsStop, RefusesOne}
+use Rattle.picture_files.specs.Work.{IsWorkOf}
 
 -- every file was read as a bay plan, and this is made of them
 pub record IsMade (files : Option Files) (names : List (List ℕ)) (work : Work) : Type 0 where
