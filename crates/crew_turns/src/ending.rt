@@ -1,5 +1,5 @@
 //! How a node is ended, and its halves.
-ghost use Rattle.std.specs.Prelude.{◌≡◌, IfOk, OnOk, true, ◌++◌, ◌∷◌, []};
+ghost use Rattle.std.specs.Prelude.{◌≡◌, IfOk, OnOk, Some, None, true, ◌++◌, ◌∷◌, []};
 ghost use Rattle.crew_turns.specs.Deeds.{Did, half_at, halves_at};
 ghost use Rattle.steal_pool.specs.UnderWay.{entry_at};
 
@@ -34,14 +34,64 @@ fn last_half(node: Node, ends: SharedRecord) -> Result<Node, NoMemory>
     Ok(Node { path, trail })
 }
 
+// A copy of a record, to be shared.
+fn shared(alloc: Global, ends: &Record) -> Result<SharedRecord, NoMemory>
+    ensures { IfOk result (λ shared. shared ≡ ends.now) }
+{
+    let copy = ends.copy(alloc)?;
+    SharedRecord::new(alloc, copy)
+}
+
+// Both halves of a node, which share this record and those above them.
+fn divide_by(alloc: Global, node: Node, ends: SharedRecord) -> Result<Halves, NoMemory>
+    ensures { IfOk result (λ halves. halves ≡ halves_at node ends) }
+{
+    match half(alloc, &node, &ends, false) {
+        Ok(zero) => match last_half(node, ends) {
+            Ok(one) => Ok(Halves { zero, one }),
+            Err(no) => {
+                drop(zero);
+                Err(no)
+            }
+        },
+        Err(no) => {
+            drop(node);
+            drop(ends);
+            Err(no)
+        }
+    }
+}
+
 // Both halves of a node, which share the records above them.
 fn divide(alloc: Global, node: Node, ends: &Record) -> Result<Halves, NoMemory>
     ensures { IfOk result (λ halves. halves ≡ halves_at node ends.now) }
 {
-    let ends = SharedRecord::new(alloc, ends.copy(alloc)?)?;
-    let zero = half(alloc, &node, &ends, false)?;
-    let one = last_half(node, ends)?;
-    Ok(Halves { zero, one })
+    match shared(alloc, ends) {
+        Ok(ends) => divide_by(alloc, node, ends),
+        Err(no) => {
+            drop(node);
+            Err(no)
+        }
+    }
+}
+
+// The path of a node, and both its halves.
+fn path_and_halves(alloc: Global, node: Node, ends: &Record) -> Result<(Path, Halves), NoMemory>
+    ensures { IfOk result (λ r. (r.0 ≡ node.path) × (r.1 ≡ halves_at node ends.now)) }
+{
+    match node.path.copy(alloc) {
+        Ok(path) => match divide(alloc, node, ends) {
+            Ok(halves) => Ok((path, halves)),
+            Err(no) => {
+                drop(path);
+                Err(no)
+            }
+        },
+        Err(no) => {
+            drop(node);
+            Err(no)
+        }
+    }
 }
 
 impl Deeds {
@@ -55,15 +105,51 @@ impl Deeds {
         })
     }
 
-    // Keeps the record that divided a node, and gives its halves.
-    fn branch(&mut self, alloc: Global, node: Node, ends: Record) -> Result<Halves, NoMemory>
-        ensures kept { OnOk result (self.new ≡ record self.old { journal = self.old.journal ++ entry_at node ends ∷ [] }) }
-        ensures halves { IfOk result (λ halves. halves ≡ halves_at node ends) }
+    // Keeps the record that closed a node, which has no halves.
+    fn close(&mut self, node: Node, ends: Record) -> Result<Option<Halves>, NoMemory>
+        ensures { IfOk result (λ halves. (self.new ≡ record self.old { journal = self.old.journal ++ entry_at node ends ∷ [] }) × (halves ≡ None)) }
     {
-        let path = node.path.copy(alloc)?;
-        let halves = divide(alloc, node, &ends)?;
+        let Node { path, trail } = node;
+        drop(trail);
         self.keep(path, ends)?;
-        Ok(halves)
+        Ok(None)
+    }
+
+    // Keeps the record of a full box, and the solution.
+    fn solve(
+        &mut self,
+        node: Node,
+        entry: Record,
+        found: Solution,
+    ) -> Result<Option<Halves>, NoMemory>
+        ensures { IfOk result (λ halves. (self.new ≡ record self.old { journal = self.old.journal ++ entry_at node entry ∷ []; best = Some found }) × (halves ≡ None)) }
+    {
+        self.best = Some(found);
+        self.close(node, entry)
+    }
+
+    // Keeps the record that divided a node, and gives its halves.
+    fn branch(
+        &mut self,
+        alloc: Global,
+        node: Node,
+        ends: Record,
+    ) -> Result<Option<Halves>, NoMemory>
+        ensures { IfOk result (λ halves. (self.new ≡ record self.old { journal = self.old.journal ++ entry_at node ends ∷ [] }) × (halves ≡ Some (halves_at node ends))) }
+    {
+        match path_and_halves(alloc, node, &ends) {
+            Ok((path, halves)) => match self.keep(path, ends) {
+                Ok(()) => Ok(Some(halves)),
+                Err(no) => {
+                    drop(halves);
+                    Err(no)
+                }
+            },
+            Err(no) => {
+                drop(ends);
+                Err(no)
+            }
+        }
     }
 
     /// Ends a node, and gives its halves where it was divided.
@@ -76,17 +162,13 @@ impl Deeds {
         ensures { IfOk result (λ halves. Did ended node halves self.old self.new) }
     {
         match ended {
-            Worked::Closed(ends) => {
-                self.keep(node.path, ends)?;
-                Ok(None)
+            Worked::Closed(ends) => self.close(node, ends),
+            Worked::Branched(ends) => self.branch(alloc, node, ends),
+            Worked::Full { entry, full, cost } => self.solve(node, entry, Solution { full, cost }),
+            Worked::NoMemory => {
+                drop(node);
+                Err(NoMemory)
             }
-            Worked::Branched(ends) => Ok(Some(self.branch(alloc, node, ends)?)),
-            Worked::Full { entry, full, cost } => {
-                self.keep(node.path, entry)?;
-                self.best = Some(Solution { full, cost });
-                Ok(None)
-            }
-            Worked::NoMemory => Err(NoMemory),
         }
     }
 }

@@ -1,6 +1,6 @@
 use Rattle.std.proofs.Common.{◌≡◌}
 use Rattle.crew_turns.specs.Jobs.{IsServed}
-use Rattle.crew_turns.proofs.serving.serve.Given as goal
+use Rattle.crew_turns.proofs.serving.take_turns.Given as goal
 
 abbrev pub invariant-loop : goal.invariant-loop
 invariant-loop g l =
