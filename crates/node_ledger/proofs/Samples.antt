@@ -21,11 +21,23 @@ whole_as : (journals others : List (List Entry)) (left paths : List Path) → jo
 whole_as journals others left paths js ps w =
     (zero_for_all, subst (λ (l : List (List Entry)). AreWhole zero_for_all l left) (sym js) (subst (λ (l : List Path). AreWhole zero_for_all others l) (sym ps) w))
 
-pub single : {A : Type 0} (xs : List A) (a b : A) → xs ≡ a ∷ [] → a ≡ b → xs ≡ b ∷ []
-single xs a b is same = cc
+pub begun : {A : Type 0} (xs ys : List A) (a : A) → xs ≡ [] → ys ≡ xs ++ a ∷ [] → ys ≡ a ∷ []
+begun xs ys a none more = more ∙ ap (λ (l : List _). l ++ a ∷ []) none
 
-pub pair : {A : Type 0} (xs : List A) (a b c d : A) → xs ≡ a ∷ b ∷ [] → a ≡ c → b ≡ d → xs ≡ c ∷ d ∷ []
-pair xs a b c d is same other = cc
+pub went_on : {A : Type 0} (xs ys : List A) (a b : A) → xs ≡ a ∷ [] → ys ≡ xs ++ b ∷ [] → ys ≡ a ∷ b ∷ []
+went_on xs ys a b one more = more ∙ ap (λ (l : List _). l ++ b ∷ []) one
+
+pub one_of : {A : Type 0} (x y : A) → x ≡ y → x ∷ [] ≡ y ∷ []
+one_of x y same = cc
+
+pub two_of : {A : Type 0} (x y z w : A) → x ≡ y → z ≡ w → x ∷ z ∷ [] ≡ y ∷ w ∷ []
+two_of x y z w same other = cc
+
+pub whole_of : (journals others : List (List Entry)) (left : List Path) → journals ≡ others → SomeWhole others left → SomeWhole journals left
+whole_of journals others left js w = (w.0, subst (λ (l : List (List Entry)). AreWhole w.0 l left) (sym js) w.1)
+
+pub whole_left : (journals : List (List Entry)) (left paths : List Path) → left ≡ paths → SomeWhole journals paths → SomeWhole journals left
+whole_left journals left paths ps w = (w.0, subst (λ (l : List Path). AreWhole w.0 journals l) (sym ps) w.1)
 
 no_halves : (h : Path → ℕ) (e : Entry) → e.record_of.end ≡ Leaf → halves h (placed zero_for_all e) ≡ 0
 no_halves h e is = ap (λ (x : End). cond (branches (end_of zero_for_all x)) (h (e.path ++ true ∷ []) + h (e.path ++ false ∷ [])) 0) is

@@ -52,9 +52,8 @@ pub fn sort_nodes(nodes: &mut Vec<Entry>)
 fn add_journal(nodes: &mut Vec<Entry>, journal: Journal) -> Result<(), NoMemory>
     ensures { OnOk result (nodes.new.items ≡ nodes.old.items ++ journal) }
 {
-    for entry in journal.into_items() {
-        nodes.push(entry)?;
-    }
+    let mut entries = journal.into_items();
+    nodes.append(&mut entries)?;
     Ok(())
 }
 
