@@ -62,6 +62,42 @@ fn write_step(
     out.extend(b"\n")
 }
 
+/// A lift of a place by itself, at the beginning of a call.
+fn write_alone(
+    alloc: Global,
+    ship: &Ship,
+    cargo: &Cargo,
+    call: CallNo,
+    before: &Plan,
+    p: PlaceNo,
+    out: &mut Bytes,
+) -> Result<(), NoMemory>
+    requires { IsWellFormed ship.now cargo.now before.now }
+{
+    out.extend(b"alone ")?;
+    let plan = before.copy(alloc)?;
+    let mut berth = Berth::arrive(alloc, ship, cargo, plan, call)?;
+    let written = write_step(ship, cargo, &mut berth, &Move::Lift(p), out);
+    drop(berth);
+    written
+}
+
+/// Moves at a berth, and whether all is finished behind them.
+fn write_moves(
+    ship: &Ship,
+    cargo: &Cargo,
+    berth: &mut Berth,
+    moves: &MoveList,
+    out: &mut Bytes,
+) -> Result<(), NoMemory>
+    requires { BelongsTo ship.now cargo.now berth.old.state }
+{
+    for m in moves.as_slice() {
+        write_step(ship, cargo, berth, m, out)?;
+    }
+    write_unfinished(berth, out)
+}
+
 /// The moves of a call, after a lift of each place by itself is tried.
 fn write_call(
     alloc: Global,
@@ -76,16 +112,13 @@ fn write_call(
 {
     write_count(out, b"call", u64::from(call.0))?;
     for p in 0..ship.places() {
-        let lift = Move::Lift(PlaceNo(p));
-        let mut berth = Berth::arrive(alloc, ship, cargo, before.copy(alloc)?, call)?;
-        out.extend(b"alone ")?;
-        write_step(ship, cargo, &mut berth, &lift, out)?;
+        write_alone(alloc, ship, cargo, call, before, PlaceNo(p), out)?;
     }
-    let mut berth = Berth::arrive(alloc, ship, cargo, before.copy(alloc)?, call)?;
-    for m in moves.as_slice() {
-        write_step(ship, cargo, &mut berth, m, out)?;
-    }
-    write_unfinished(&berth, out)
+    let plan = before.copy(alloc)?;
+    let mut berth = Berth::arrive(alloc, ship, cargo, plan, call)?;
+    let written = write_moves(ship, cargo, &mut berth, moves, out);
+    drop(berth);
+    written
 }
 
 /// The moves of a voyage, call by call.

@@ -10,7 +10,7 @@ use bookings::{Bookings, read_bookings};
 use certificate::{Tree, read_cert};
 use ship_profile::read_profile;
 use std::alloc::Global;
-use stow_data::{Bytes, Cargo, Ship};
+use stow_data::{Bytes, Cargo, Seq, Ship};
 use stow_io::Folder;
 
 /// A ship and its cargo.
@@ -75,25 +75,57 @@ fn message_of<F: Folder>(alloc: Global, folder: &mut F, name: &str) -> Option<Me
     message_in(alloc, text.as_slice())
 }
 
-fn empty(alloc: Global, ship: Ship, bookings: &Bookings) -> Option<Voyage>
+fn empty(alloc: Global, ship: &Ship, bookings: &Bookings) -> Option<Cargo>
     requires { IsBookings bookings.now }
-    ensures { IfSome result (λ v. HasArrival v.ship v.cargo) }
+    ensures { IfSome result (HasArrival ship.now) }
 {
-    match settle(alloc, &ship, bookings, None) {
-        Ok(cargo) => Some(Voyage { ship, cargo }),
+    match settle(alloc, ship, bookings, None) {
+        Ok(cargo) => Some(cargo),
         Err(_) => None,
     }
 }
 
-fn laden(alloc: Global, ship: Ship, bookings: &Bookings, message: &Message) -> Option<Voyage>
+fn laden(alloc: Global, ship: &Ship, bookings: &Bookings, message: &Message) -> Option<Cargo>
     requires rules { IsBookings bookings.now }
     requires read { AreRead message.now.groups }
-    ensures { IfSome result (λ v. HasArrival v.ship v.cargo) }
+    ensures { IfSome result (HasArrival ship.now) }
 {
-    match settle(alloc, &ship, bookings, Some(message)) {
-        Ok(cargo) => Some(Voyage { ship, cargo }),
+    match settle(alloc, ship, bookings, Some(message)) {
+        Ok(cargo) => Some(cargo),
         Err(_) => None,
     }
+}
+
+/// The cargo of bookings and, where one is named, a bay plan at arrival.
+fn booked_cargo<F: Folder>(
+    alloc: Global,
+    ship: &Ship,
+    bookings: &Bookings,
+    arrival: Option<&str>,
+    folder: &mut F,
+) -> Option<Cargo>
+    requires { IsBookings bookings.now }
+    ensures { IfSome result (HasArrival ship.now) }
+{
+    match arrival {
+        None => empty(alloc, ship, bookings),
+        Some(name) => {
+            let message = message_of(alloc, folder, name)?;
+            let cargo = laden(alloc, ship, bookings, &message);
+            drop(message);
+            cargo
+        }
+    }
+}
+
+/// The cargo of a ship's files.
+fn cargo_of<F: Folder>(alloc: Global, ship: &Ship, named: Named, folder: &mut F) -> Option<Cargo>
+    ensures { IfSome result (HasArrival ship.now) }
+{
+    let bookings = bookings_of(alloc, folder, named.bookings)?;
+    let cargo = booked_cargo(alloc, ship, &bookings, named.arrival, folder);
+    drop(bookings);
+    cargo
 }
 
 /// The voyage of profile, bookings and, where one is named, a bay plan at arrival. None where a file can't be read or is refused.
@@ -101,22 +133,29 @@ pub fn voyage_of<F: Folder>(alloc: Global, named: Named, folder: &mut F) -> Opti
     ensures { IfSome result (λ v. HasArrival v.ship v.cargo) }
 {
     let ship = ship_of(alloc, folder, named.profile)?;
-    let bookings = bookings_of(alloc, folder, named.bookings)?;
-    match named.arrival {
-        None => empty(alloc, ship, &bookings),
-        Some(name) => {
-            let message = message_of(alloc, folder, name)?;
-            laden(alloc, ship, &bookings, &message)
+    match cargo_of(alloc, &ship, named, folder) {
+        Some(cargo) => Some(Voyage { ship, cargo }),
+        None => {
+            drop(ship);
+            None
         }
     }
 }
 
 /// The records of a file in the form of a certificate. None where there is none.
-pub fn records_of<F: Folder>(alloc: Global, named: Named, folder: &mut F) -> Option<Tree> {
+fn records_of<F: Folder>(alloc: Global, named: Named, folder: &mut F) -> Option<Tree> {
     let name = named.records?;
     let text = text_of(folder, name)?;
     match read_cert(alloc, text.as_slice()) {
         Ok((_, tree)) => Some(tree),
         Err(_) => None,
+    }
+}
+
+/// The records of a file in the form of a certificate, none where there is none.
+pub fn records_in<F: Folder>(alloc: Global, named: Named, folder: &mut F) -> Tree {
+    match records_of(alloc, named, folder) {
+        Some(records) => records,
+        None => Seq::new(alloc),
     }
 }

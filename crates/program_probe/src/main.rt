@@ -14,26 +14,50 @@ mod words;
 
 use orders::write_orders;
 use program_ends::given_words;
+use std::alloc::Global;
 use std::process::ExitCode;
-use stow_data::Bytes;
-use stow_io::{RealFolder, RealOut, Sink};
+use std::rt::Files;
+use stow_data::{Bytes, Word};
+use stow_io::{Folder, RealFolder, RealOut, Sink};
+
+/// Makes the text of some orders and prints it. The status is told.
+fn put_orders<F: Folder, K: Sink>(
+    alloc: Global,
+    orders: &[Word],
+    folder: &mut F,
+    text: &mut Bytes,
+    out: &mut K,
+) -> u8 {
+    if write_orders(alloc, orders, folder, text).is_err() {
+        return 8;
+    }
+    match out.put(text.as_slice()) {
+        Ok(()) => 0,
+        Err(_) => 7,
+    }
+}
+
+/// The status of a run on these words.
+fn run<R: Files, K: Sink>(rt: &R, alloc: Global, words: &[Word], out: &mut K) -> u8 {
+    let [_, orders @ ..] = words else {
+        return 2;
+    };
+    let mut text = Bytes::new(alloc);
+    let mut folder = RealFolder::new(rt, alloc);
+    let status = put_orders(alloc, orders, &mut folder, &mut text, out);
+    drop(text);
+    status
+}
 
 fn main(rt: HostRuntime) -> ExitCode {
     let alloc = rt.alloc();
     let mut out = RealOut::new(&rt);
-    let Ok(words) = given_words(&rt, alloc, &mut out) else {
-        return ExitCode::from(2);
-    };
-    let mut folder = RealFolder::new(&rt, alloc);
-    let mut text = Bytes::new(alloc);
-    let [_, orders @ ..] = words.as_slice() else {
-        return ExitCode::from(2);
-    };
-    if write_orders(alloc, orders, &mut folder, &mut text).is_err() {
-        return ExitCode::from(8);
-    }
-    match out.put(text.as_slice()) {
-        Ok(()) => ExitCode::from(0),
-        Err(_) => ExitCode::from(7),
+    match given_words(&rt, alloc, &mut out) {
+        Ok(words) => {
+            let status = run(&rt, alloc, words.as_slice(), &mut out);
+            drop(words);
+            ExitCode::from(status)
+        }
+        Err(_) => ExitCode::from(2),
     }
 }

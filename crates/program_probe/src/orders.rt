@@ -4,12 +4,12 @@ ghost use Rattle.stowage_rules.specs.Departure.{HasArrival};
 ghost use Rattle.solution_meaning.specs.Laws.{IsProblem};
 
 use crate::bridge::{write_asked, write_loaded};
-use crate::inputs::{Named, Voyage, records_of, voyage_of};
+use crate::inputs::{Named, Voyage, records_in, voyage_of};
 use crate::program::{write_rows, write_sizes, write_steps, write_variables};
 use crate::sums::{write_sums, write_tables};
 use certificate::Tree;
 use std::alloc::Global;
-use stow_data::{Bytes, NoMemory, Seq, Word};
+use stow_data::{Bytes, NoMemory, Word};
 use stow_io::Folder;
 use zero_one_model::{Model, ModelNo};
 
@@ -91,9 +91,32 @@ fn write_built(
     v.ship.obeys_rules();
     v.cargo.obeys_rules();
     match Model::build(alloc, &v.ship, &v.cargo) {
-        Ok(model) => write_wanted(alloc, wanted, v, &model, records, out),
+        Ok(model) => {
+            let written = write_wanted(alloc, wanted, v, &model, records, out);
+            drop(model);
+            written
+        }
         Err(ModelNo::TooLarge { .. }) => out.extend(b"too large\n"),
         Err(ModelNo::NoMemory) => Err(NoMemory),
+    }
+}
+
+/// What is wanted of the voyage of some files, with some records.
+fn write_with<F: Folder>(
+    alloc: Global,
+    wanted: Wanted,
+    named: Named,
+    records: &Tree,
+    folder: &mut F,
+    out: &mut Bytes,
+) -> Result<(), NoMemory> {
+    match voyage_of(alloc, named, folder) {
+        Some(v) => {
+            let written = write_built(alloc, wanted, &v, records, out);
+            drop(v);
+            written
+        }
+        None => out.extend(b"no voyage\n"),
     }
 }
 
@@ -104,14 +127,10 @@ fn write_order<F: Folder>(
     folder: &mut F,
     out: &mut Bytes,
 ) -> Result<(), NoMemory> {
-    let records = match records_of(alloc, named, folder) {
-        Some(records) => records,
-        None => Seq::new(alloc),
-    };
-    match voyage_of(alloc, named, folder) {
-        Some(v) => write_built(alloc, wanted, &v, &records, out),
-        None => out.extend(b"no voyage\n"),
-    }
+    let records = records_in(alloc, named, folder);
+    let written = write_with(alloc, wanted, named, &records, folder, out);
+    drop(records);
+    written
 }
 
 /// What the words order, five words an order: what is wanted, profile, bookings, bay plan at arrival, records.

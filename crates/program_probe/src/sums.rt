@@ -1,5 +1,5 @@
 //! The sums of a program's rows, and the tables that a search builds once.
-ghost use Rattle.std.specs.Prelude.{◌≡◌, IfOk};
+ghost use Rattle.std.specs.Prelude.{◌≡◌, IfOk, length};
 ghost use Rattle.zero_one_rows.specs.Variables.{variables};
 
 use crate::words::write_count;
@@ -25,12 +25,35 @@ fn variables_of(alloc: Global, model: &Model) -> Result<Seq<Var>, NoMemory>
 /// How many sums the base rows share, and how many variables they hold together.
 pub fn write_sums(alloc: Global, model: &Model, out: &mut Bytes) -> Result<(), NoMemory> {
     let vars = variables_of(alloc, model)?;
-    let matrix = SumMatrix::build(alloc, model.ship(), model.cargo(), vars.as_slice())?;
+    let written = write_sums_of(alloc, model, vars.as_slice(), out);
+    drop(vars);
+    written
+}
+
+/// The same by the variables.
+fn write_sums_of(
+    alloc: Global,
+    model: &Model,
+    vars: &[Var],
+    out: &mut Bytes,
+) -> Result<(), NoMemory>
+    requires { vars.now ≡ variables model.now }
+{
+    let matrix = SumMatrix::build(alloc, model.ship(), model.cargo(), vars)?;
+    let entries = entries_of(&matrix, vars.len());
+    drop(matrix);
+    write_count(out, b"entries", entries)
+}
+
+/// How many variables the sums of a matrix hold together.
+fn entries_of(matrix: &SumMatrix, vars: usize) -> u64
+    requires { vars ≡ length (variables matrix.now.voyage) }
+{
     let mut entries: u64 = 0;
-    for v in 0..vars.len() {
+    for v in 0..vars {
         entries = entries.saturating_add(matrix.sums_of(v).len() as u64);
     }
-    write_count(out, b"entries", entries)
+    entries
 }
 
 /// Builds what a search builds once.
@@ -40,6 +63,8 @@ pub fn write_tables<'a>(
     out: &mut Bytes,
 ) -> Result<(), NoMemory> {
     let matrix = BaseMatrix::build(alloc, model)?;
-    let _rows = RowTable::build(alloc, &matrix);
-    write_count(out, b"tables of", u64::from(matrix.model().vars()))
+    drop(RowTable::build(alloc, &matrix));
+    let vars = matrix.model().vars();
+    drop(matrix);
+    write_count(out, b"tables of", u64::from(vars))
 }
