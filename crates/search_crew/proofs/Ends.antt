@@ -129,24 +129,6 @@ module _ {M : Type 0} where
           (λ h. omega (arith, w.bag h, ap (λ (q : Pass M). seed h q.number) pass, ap (put_weight (on_nodes m h)) pass, ap (took_weight (on_nodes m h)) pass, ap (λ x. weigh (on_nodes m h) x.items) aside))));
     })
 
-    -- what it brings back after its last one
-    pub returns_it : (p : Post M) (j k : Job M) (o : Back M) → j.desk ≡ m → j.pass.number ≡ p.pass.number → IsServed meets r b j k → o.pass ≡ k.pass → o.seat ≡ k.seat → o.deeds ≡ k.deeds → o.aside ≡ k.aside → IsReturned meets r b m p o
-    returns_it p j k o desk number served pass seat deeds aside =
-        let job : IsJob meets r b m 0 [] k = subst (λ (x : Voyage). IsJob meets r b x 0 [] k) desk served.job in
-        record {
-          back = record {
-            aside = subst (Every meets) (ap (λ x. x.items) (sym aside)) job.aside;
-            done = subst (λ (s : SeatToken). IsDone m b.start s.view 0 o.deeds (came_with m o.pass) (went_with m o.pass o.aside.items)) (sym seat)
-                (subst (λ (d : Deeds). IsDone m b.start k.seat.view 0 d (came_with m o.pass) (went_with m o.pass o.aside.items)) (sym deeds)
-                (rebalanced m b.start k.seat.view 0 k.deeds (came_to m k) (λ h. went_from m k h + weigh (on_nodes m h) []) (came_with m o.pass) (went_with m o.pass o.aside.items)
-                (λ h. omega (arith, ap (λ (q : Pass M). seed h q.number) pass, ap (put_weight (on_nodes m h)) pass, ap (took_weight (on_nodes m h)) pass, ap (λ x. weigh (on_nodes m h) x.items) aside))
-                job.done));
-          };
-          pass = subst (IsPassAt r) (sym pass) job.pass;
-          number = ap (λ (q : Pass M). q.number) pass ∙ (served.number ∙ number);
-          board = ap (λ (s : SeatToken). s.board) seat ∙ job.board;
-        }
-
     pub all_returned : (ps : List (Post M)) (ks : List (Back M)) → Each (IsReturned meets r b m) ps ks → Every (IsBack meets b m) ks
     all_returned [] [] back = tt
     all_returned [] (k ∷ ks) back = absurd back
@@ -176,6 +158,22 @@ module _ {M : Type 0} where
     each_length [] (k ∷ ks) back = absurd back
     each_length (p ∷ ps) [] back = absurd back
     each_length (p ∷ ps) (k ∷ ks) back = omega (arith, each_length ps ks back.1)
+
+  module _ (meets : Node → Type 0) (r : Rack M) (b : BoardToken) where
+    -- what a worker brings back after its last turn
+    pub comes_back : (j k : Job M) (o : Back M) → IsServed meets r b j k → o.pass ≡ k.pass → o.seat ≡ k.seat → o.deeds ≡ k.deeds → o.aside ≡ k.aside → IsBack meets b j.desk o × IsPassAt r o.pass × (o.pass.number ≡ j.pass.number) × (o.seat.board ≡ b.id)
+    comes_back j k o served pass seat deeds aside =
+        let m = j.desk in
+        let job : IsJob meets r b m 0 [] k = served.job in
+        let back : IsBack meets b m o = record {
+          aside = subst (Every meets) (ap (λ x. x.items) (sym aside)) job.aside;
+          done = subst (λ (s : SeatToken). IsDone m b.start s.view 0 o.deeds (came_with m o.pass) (went_with m o.pass o.aside.items)) (sym seat)
+              (subst (λ (d : Deeds). IsDone m b.start k.seat.view 0 d (came_with m o.pass) (went_with m o.pass o.aside.items)) (sym deeds)
+              (rebalanced m b.start k.seat.view 0 k.deeds (came_to m k) (λ h. went_from m k h + weigh (on_nodes m h) []) (came_with m o.pass) (went_with m o.pass o.aside.items)
+              (λ h. omega (arith, ap (λ (q : Pass M). seed h q.number) pass, ap (put_weight (on_nodes m h)) pass, ap (took_weight (on_nodes m h)) pass, ap (λ x. weigh (on_nodes m h) x.items) aside))
+              job.done));
+        } in
+        (back, subst (IsPassAt r) (sym pass) job.pass, ap (λ (q : Pass M). q.number) pass ∙ served.number, ap (λ (s : SeatToken). s.board) seat ∙ job.board)
 
   module _ (meets : Node → Type 0) (b : BoardToken) (m : Voyage) where
     -- ## What a worker brought back is taken in
@@ -255,14 +253,11 @@ module _ (m : Voyage) where
       from_min b = elim b.from [ inl e ↦ inl e | inr e ↦ inr (omega (arith, e, b.most, top)) ]
 
 module _ {M : Type 0} (meets : Node → Type 0) (b : BoardToken) (m : Voyage) where
-  -- what the caller found, once it has finished what was left
-  pub concluded : (o : SeatToken) (found : ℕ) (split w last : View) (e : Ended M) (r : Rack M) (rest todo : List Node) (d : Deeds) (a : AllDeeds) (best drawn : ℕ) → IsJoined meets b m o → AreAll r e.passes.items → 0 < length r.thieves.items → IsEnd meets b m o.view e
-      → found ≤ o.view.seen → split ≡ after_split (seen_at o.view found) → ((h : Node → ℕ) → all_put h e.passes.items ≡ all_took h e.passes.items + weigh h rest) → todo ≡ rest ++ e.aside.items → IsDone m b.start w 0 d (λ h. weigh (on_nodes m h) todo) (λ h. 0)
-      → last ≡ joined split w → deeds_of a ≡ both (deeds_of e.all) d → (best ≤ b.start) × (best ≤ last.seen) × (best ≤ last.offered) → (best ≡ b.start) ⊎ (best ≡ last.offered) → drawn ≡ length last.tickets → drawn ≤ b.budget → (0 < last.over → drawn ≡ b.budget)
-      → IsFound m b.start b.budget (found_of best drawn a)
-  concluded o found split w last e r rest todo d a best drawn i all some end le splits bag is fin joins_it deeds low from count within over =
-      let before : IsEnd meets b m split e
-      = subst (λ (x : View). IsEnd meets b m x e) (sym splits) (record { aside = end.aside; done = split_off m b.start o.view found (deeds_of e.all) (came_to_all m e.passes.items) (went_from_all m e) le end.done }) in
-      let done : IsDone m b.start last 0 (deeds_of a) (λ h. h root_node) (λ h. 0)
-      = subst (λ (x : View). IsDone m b.start x 0 (deeds_of a) (λ h. h root_node) (λ h. 0)) (sym joins_it) (all_done meets b m split w e d a r rest todo i.top all some bag is deeds before fin) in
-      ends_found m b.start b.budget best drawn last a i.top done (record { most = low.0; seen = low.1; offered = low.2; from = from }) count within over
+  -- all that was done, once the caller has finished what was left
+  pub finished : (o : SeatToken) (found : ℕ) (w last : View) (e : Ended M) (r : Rack M) (rest todo : List Node) (d : Deeds) (a : AllDeeds) → IsJoined meets b m o → AreAll r e.passes.items → 0 < length r.thieves.items → IsEnd meets b m o.view e
+      → found ≤ o.view.seen → last ≡ joined (after_split (seen_at o.view found)) w → ((h : Node → ℕ) → all_put h e.passes.items ≡ all_took h e.passes.items + weigh h rest) → todo ≡ rest ++ e.aside.items → IsDone m b.start w 0 d (λ h. weigh (on_nodes m h) todo) (λ h. 0)
+      → deeds_of a ≡ both (deeds_of e.all) d → IsDone m b.start last 0 (deeds_of a) (λ h. h root_node) (λ h. 0)
+  finished o found w last e r rest todo d a i all some end le joins_it bag is fin deeds =
+      let split : View = after_split (seen_at o.view found) in
+      let before : IsEnd meets b m split e = record { aside = end.aside; done = split_off m b.start o.view found (deeds_of e.all) (came_to_all m e.passes.items) (went_from_all m e) le end.done } in
+      subst (λ (x : View). IsDone m b.start x 0 (deeds_of a) (λ h. h root_node) (λ h. 0)) (sym joins_it) (all_done meets b m split w e d a r rest todo i.top all some bag is deeds before fin)

@@ -45,10 +45,14 @@ rest_starts m start v d todo w none nodes = record {
       (nothing_done m start v (λ h. weigh (on_nodes m h) todo) (λ h. weigh (on_nodes m h) todo) w.begun w.offered w.tickets (λ h. refl));
 }
 
+-- the same at another name of the desk and of the list
+pub rest_at : (m n : Voyage) (start : ℕ) (v : View) (all : Flow) (xs ys : List Node) (d : Deeds) → n ≡ m → xs ≡ ys → IsRest m start v 0 all xs d → IsRest n start v 0 all ys d
+rest_at m n start v all xs ys d same is r = subst (λ (x : Voyage). IsRest x start v 0 all ys d) (sym same) (subst (λ (l : List Node). IsRest m start v 0 all l d) is r)
+
 -- one step of a loop whose desk is the program's
 pub rest_next : (m n : Voyage) (start : ℕ) (v u : View) (all : Flow) (xs ys zs : List Node) (d e : Deeds) → n ≡ m → xs ≡ ys → (IsRest n start v 0 all ys d → IsRest n start u 0 all zs e) → IsRest m start v 0 all xs d → IsRest m start u 0 all zs e
 rest_next m n start v u all xs ys zs d e same is goes r =
-    subst (λ (x : Voyage). IsRest x start u 0 all zs e) same (goes (subst (λ (x : Voyage). IsRest x start v 0 all ys d) (sym same) (subst (λ (l : List Node). IsRest m start v 0 all l d) is r)))
+    subst (λ (x : Voyage). IsRest x start u 0 all zs e) same (goes (rest_at m n start v all xs ys d same is r))
 
 -- where all is done, nothing is left to do
 pub rest_ends : (m : Voyage) (start : ℕ) (v : View) (all : Flow) (todo : List Node) (d : Deeds) → todo ≡ [] → IsRest m start v 0 all todo d → IsDone m start v 0 d all (λ h. 0)

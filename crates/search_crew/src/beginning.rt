@@ -61,6 +61,28 @@ fn next_planner(
     }
 }
 
+// What the first worker begins with, and a planner.
+fn plant_and_plan<M: Wanted>(
+    alloc: Global,
+    tables: &Tables,
+    rack: &Rack<M>,
+    pass: &mut Pass<M>,
+    aside: &mut Vec<Node>,
+    given: &mut Option<Planner>,
+) -> Result<Planner, NoMemory>
+    requires pass { IsPassAt rack.now pass.old }
+    requires aside { Every M.meets aside.old.items }
+    requires root { M.meets first_node }
+    ensures pass { IsPassAt rack.now pass.new }
+    ensures number { pass.new.number ≡ pass.old.number }
+    ensures aside { OnOk result (Every M.meets aside.new.items) }
+    ensures took { (h : Node → ℕ) → took_weight h pass.new ≡ took_weight h pass.old }
+    ensures bag { OnOk result ((h : Node → ℕ) → put_weight h pass.new + weigh h aside.new.items ≡ put_weight h pass.old + weigh h aside.old.items + seed_at h pass.old.number) }
+{
+    plant(alloc, rack, pass, aside)?;
+    next_planner(alloc, tables, given)
+}
+
 // What a worker is given.
 fn begin<M: Wanted>(
     alloc: Global,
@@ -82,14 +104,47 @@ fn begin<M: Wanted>(
     let seat = board.split(owner);
     let mut pass = pass;
     let mut aside = Vec::new(alloc);
-    plant(alloc, rack, &mut pass, &mut aside)?;
-    let planner = next_planner(alloc, tables, given)?;
-    Ok(Post {
-        pass,
-        seat,
-        planner,
-        aside,
-    })
+    match plant_and_plan(alloc, tables, rack, &mut pass, &mut aside, given) {
+        Ok(planner) => Ok(Post {
+            pass,
+            seat,
+            planner,
+            aside,
+        }),
+        Err(no) => {
+            drop(pass);
+            drop(seat);
+            drop(aside);
+            Err(no)
+        }
+    }
+}
+
+// What each worker is given: the first that needs a planner takes this one.
+fn begin_each<M: Wanted>(
+    alloc: Global,
+    tables: &Tables,
+    rack: &Rack<M>,
+    board: &Board,
+    owner: &mut Owner,
+    passes: Vec<Pass<M>>,
+    given: &mut Option<Planner>,
+) -> Result<Vec<Post<M>>, NoMemory>
+    requires maker { IsMaker M.meets board.now tables.now owner.old }
+    requires room { owner.old.view.made + length passes.items ≤ 65536 }
+    requires passes { Every (IsPassAt rack.now) passes.items }
+    requires fresh { Every IsFresh passes.items }
+    ensures posts { IfOk result (λ posts. Every (IsPosted M.meets rack.now board.now tables.now) posts.items) }
+    ensures numbers { IfOk result (λ posts. map post_number posts.items ≡ map number_of passes.items) }
+    ensures maker { IsMaker M.meets board.now tables.now owner.new }
+    ensures made { OnOk result (owner.new.view.made ≡ owner.old.view.made + length passes.items) }
+{
+    let mut posts = Vec::new(alloc);
+    for pass in passes {
+        let post = begin(alloc, tables, rack, board, owner, pass, given)?;
+        posts.push(post)?;
+    }
+    Ok(posts)
 }
 
 /// What each worker is given, one for each pass: the first has this planner.
@@ -112,10 +167,7 @@ pub fn begin_all<M: Wanted>(
     ensures made { OnOk result (owner.new.view.made ≡ owner.old.view.made + length passes.items) }
 {
     let mut given = Some(planner);
-    let mut posts = Vec::new(alloc);
-    for pass in passes {
-        let post = begin(alloc, tables, rack, board, owner, pass, &mut given)?;
-        posts.push(post)?;
-    }
-    Ok(posts)
+    let posts = begin_each(alloc, tables, rack, board, owner, passes, &mut given);
+    drop(given);
+    posts
 }

@@ -1,8 +1,10 @@
 //! Workers in threads.
-ghost use Rattle.std.specs.Prelude.{◌≡◌, ℕ, ◌<◌, All, IfOk, length, map, slice_index_or};
+ghost use Rattle.std.specs.Prelude.{◌≡◌, ℕ, ◌<◌, [], All, IfOk, length, map, slice_index_or};
+ghost use Rattle.node_racks.specs.Racks.{IsPassAt};
 ghost use Rattle.node_racks.specs.Rounds.{Each};
+ghost use Rattle.crew_turns.specs.Jobs.{IsJob};
 ghost use Rattle.search_crew.specs.declared.places.Place.TheVariants.{Given, Done};
-ghost use Rattle.search_crew.specs.Ends.{IsPosted, IsReturned, IsGiven, Brings};
+ghost use Rattle.search_crew.specs.Ends.{IsPosted, IsBack, IsReturned, IsGiven, Brings};
 
 use crate::places::{Back, Place, Post};
 use crew_turns::{Deeds, Job, Signs, serve};
@@ -27,6 +29,57 @@ pub struct Ground<M: Wanted> {
     pub signs: Signs,
 }
 
+// A desk goes.
+pub fn put_away(_desk: Desk) {}
+
+// What a worker brings back, once its desk is put away.
+fn back_of<'a, M: Wanted>(job: Job<'a, M>) -> Back<M>
+    ensures pass { result.pass ≡ job.entry.pass }
+    ensures seat { result.seat ≡ job.entry.seat }
+    ensures deeds { result.deeds ≡ job.entry.deeds }
+    ensures aside { result.aside ≡ job.entry.aside }
+{
+    let Job {
+        pass,
+        seat,
+        desk,
+        turns: _,
+        deeds,
+        aside,
+    } = job;
+    put_away(desk);
+    Back {
+        pass,
+        seat,
+        deeds,
+        aside,
+    }
+}
+
+// Takes a worker's turns, on the desk that it has.
+fn serve_on<'a, M: Wanted, G: Gate, R: Wait>(
+    rt: &R,
+    alloc: Global,
+    ground: &Ground<M>,
+    gate: &G,
+    job: Job<'a, M>,
+) -> Result<Back<M>, NoMemory>
+    requires job { IsJob M.meets ground.now.rack ground.now.board job.desk 0 [] job }
+    requires none_over { job.seat.view.over ≡ 0 }
+    ensures { IfOk result (λ back. IsBack M.meets ground.now.board job.entry.desk back × IsPassAt ground.now.rack back.pass × (back.pass.number ≡ job.entry.pass.number) × (back.seat.board ≡ ground.now.board.id)) }
+{
+    let served = serve(
+        rt,
+        alloc,
+        &ground.rack,
+        &ground.board,
+        &ground.signs,
+        gate,
+        job,
+    )?;
+    Ok(back_of(served))
+}
+
 // Takes a worker's turns, on a desk of its own.
 fn take_turns<M: Wanted, G: Gate, R: Wait>(
     rt: &R,
@@ -45,38 +98,25 @@ fn take_turns<M: Wanted, G: Gate, R: Wait>(
         planner,
         aside,
     } = post;
-    let desk = Desk::fresh(alloc, tables, planner)?;
-    let job = Job {
-        pass,
-        seat,
-        desk,
-        turns: 0,
-        deeds: Deeds::none(alloc),
-        aside,
-    };
-    let served = serve(
-        rt,
-        alloc,
-        &ground.rack,
-        &ground.board,
-        &ground.signs,
-        gate,
-        job,
-    )?;
-    let Job {
-        pass,
-        seat,
-        desk: _,
-        turns: _,
-        deeds,
-        aside,
-    } = served;
-    Ok(Back {
-        pass,
-        seat,
-        deeds,
-        aside,
-    })
+    match Desk::fresh(alloc, tables, planner) {
+        Ok(desk) => {
+            let job = Job {
+                pass,
+                seat,
+                desk,
+                turns: 0,
+                deeds: Deeds::none(alloc),
+                aside,
+            };
+            serve_on(rt, alloc, ground, gate, job)
+        }
+        Err(no) => {
+            drop(pass);
+            drop(seat);
+            drop(aside);
+            Err(no)
+        }
+    }
 }
 
 // A worker takes its turns, and leaves at its place what it brings back. Where memory is wanting to it, it tells the others to stop: what it had is gone, so they might wait for nodes that nobody has.
@@ -91,11 +131,12 @@ fn man<M: Wanted, G: Gate, R: Wait>(
     requires { IsGiven M.meets ground.now.rack ground.now.board tables.now place.old }
     ensures { Brings M.meets ground.now.rack ground.now.board tables.now place.old place.new }
 {
-    let Place::Given(post) = mem::replace(place, Place::Empty) else {
-        unreachable!()
+    let post = match mem::replace(place, Place::Empty) {
+        Place::Given(post) => post,
+        Place::Done(_) | Place::Empty => unreachable!(),
     };
     match take_turns(rt, alloc, tables, ground, gate, post) {
-        Ok(back) => *place = Place::Done(back),
+        Ok(back) => drop(mem::replace(place, Place::Done(back))),
         Err(NoMemory) => ground.signs.stop(),
     }
 }
@@ -111,16 +152,27 @@ fn give_all<M: Wanted>(alloc: Global, posts: Vec<Post<M>>) -> Result<Vec<Place<M
     Ok(places)
 }
 
+// What a worker brought back, where it came back.
+fn back_at<M: Wanted>(place: Place<M>) -> Result<Back<M>, NoMemory>
+    ensures { IfOk result (λ back. place ≡ Done back) }
+{
+    match place {
+        Place::Done(back) => Ok(back),
+        Place::Given(post) => {
+            drop(post);
+            Err(NoMemory)
+        }
+        Place::Empty => Err(NoMemory),
+    }
+}
+
 // What the workers brought back, where all came back.
 fn all_back<M: Wanted>(alloc: Global, places: Vec<Place<M>>) -> Result<Vec<Back<M>>, NoMemory>
     ensures { IfOk result (λ backs. places.items ≡ map (λ back. Done back) backs.items) }
 {
     let mut backs = Vec::new(alloc);
     for place in places {
-        match place {
-            Place::Done(back) => backs.push(back)?,
-            Place::Given(_) | Place::Empty => return Err(NoMemory),
-        }
+        backs.push(back_at(place)?)?;
     }
     Ok(backs)
 }

@@ -7,6 +7,7 @@ ghost use Rattle.crew_turns.specs.Deeds.{Flow, IsDone, on_nodes};
 ghost use Rattle.search_crew.specs.Ends.{IsRest, IsLive, halves_in};
 ghost use Rattle.search_crew.specs.Starts.{IsUnused};
 
+use crate::crew::put_away;
 use crew_turns::{Deeds, Halves, handle};
 use incumbent_word::{Board, Seat};
 use node_work::{Desk, Tables};
@@ -90,6 +91,33 @@ impl Rest {
 }
 
 // Handles what is to do, until nothing is.
+fn finish_rest<R: Wait>(
+    rt: &R,
+    alloc: Global,
+    desk: &mut Desk,
+    board: &Board,
+    seat: &mut Seat,
+    rest: &mut Rest,
+) -> Result<(), NoMemory>
+    requires cargo { IsCargo desk.old.cargo }
+    requires start { board.now.start ≤ most_rehandles desk.old + 1 }
+    requires seat { seat.old.board ≡ board.now.id }
+    requires none_over { seat.old.view.over ≡ 0 }
+    requires rest { (all : Flow) × IsRest desk.old board.now.start seat.old.view 0 all rest.old.todo.items rest.old.deeds }
+    ensures seat { seat.new.board ≡ seat.old.board }
+    ensures done { OnOk result ((all : Flow) → IsRest desk.old board.now.start seat.old.view 0 all rest.old.todo.items rest.old.deeds → IsDone desk.old board.now.start seat.new.view 0 rest.new.deeds all (λ h. 0)) }
+{
+    let mut live = true;
+    for _ in rt.forever() {
+        let Some(node) = rest.todo.pop() else {
+            return Ok(());
+        };
+        live = rest.step(alloc, desk, board, seat, node, live)?;
+    }
+    unreachable!()
+}
+
+// Handles these nodes and what comes of them, until nothing is to do.
 fn finish<R: Wait>(
     rt: &R,
     alloc: Global,
@@ -110,14 +138,18 @@ fn finish<R: Wait>(
         todo,
         deeds: Deeds::none(alloc),
     };
-    let mut live = true;
-    for _ in rt.forever() {
-        let Some(node) = rest.todo.pop() else {
-            return Ok(rest.deeds);
-        };
-        live = rest.step(alloc, desk, board, seat, node, live)?;
+    match finish_rest(rt, alloc, desk, board, seat, &mut rest) {
+        Ok(()) => Ok(rest.deeds),
+        Err(no) => Err(no),
     }
-    unreachable!()
+}
+
+// A desk with a planner of its own.
+fn fresh_desk<'a>(alloc: Global, tables: &'a Tables<'a>) -> Result<Desk<'a>, NoMemory>
+    ensures { IfOk result (λ desk. desk ≡ tables.now) }
+{
+    let planner = Planner::new(alloc, tables.model())?;
+    Desk::fresh(alloc, tables, planner)
 }
 
 /// Handles these nodes, while there are tickets, and leaves the others: on a desk of its own, by a seat that has done nothing.
@@ -140,7 +172,15 @@ pub fn finish_all<R: Wait>(
     if todo.is_empty() {
         return Ok(Deeds::none(alloc));
     }
-    let planner = Planner::new(alloc, tables.model())?;
-    let mut desk = Desk::fresh(alloc, tables, planner)?;
-    finish(rt, alloc, &mut desk, board, seat, todo)
+    match fresh_desk(alloc, tables) {
+        Ok(mut desk) => {
+            let deeds = finish(rt, alloc, &mut desk, board, seat, todo);
+            put_away(desk);
+            deeds
+        }
+        Err(no) => {
+            drop(todo);
+            Err(no)
+        }
+    }
 }

@@ -48,9 +48,8 @@ fn cheaper(a: Option<Solution>, b: Option<Solution>) -> Option<Solution>
 pub fn pour(to: &mut Vec<Node>, from: Vec<Node>) -> Result<(), NoMemory>
     ensures { OnOk result (to.new.items ≡ to.old.items ++ from.items) }
 {
-    for node in from {
-        to.push(node)?;
-    }
+    let mut from = from;
+    to.append(&mut from)?;
     Ok(())
 }
 
@@ -85,11 +84,26 @@ impl AllDeeds {
             left,
             best,
         } = deeds;
+        self.best = cheaper(self.best.take(), best);
         self.journals.push(journal)?;
         pour_paths(&mut self.left, left)?;
-        self.best = cheaper(self.best.take(), best);
         Ok(())
     }
+}
+
+// Takes in a worker's pass, and the nodes that its deque refused.
+fn take_in_nodes<M: Wanted>(
+    ended: &mut Ended<M>,
+    pass: Pass<M>,
+    aside: Vec<Node>,
+) -> Result<(), NoMemory>
+    ensures passes { OnOk result (ended.new.passes.items ≡ ended.old.passes.items ++ pass ∷ []) }
+    ensures aside { OnOk result (ended.new.aside.items ≡ ended.old.aside.items ++ aside.items) }
+    ensures all { ended.new.all ≡ ended.old.all }
+{
+    ended.passes.push(pass)?;
+    pour(&mut ended.aside, aside)?;
+    Ok(())
 }
 
 // Takes in what a worker brought back, and its seat.
@@ -114,9 +128,35 @@ fn take_in<M: Wanted>(
         aside,
     } = back;
     board.join(owner, seat);
-    ended.passes.push(pass)?;
-    pour(&mut ended.aside, aside)?;
-    ended.all.add(deeds)
+    match take_in_nodes(ended, pass, aside) {
+        Ok(()) => ended.all.add(deeds),
+        Err(no) => {
+            drop(deeds);
+            Err(no)
+        }
+    }
+}
+
+// Takes in what each worker brought back, and its seat.
+fn take_in_each<M: Wanted>(
+    board: &Board,
+    owner: &mut Owner,
+    ended: &mut Ended<M>,
+    backs: Vec<Back<M>>,
+) -> Result<(), NoMemory>
+    requires owner { owner.old.board ≡ board.now.id }
+    requires seats { Every (λ back. back.seat.board ≡ board.now.id) backs.items }
+    requires top { board.now.start ≤ none_yet }
+    ensures owner { owner.new.board ≡ owner.old.board }
+    ensures made { owner.new.view.made ≡ owner.old.view.made }
+    ensures taken { OnOk result (owner.new.view.taken ≡ owner.old.view.taken + length backs.items) }
+    ensures passes { OnOk result (ended.new.passes.items ≡ ended.old.passes.items ++ map pass_of backs.items) }
+    ensures end { OnOk result ((m : Voyage) → IsEnd M.meets board.now m owner.old.view ended.old → Every (IsBack M.meets board.now m) backs.items → IsEnd M.meets board.now m owner.new.view ended.new) }
+{
+    for back in backs {
+        take_in(board, owner, ended, back)?;
+    }
+    Ok(())
 }
 
 /// Takes in what all workers brought back, and their seats.
@@ -141,8 +181,8 @@ pub fn take_in_all<M: Wanted>(
         aside: Vec::new(alloc),
         all: AllDeeds::none(alloc),
     };
-    for back in backs {
-        take_in(board, owner, &mut ended, back)?;
+    match take_in_each(board, owner, &mut ended, backs) {
+        Ok(()) => Ok(ended),
+        Err(no) => Err(no),
     }
-    Ok(ended)
 }

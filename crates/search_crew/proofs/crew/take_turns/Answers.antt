@@ -1,9 +1,13 @@
-use Rattle.std.proofs.Common.{refl}
-use Rattle.search_crew.proofs.Ends.{starts, returns_it}
+use Rattle.std.proofs.Common.{refl, subst}
+use Rattle.zero_one_rows.specs.Variables.{Voyage}
+use Rattle.steal_pool.proofs.Steps.{if_ok}
+use Rattle.search_crew.specs.Ends.{IsBack}
+use Rattle.search_crew.proofs.Ends.{starts}
 use Rattle.search_crew.proofs.crew.take_turns.Goals as goal
 
-pub serve-requires-clause-job : goal.serve-requires-clause-job
-serve-requires-clause-job g c = starts g.M.Wanted.meets c.args.ground.now.rack c.args.ground.now.board c.args.tables.now c.args.post _ c.requires c.in_ok-desk.ensures refl refl refl c.none.ensures
+pub serve_on-requires-clause-job : goal.serve_on-requires-clause-job
+serve_on-requires-clause-job g c = starts g.M.Wanted.meets c.args.ground.now.rack c.args.ground.now.board c.args.tables.now c.args.post _ c.requires c.in-Ok.ensures refl refl refl c.none.ensures
 
-pub returns : goal.returns
-returns g c = returns_it g.M.Wanted.meets c.args.ground.now.rack c.args.ground.now.board c.args.tables.now c.args.post _ c.in_ok-served.served _ c.in_ok-desk.ensures refl c.in_ok-served.ensures refl refl refl refl
+pub returns-in-Ok : goal.returns-in-Ok
+returns-in-Ok g c = if_ok c.serve_on.result _ _
+    (λ back h. record { back = subst (λ (m : Voyage). IsBack g.M.Wanted.meets c.args.ground.now.board m back) c.in-Ok.ensures h.0; pass = h.1; number = h.2; board = h.3 }) c.serve_on.ensures

@@ -1,6 +1,11 @@
+use Rattle.std.proofs.Common.{ap, ◌∙◌}
 use Rattle.steal_pool.proofs.Steps.{on_ok}
+use Rattle.search_crew.specs.declared.joining.AllDeeds.{AllDeeds}
+use Rattle.search_crew.specs.Ends.{deeds_of}
+use Rattle.search_crew.specs.Together.{both}
 use Rattle.search_crew.proofs.Ends.{takes_in}
 use Rattle.search_crew.proofs.joining.take_in.Goals as goal
 
-pub returns-clause-end : goal.returns-clause-end
-returns-clause-end g c = on_ok c.add.result (λ deeds m end back. takes_in g.M.Wanted.meets c.args.board.now m c.args.owner.now.view c.join.new.owner.view c.args.ended.now _ c.args.back c.requires.top c.join.ensures.view c.in_ok-push.ensures.items c.in_ok-pour.ensures deeds end back) c.add.ensures
+pub returns-in-Ok-clause-end : goal.returns-in-Ok-clause-end
+returns-in-Ok-clause-end g c = on_ok c.add.result (λ deeds m end back. takes_in g.M.Wanted.meets c.args.board.now m c.args.owner.now.view c.join.new.owner.view c.args.ended.now _ c.args.back c.requires.top c.join.ensures.view c.in-Ok.ensures.passes c.in-Ok.ensures.aside
+    (deeds ∙ ap (λ (a : AllDeeds). both (deeds_of a) c.args.back.deeds) c.take_in_nodes.ensures.all) end back) c.add.ensures

@@ -1,41 +1,16 @@
-use Rattle.std.proofs.Common.{◌≡◌, [], ◌++◌, ◌∷◌, List, length, map, refl, ap, sym, subst, ◌∙◌, arith, rules}
-use Rattle.search_machine.specs.Bags.{Every}
+use Rattle.std.proofs.Common.{◌≡◌, [], ◌++◌, List, map, ap, ◌∙◌, rules}
 use Rattle.node_racks.specs.declared.racks.Pass.{Pass}
-use Rattle.search_crew.specs.declared.places.Back.{Back}
-use Rattle.search_crew.specs.Ends.{IsBack, pass_of}
-use Rattle.search_crew.proofs.Ends.{snoc_shift, none_in}
+use Rattle.search_crew.specs.Ends.{pass_of}
+use Rattle.search_crew.proofs.Ends.{none_in}
 use Rattle.search_crew.proofs.joining.take_in_all.Goals as goal
 
-pub loop-back-preserved : goal.loop-back-preserved
-loop-back-preserved g c =
-    let i = c.loop-back.invariant in
-    let t = c.in_ok-take_in.ensures in
-    let rest = c.next.new.self.rest.items in
-    let e : c.loop-back.back-iterator.rest.items ≡ c.in-Some.back ∷ rest = search rules in
-    record {
-      board = c.take_in.ensures.owner ∙ i.board;
-      made = ap (λ v. v.made) c.take_in.ensures.view ∙ i.made;
-      taken = omega (arith, i.taken, ap (λ v. v.taken) c.take_in.ensures.view, ap length e);
-      seats = (subst (Every (λ (j : Back g.row.M.Denot). j.seat.board ≡ c.args.board.now.id)) e i.seats).1;
-      passes = ap (λ (l : List (Pass g.row.M.Denot)). l ++ map pass_of rest) t.passes ∙ (snoc_shift c.loop-back.ended.passes.items c.in-Some.back.pass (map pass_of rest)
-          ∙ (ap (λ (js : List (Back g.row.M.Denot)). c.loop-back.ended.passes.items ++ map pass_of js) (sym e) ∙ i.passes));
-      end = λ m backs. let before = i.end m backs in let each = subst (Every (IsBack g.M.Wanted.meets c.args.board.now m)) e before.1 in (t.end m before.0 each.0, each.1);
-    }
+pub returns-in-Ok-clause-passes : goal.returns-in-Ok-clause-passes
+returns-in-Ok-clause-passes g c =
+    let passes : c.new.result.items ≡ [] = search rules in
+    c.in-Ok.ensures.passes ∙ ap (λ (l : List (Pass g.row.M.Denot)). l ++ map pass_of c.args.backs.items) passes
 
-pub loop-back-init : goal.loop-back-init
-loop-back-init g c =
-    let first = c.into_iter-back-iterator.result.rest.items in
-    let e : first ≡ c.args.backs.items = search rules in
+pub returns-in-Ok-clause-end : goal.returns-in-Ok-clause-end
+returns-in-Ok-clause-end g c m backs =
     let passes : c.new.result.items ≡ [] = search rules in
     let aside : c.new-2.result.items ≡ [] = search rules in
-    record {
-      board = refl;
-      made = refl;
-      taken = omega (arith, ap length e);
-      seats = subst (Every (λ (j : Back g.row.M.Denot). j.seat.board ≡ c.args.board.now.id)) (sym e) c.requires.seats;
-      passes = ap (λ (l : List (Pass g.row.M.Denot)). l ++ map pass_of first) passes ∙ ap (λ (l : List (Back g.row.M.Denot)). map pass_of l) e;
-      end = λ m backs. (none_in g.M.Wanted.meets c.args.board.now m c.args.owner.now.view _ c.requires.view passes aside c.none.ensures, subst (Every (IsBack g.M.Wanted.meets c.args.board.now m)) (sym e) backs);
-    }
-
-pub returns-clause-end : goal.returns-clause-end
-returns-clause-end g c m backs = (c.loop-back.invariant.end m backs).0
+    c.in-Ok.ensures.end m (none_in g.M.Wanted.meets c.args.board.now m c.args.owner.now.view _ c.requires.view passes aside c.none.ensures) backs

@@ -3,7 +3,7 @@ use Rattle.search_machine.specs.Bags.{Every}
 use Rattle.node_racks.specs.Racks.{IsPassAt, IsFresh, number_of}
 use Rattle.search_crew.specs.Ends.{IsPosted, post_number}
 use Rattle.search_crew.specs.Starts.{IsMaker}
-use Rattle.search_crew.proofs.beginning.begin_all.Given as goal
+use Rattle.search_crew.proofs.beginning.begin_each.Given as goal
 
 abbrev pub invariant-loop-pass : goal.invariant-loop-pass
 invariant-loop-pass g l = record {

@@ -2,7 +2,7 @@ use Rattle.std.proofs.Common.{◌≡◌, ◌+◌, ◌++◌, length, map}
 use Rattle.zero_one_rows.specs.Variables.{Voyage}
 use Rattle.search_machine.specs.Bags.{Every}
 use Rattle.search_crew.specs.Ends.{IsBack, IsEnd, pass_of}
-use Rattle.search_crew.proofs.joining.take_in_all.Given as goal
+use Rattle.search_crew.proofs.joining.take_in_each.Given as goal
 
 abbrev pub invariant-loop-back : goal.invariant-loop-back
 invariant-loop-back g l = record {
@@ -10,6 +10,7 @@ invariant-loop-back g l = record {
   made : l.owner.view.made ≡ l.fn.owner.view.made;
   taken : l.owner.view.taken + length l.back-iterator.rest.items ≡ l.fn.owner.view.taken + length l.fn.backs.items;
   seats : Every (λ j. j.seat.board ≡ l.board.id) l.back-iterator.rest.items;
-  passes : l.ended.passes.items ++ map pass_of l.back-iterator.rest.items ≡ map pass_of l.fn.backs.items;
-  end : (m : Voyage) → Every (IsBack g.M.Wanted.meets l.board m) l.fn.backs.items → IsEnd g.M.Wanted.meets l.board m l.owner.view l.ended × Every (IsBack g.M.Wanted.meets l.board m) l.back-iterator.rest.items;
+  passes : l.ended.passes.items ++ map pass_of l.back-iterator.rest.items ≡ l.fn.ended.passes.items ++ map pass_of l.fn.backs.items;
+  end : (m : Voyage) → IsEnd g.M.Wanted.meets l.board m l.fn.owner.view l.fn.ended → Every (IsBack g.M.Wanted.meets l.board m) l.fn.backs.items
+      → IsEnd g.M.Wanted.meets l.board m l.owner.view l.ended × Every (IsBack g.M.Wanted.meets l.board m) l.back-iterator.rest.items;
 }

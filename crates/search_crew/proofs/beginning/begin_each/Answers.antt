@@ -4,7 +4,7 @@ use Rattle.search_machine.proofs.Weights.{every_append}
 use Rattle.node_racks.specs.Racks.{IsPassAt, IsFresh}
 use Rattle.search_crew.specs.Ends.{IsPosted}
 use Rattle.search_crew.proofs.Ends.{numbers_more}
-use Rattle.search_crew.proofs.beginning.begin_all.Goals as goal
+use Rattle.search_crew.proofs.beginning.begin_each.Goals as goal
 
 pub loop-pass-preserved : goal.loop-pass-preserved
 loop-pass-preserved g c =

@@ -1,0 +1,32 @@
+use Rattle.std.proofs.Common.{◌≡◌, ◌++◌, ◌∷◌, [], refl, ◌∙◌, rules}
+use Rattle.search_crew.proofs.Rests.{rest_at, rest_next}
+use Rattle.search_crew.proofs.finishing.finish_rest.Goals as goal
+
+pub loop-init : goal.loop-init
+loop-init g c = record {
+  next = tt;
+  finite = tt;
+  desk = refl;
+  seat = refl;
+  rest = λ all first. first;
+  live = (λ e. c.requires.none_over, λ e. absurd (cc));
+}
+
+pub step-requires-clause-rest : goal.step-requires-clause-rest
+step-requires-clause-rest g c =
+    let e : c.loop.rest.todo.items ≡ c.pop.new.self.items ++ c.in-Some-pop.node ∷ [] = search rules in
+    let all = c.requires.rest.0 in
+    (all, rest_at c.args.desk.now c.loop.desk c.args.board.now.start c.loop.seat.view all c.loop.rest.todo.items (c.pop.new.self.items ++ c.in-Some-pop.node ∷ []) c.loop.rest.deeds c.loop.invariant.desk e (c.loop.invariant.rest all c.requires.rest.1))
+
+pub loop-preserved : goal.loop-preserved
+loop-preserved g c =
+    let e : c.loop.rest.todo.items ≡ c.pop.new.self.items ++ c.in-Some-pop.node ∷ [] = search rules in
+    record {
+      next = tt;
+      finite = tt;
+      desk = c.step.ensures.same ∙ c.loop.invariant.desk;
+      seat = c.step.ensures.seat ∙ c.loop.invariant.seat;
+      rest = λ all first. rest_next c.args.desk.now c.loop.desk c.args.board.now.start c.loop.seat.view c.step.new.seat.view all c.loop.rest.todo.items (c.pop.new.self.items ++ c.in-Some-pop.node ∷ []) c.step.new.self.todo.items c.loop.rest.deeds c.step.new.self.deeds
+          c.loop.invariant.desk e (c.in_ok-live.ensures.rest all) (c.loop.invariant.rest all first);
+      live = c.in_ok-live.ensures.live;
+    }
