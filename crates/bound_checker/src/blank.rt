@@ -46,12 +46,19 @@ impl Blank {
         requires { length b.now ≡ length (variables model.now) }
         ensures { IfOk result (IsBlank model.now b.now) }
     {
-        Ok(Blank {
-            costs: Costs::start(alloc, model, b)?,
-            spare: Vec::new(alloc),
-            zero: zero_box(alloc, model)?,
-            room: MOST_NUMBERS,
-        })
+        let costs = Costs::start(alloc, model, b)?;
+        match zero_box(alloc, model) {
+            Ok(zero) => Ok(Blank {
+                costs,
+                spare: Vec::new(alloc),
+                zero,
+                room: MOST_NUMBERS,
+            }),
+            Err(no) => {
+                drop(costs);
+                Err(no)
+            }
+        }
     }
 
     /// A variable of the box is fixed so, or free again. It takes constant time.

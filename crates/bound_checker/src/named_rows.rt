@@ -79,6 +79,12 @@ impl NamedRow {
     }
 }
 
+// Enters a row with its place.
+fn enter(places: &mut BTreeMap<Row, usize>, row: &Row, place: usize) -> Result<(), NoMemory> {
+    places.insert(copy_of(row)?, place)?;
+    Ok(())
+}
+
 impl<'a> NamedRows<'a> {
     /// None so far.
     pub fn none(alloc: Global, model: &'a Model<'a>) -> NamedRows<'a>
@@ -105,10 +111,17 @@ impl<'a> NamedRows<'a> {
         }
         let named = named_row(alloc, self.model, row)?;
         let (place, count) = (self.rows.len(), named.terms.len());
-        self.places.insert(copy_of(row)?, place)?;
-        self.rows.push(named)?;
-        self.room = self.room.saturating_sub(count);
-        Ok(Some(place))
+        match enter(&mut self.places, row, place) {
+            Ok(()) => {
+                self.rows.push(named)?;
+                self.room = self.room.saturating_sub(count);
+                Ok(Some(place))
+            }
+            Err(no) => {
+                drop(named);
+                Err(no)
+            }
+        }
     }
 
     /// The row at its place, where it stands there.

@@ -80,12 +80,19 @@ impl<'a> Sums<'a> {
         requires { length b.now ≡ length (variables model.now) }
         ensures { IfOk result (λ s. Carries model.now b.now [] s) }
     {
-        Ok(Sums {
-            amounts: Amounts::none(alloc),
-            costs: Costs::start(alloc, model, b)?,
-            blank: Blank::start(alloc, model, b)?,
-            rows: NamedRows::none(alloc, model),
-        })
+        let costs = Costs::start(alloc, model, b)?;
+        match Blank::start(alloc, model, b) {
+            Ok(blank) => Ok(Sums {
+                amounts: Amounts::none(alloc),
+                costs,
+                blank,
+                rows: NamedRows::none(alloc, model),
+            }),
+            Err(no) => {
+                drop(costs);
+                Err(no)
+            }
+        }
     }
 
     /// Adds so many times a row to the costs, and counts its variables. It takes their time.

@@ -178,17 +178,29 @@ impl<'a> Walk<'a> {
     pub fn start(alloc: Global, model: &'a Model<'a>) -> Result<Walk<'a>, NoMemory>
         ensures { IfOk result (λ w. IsAt model.now w (root (whole model.now) ∷ [])) }
     {
-        let priced = Box01::free(alloc, model)?;
-        let prices = Prices::none(alloc, model, &priced)?;
-        Ok(Walk {
-            b: Box01::free(alloc, model)?,
-            undo: UndoList::new(alloc),
-            priced,
-            prices,
-            frames: Vec::new(alloc),
-            holders: Holders::none(alloc),
-            done: false,
-        })
+        let b = Box01::free(alloc, model)?;
+        match Box01::free(alloc, model) {
+            Ok(priced) => match Prices::none(alloc, model, &priced) {
+                Ok(prices) => Ok(Walk {
+                    b,
+                    undo: UndoList::new(alloc),
+                    priced,
+                    prices,
+                    frames: Vec::new(alloc),
+                    holders: Holders::none(alloc),
+                    done: false,
+                }),
+                Err(no) => {
+                    drop(b);
+                    drop(priced);
+                    Err(no)
+                }
+            },
+            Err(no) => {
+                drop(b);
+                Err(no)
+            }
+        }
     }
 
     // Frees what was fixed past a place of the list.
@@ -231,11 +243,18 @@ impl<'a> Walk<'a> {
             return Ok(());
         };
         self.release(model, frame.mark);
-        self.prices.take_back(alloc, model, &self.b, frame.changes)?;
-        let sums = &mut self.prices.sums;
-        sums.bring_back(alloc, model, &self.b, frame.aside)?;
-        self.halve(model, frame.var, false)?;
-        Ok(())
+        match self.prices.take_back(alloc, model, &self.b, frame.changes) {
+            Ok(()) => {
+                let sums = &mut self.prices.sums;
+                sums.bring_back(alloc, model, &self.b, frame.aside)?;
+                self.halve(model, frame.var, false)?;
+                Ok(())
+            }
+            Err(no) => {
+                drop(frame);
+                Err(no)
+            }
+        }
     }
 
     // The box in hand closes.
@@ -261,14 +280,14 @@ impl<'a> Walk<'a> {
         requires priced { IsPriced model.now self.old }
         ensures { OnOk result (Goes model.now self.old (fixed self.old.b x true) (self.old.undo ++ x ∷ []) (self.old.frames.items ++ frame_of self.old x ∷ []) self.new) }
     {
-        let frame = Frame {
-            var: x,
-            mark: self.undo.len(),
-            changes: self.prices.changes.len(),
-            aside: None,
-        };
+        let (mark, changes) = (self.undo.len(), self.prices.changes.len());
         self.halve(model, x, true)?;
-        self.frames.push(frame)?;
+        self.frames.push(Frame {
+            var: x,
+            mark,
+            changes,
+            aside: None,
+        })?;
         Ok(())
     }
 
@@ -356,21 +375,27 @@ impl<'a> Walk<'a> {
     {
         let fixed = past(&self.undo, frame.mark);
         free_all(model, fixed, &mut self.priced, &mut self.prices.sums);
-        self.prices
-            .take_back(alloc, model, &self.priced, frame.changes)?;
-        let aside = self.prices.sums.put_aside(alloc, clean);
-        follow(
-            model,
-            &self.b,
-            fixed,
-            &mut self.priced,
-            &mut self.prices.sums,
-        );
-        self.frames.push(Frame {
-            aside: Some(aside),
-            ..frame
-        })?;
-        Ok(())
+        match self
+            .prices
+            .take_back(alloc, model, &self.priced, frame.changes)
+        {
+            Ok(()) => {
+                let aside = self.prices.sums.put_aside(alloc, clean);
+                let sums = &mut self.prices.sums;
+                follow(model, &self.b, fixed, &mut self.priced, sums);
+                drop(frame.aside);
+                self.frames.push(Frame {
+                    aside: Some(aside),
+                    ..frame
+                })?;
+                Ok(())
+            }
+            Err(no) => {
+                drop(frame);
+                drop(clean);
+                Err(no)
+            }
+        }
     }
 
     // Begins without multipliers behind the last box that waits, which has this frame.
@@ -379,17 +404,25 @@ impl<'a> Walk<'a> {
         ensures { (q : Pending Rows) (qs : List (Pending Rows)) → StandsWith model.now self.old (self.old.frames.items ++ frame ∷ []) q qs → OnOk result (Stands model.now self.new (without q) qs) }
     {
         if frame.aside.is_some() {
-            self.prices.take_back(alloc, model, &self.b, frame.changes)?;
-            self.frames.push(frame)?;
-            return Ok(());
+            return match self.prices.take_back(alloc, model, &self.b, frame.changes) {
+                Ok(()) => Ok(self.frames.push(frame)?),
+                Err(no) => {
+                    drop(frame);
+                    Err(no)
+                }
+            };
         }
         let blank = &mut self.prices.sums.blank;
-        match blank.take(alloc, model, &self.b)? {
-            Some(clean) => self.put_aside(alloc, model, frame, clean),
-            None => {
+        match blank.take(alloc, model, &self.b) {
+            Ok(Some(clean)) => self.put_aside(alloc, model, frame, clean),
+            Ok(None) => {
                 self.frames.push(frame)?;
                 self.prices.clear(alloc, model, &self.b)?;
                 Ok(())
+            }
+            Err(no) => {
+                drop(frame);
+                Err(no)
             }
         }
     }
@@ -418,10 +451,13 @@ impl<'a> Walk<'a> {
             return Ok(());
         }
         match self.frames.pop() {
-            Some(frame) => {
-                self.make_room(alloc, model, &frame)?;
-                self.begin_behind(alloc, model, frame)
-            }
+            Some(frame) => match self.make_room(alloc, model, &frame) {
+                Ok(()) => self.begin_behind(alloc, model, frame),
+                Err(no) => {
+                    drop(frame);
+                    Err(no)
+                }
+            },
             None => {
                 self.prices.clear(alloc, model, &self.b)?;
                 Ok(())

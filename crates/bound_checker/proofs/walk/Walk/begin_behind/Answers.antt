@@ -12,8 +12,8 @@ take_back-requires-clause-to c =
     let s = c.requires.stands in
     (next_of c.args.model.now w (w.frames.items ++ c.args.frame ∷ []) w.frames.items c.args.frame refl s.0 s.1 s.2).3.changes
 
-pub returns-then-is_some : goal.returns-then-is_some
-returns-then-is_some c = λ q qs stands.
+pub returns-in_ok-push-in-Ok : goal.returns-in_ok-push-in-Ok
+returns-in_ok-push-in-Ok c = λ q qs stands.
     let m = c.args.model.now in
     let w = c.args.self.now in
     let f = c.args.frame in
@@ -21,16 +21,16 @@ returns-then-is_some c = λ q qs stands.
     let n = next_of m w all w.frames.items f refl q qs stands in
     let some = some_of f.aside (sym c.is_some.ensures ∙ c.if-is_some.true) in
     let more : c.push.new.self.items ≡ all = search rules in
-    anew m w all w.frames.items f refl q qs _ some.0 stands refl refl stands.priced c.in_ok-take_back.ensures.changes
+    anew m w all w.frames.items f refl q qs _ some.0 stands refl refl stands.priced c.in-Ok.ensures.changes
     (more ∙ ap (λ (o : Option Aside). w.frames.items ++ record { var = f.var; mark = f.mark; changes = f.changes; aside = o } ∷ []) some.1) refl
-    (c.in_ok-take_back.ensures.carries q.multipliers [] stands.carries (before_none m w all w.frames.items f refl q n.0 some.0 some.1 n.3) tt)
+    (c.in-Ok.ensures.carries q.multipliers [] stands.carries (before_none m w all w.frames.items f refl q n.0 some.0 some.1 n.3) tt)
     (λ next waits. aside_there m w all w.frames.items f refl q next some.0 some.1 waits)
 
-pub returns-in_ok-clear-in-None : goal.returns-in_ok-clear-in-None
-returns-in_ok-clear-in-None c = λ q qs stands.
+pub returns-in_ok-clear-in-Ok-None : goal.returns-in_ok-clear-in-Ok-None
+returns-in_ok-clear-in-Ok-None c = λ q qs stands.
     let m = c.args.model.now in
     let w = c.args.self.now in
     let all : List Frame = w.frames.items ++ c.args.frame ∷ [] in
-    let more : c.push-in-None.new.self.items ≡ all = search rules in
+    let more : c.push-in-Ok-None.new.self.items ≡ all = search rules in
     stands_changed m w all q qs _ [] stands refl refl stands.priced more refl
-    (c.in_ok-clear-in-None.ensures q.multipliers q.multipliers w.prices.changes.items (record { carries = carries_blank m w.b q.multipliers w.prices.sums stands.carries c.take.new.self c.take.ensures.blank; moves = moves_none m q.multipliers w.prices.changes.items }))
+    (c.in_ok-clear-in-Ok-None.ensures q.multipliers q.multipliers w.prices.changes.items (record { carries = carries_blank m w.b q.multipliers w.prices.sums stands.carries c.take.new.self c.take.ensures.blank; moves = moves_none m q.multipliers w.prices.changes.items }))

@@ -44,8 +44,8 @@ halve-requires-clause-priced c =
       same = c.release.ensures.priced;
       carries = (
         ns,
-        c.in_ok-bring_back.ensures ns
-            (c.in_ok-take_back.ensures.carries s.0.multipliers (in_hand o ns) (c.release.ensures.carries s.0.multipliers s.2.carries)
+        c.in_ok-bring_back-in-Ok.ensures ns
+            (c.in-Ok.ensures.carries s.0.multipliers (in_hand o ns) (c.release.ensures.carries s.0.multipliers s.2.carries)
             (subst (λ k. Before (in_hand o ns) c.in-Some.frame.changes k.items s.0.multipliers) (sym c.release.ensures.changes) n.3.amounts) (small_in_hand m o ns n.3.small))
             (subst (λ (x : Box). IfSome o (IsAside m x ns)) (sym c.release.ensures.box) n.3.aside)
             n.3.small,
@@ -60,24 +60,24 @@ bring_back-requires c =
     let n = next_of m c.args.self.now c.args.self.now.frames.items c.pop.new.self.items c.in-Some.frame c.in-Some.ensures.items s.0 s.1 s.2 in
     let ns = n.0.multipliers in (
       ns,
-      c.in_ok-take_back.ensures.carries s.0.multipliers (in_hand o ns) (c.release.ensures.carries s.0.multipliers s.2.carries)
+      c.in-Ok.ensures.carries s.0.multipliers (in_hand o ns) (c.release.ensures.carries s.0.multipliers s.2.carries)
           (subst (λ k. Before (in_hand o ns) c.in-Some.frame.changes k.items s.0.multipliers) (sym c.release.ensures.changes) n.3.amounts) (small_in_hand m o ns n.3.small),
       subst (λ (x : Box). IfSome o (IsAside m x ns)) (sym c.release.ensures.box) n.3.aside,
       n.3.small,
     )
 
-pub returns : goal.returns
-returns c = λ q qs stands.
+pub returns-in_ok-halve-in-Ok : goal.returns-in_ok-halve-in-Ok
+returns-in_ok-halve-in-Ok c = λ q qs stands.
     let m = c.args.model.now in
     let o = c.in-Some.frame.aside in
     let r = c.release.ensures in
-    let h = c.in_ok-halve.ensures in
+    let h = c.in_ok-halve-in-Ok.ensures in
     next_stands m c.args.self.now c.args.self.now.frames.items c.pop.new.self.items c.in-Some.frame c.in-Some.ensures.items q qs c.halve.new.self stands
     (h.box ∙ ap (λ (x : Box). fixed x c.in-Some.frame.var false) r.box)
     (h.fixes ∙ ap (λ (us : List ℕ). us ++ c.in-Some.frame.var ∷ []) r.fixes) h.priced
-    (ap (λ k. k.items) h.changes ∙ c.in_ok-take_back.ensures.changes ∙ ap (λ k. take c.in-Some.frame.changes k.items) r.changes)
+    (ap (λ k. k.items) h.changes ∙ c.in-Ok.ensures.changes ∙ ap (λ k. take c.in-Some.frame.changes k.items) r.changes)
     (h.waiting ∙ r.waiting) (h.done ∙ r.done)
-    (λ ms ns carries before small aside. h.carries ns (c.in_ok-bring_back.ensures ns
-    (c.in_ok-take_back.ensures.carries ms (in_hand o ns) (r.carries ms carries)
+    (λ ms ns carries before small aside. h.carries ns (c.in_ok-bring_back-in-Ok.ensures ns
+    (c.in-Ok.ensures.carries ms (in_hand o ns) (r.carries ms carries)
     (subst (λ k. Before (in_hand o ns) c.in-Some.frame.changes k.items ms) (sym r.changes) before) (small_in_hand m o ns small))
     (subst (λ (x : Box). IfSome o (IsAside m x ns)) (sym r.box) aside) small))

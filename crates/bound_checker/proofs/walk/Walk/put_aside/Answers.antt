@@ -57,13 +57,13 @@ follow-requires-clause-carries c =
     let n = next_of m w (w.frames.items ++ f ∷ []) w.frames.items f refl s.0 s.1 s.2 in (
       [],
       c.put_aside-aside.ensures.none m c.free_all.new.b n.0.multipliers
-          (c.in_ok-take_back.ensures.carries s.0.multipliers n.0.multipliers (c.free_all.ensures.carries s.0.multipliers (subst (λ (x : Box). Carries m x s.0.multipliers w.prices.sums) (sym s.2.priced) s.2.carries))
+          (c.in-Ok.ensures.carries s.0.multipliers n.0.multipliers (c.free_all.ensures.carries s.0.multipliers (subst (λ (x : Box). Carries m x s.0.multipliers w.prices.sums) (sym s.2.priced) s.2.carries))
           (before_next m w (w.frames.items ++ f ∷ []) w.frames.items f refl s.0 n.0 c.requires.none n.3) n.3.small)
           c.requires.clean,
     )
 
-pub returns : goal.returns
-returns c = λ q qs stands.
+pub returns-in_ok-push-in-Ok : goal.returns-in_ok-push-in-Ok
+returns-in_ok-push-in-Ok c = λ q qs stands.
     let m = c.args.model.now in
     let w = c.args.self.now in
     let f = c.args.frame in
@@ -73,8 +73,8 @@ returns c = λ q qs stands.
     let more : c.push.new.self.items ≡ w.frames.items ++ record { var = f.var; mark = f.mark; changes = f.changes; aside = Some a } ∷ [] = search rules in
     let freed_there : c.free_all.new.b ≡ freed w.b (drop f.mark w.undo) = c.free_all.ensures.there ∙ ap (freed w.priced) c.past-fixed.ensures ∙ ap (λ (x : Box). freed x (drop f.mark w.undo)) stands.priced in
     let there = c.free_all.ensures.carries q.multipliers (subst (λ (x : Box). Carries m x q.multipliers w.prices.sums) (sym stands.priced) stands.carries) in
-    anew m w all w.frames.items f refl q qs _ a stands refl refl c.follow.ensures.there c.in_ok-take_back.ensures.changes more refl
+    anew m w all w.frames.items f refl q qs _ a stands refl refl c.follow.ensures.there c.in-Ok.ensures.changes more refl
     (subst (λ (x : Box). Carries m x [] c.follow.new.sums) c.follow.ensures.there (c.follow.ensures.carries []
-    (c.put_aside-aside.ensures.none m c.free_all.new.b n.0.multipliers (c.in_ok-take_back.ensures.carries q.multipliers n.0.multipliers there (before_next m w all w.frames.items f refl q n.0 c.requires.none n.3) n.3.small) c.requires.clean)))
+    (c.put_aside-aside.ensures.none m c.free_all.new.b n.0.multipliers (c.in-Ok.ensures.carries q.multipliers n.0.multipliers there (before_next m w all w.frames.items f refl q n.0 c.requires.none n.3) n.3.small) c.requires.clean)))
     (λ next waits. subst (λ (x : Box). IsAside m x next.multipliers a) freed_there
-    (c.put_aside-aside.ensures.aside m c.free_all.new.b next.multipliers (c.in_ok-take_back.ensures.carries q.multipliers next.multipliers there (before_next m w all w.frames.items f refl q next c.requires.none waits) waits.small)))
+    (c.put_aside-aside.ensures.aside m c.free_all.new.b next.multipliers (c.in-Ok.ensures.carries q.multipliers next.multipliers there (before_next m w all w.frames.items f refl q next c.requires.none waits) waits.small)))

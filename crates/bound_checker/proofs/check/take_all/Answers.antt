@@ -9,10 +9,10 @@ use Rattle.certificate.specs.Entries.{entry_of}
 use Rattle.bound_checker.specs.Faults.{first_fault}
 use Rattle.bound_checker.proofs.Bounding.{if_err_at}
 use Rattle.bound_checker.proofs.Walks.{begins, behind, ends, tree_more, tree_fails, tree_ends, tree_done}
-use Rattle.bound_checker.proofs.check.walk_tree.Goals as goal
+use Rattle.bound_checker.proofs.check.take_all.Goals as goal
 
 pub loop-entry-init : goal.loop-entry-init
-loop-entry-init c = record { node = refl; at = begins c.args.model.now c.args.bounds.low c.args.bounds.high c.args.tree.now c.in_ok-walk.walk c.requires.order c.in_ok-walk.ensures }
+loop-entry-init c = record { node = refl; at = begins c.args.model.now c.args.bounds.low c.args.bounds.high c.args.tree.now c.args.walk.now c.requires.order c.requires.root }
 
 pub loop-entry-preserved : goal.loop-entry-preserved
 loop-entry-preserved c =
@@ -28,10 +28,10 @@ loop-entry-preserved c =
 
 pub returns-in_err-best-clause-refused : goal.returns-in_err-best-clause-refused
 returns-in_err-best-clause-refused c =
-    let p = err_from_is_err_and c.from_residual-in_err-best.result c.from_residual-in_err-best.ensures.1 in
-    let g : c.from_residual-in_err-best.result ≡ Err c.in_err-best.field-0.0 = p.1 ∙ ap (λ (f : BoundNo). Err f) p.2 in
+    let p = err_from_is_err_and c.from_residual.result c.from_residual.ensures.1 in
+    let g : c.from_residual.result ≡ Err c.in_err-best.field-0.0 = p.1 ∙ ap (λ (f : BoundNo). Err f) p.2 in
     let all : List (Entry Row) = map (entry_of c.args.model.now) (drop c.loop-entry.entry-index c.args.tree.now) in
-    if_err_at (λ (f : BoundNo). f ≢ NoMemory → first_fault c.args.model.now c.args.tree.now c.args.bounds.low ≡ Some f) c.from_residual-in_err-best.result c.in_err-best.field-0.0 g
+    if_err_at (λ (f : BoundNo). f ≢ NoMemory → first_fault c.args.model.now c.args.tree.now c.args.bounds.low ≡ Some f) c.from_residual.result c.in_err-best.field-0.0 g
     (tree_fails c.args.model.now c.args.bounds.low c.args.bounds.high (first_fault c.args.model.now c.args.tree.now) c.loop-entry.best (c.loop-entry.node + 1) c.loop-entry.walk c.take.new.self (entry_of c.args.model.now c.entry-item.result) _ all c.in_err-best.field-0.0
     (behind (entry_of c.args.model.now) c.args.tree.now c.loop-entry.entry-index c.entry-item.result
     (subst (λ (rs : List Record). c.loop-entry.entry-index < length rs) c.as_slice-entry-items.ensures c.loop-entry-test.true)

@@ -2,7 +2,7 @@ use Rattle.std.proofs.Common.{◌≡◌, ◌+◌, drop, map}
 use Rattle.certificate.specs.Entries.{entry_of}
 use Rattle.bound_checker.specs.Faults.{first_fault}
 use Rattle.bound_checker.proofs.Walks.{Reaches}
-use Rattle.bound_checker.proofs.check.walk_tree.Given as goal
+use Rattle.bound_checker.proofs.check.take_all.Given as goal
 
 abbrev pub invariant-loop-entry : goal.invariant-loop-entry
 invariant-loop-entry l = record {
