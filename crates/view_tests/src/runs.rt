@@ -2,7 +2,7 @@
 use picture_files::{Status, view};
 use std::alloc::Global;
 use std::test::Fail;
-use stow_data::{NoMemory, NumberList, Word, WordList};
+use stow_data::{Bytes, NoMemory, NumberList, Word, WordList};
 use stow_io::{MemFolder, MemSink};
 
 const PLAN: &str =
@@ -24,43 +24,71 @@ fn folder_of(alloc: Global) -> Result<MemFolder, NoMemory> {
     Ok(folder)
 }
 
-fn sink_of(alloc: Global) -> Result<MemSink, NoMemory> {
-    MemSink::new(alloc, 1000, NumberList::new(alloc))
+/// How a run on two files of the folder ended.
+#[derive(Drop)]
+struct Ran {
+    status: Status,
+    report: Bytes,
+    has_picture: bool,
+    has_page: bool,
+}
+
+fn run_on(alloc: Global, words: &WordList, folder: &mut MemFolder) -> Result<Ran, NoMemory> {
+    let mut out = MemSink::new(alloc, 1000, NumberList::new(alloc))?;
+    let status = view(alloc, words, folder, &mut out);
+    let report = Bytes::of(alloc, out.text().as_slice());
+    drop(out);
+    Ok(Ran {
+        status,
+        report: report?,
+        has_picture: folder.file("a/one.edi.svg").is_some(),
+        has_page: folder.file("a/index.html").is_some(),
+    })
+}
+
+fn run_in(
+    alloc: Global,
+    first: &str,
+    second: &str,
+    folder: &mut MemFolder,
+) -> Result<Ran, NoMemory> {
+    let words = words_of(alloc, first, second)?;
+    let ran = run_on(alloc, &words, folder);
+    drop(words);
+    ran
+}
+
+fn run(alloc: Global, first: &str, second: &str) -> Result<Ran, NoMemory> {
+    let mut folder = folder_of(alloc)?;
+    let ran = run_in(alloc, first, second, &mut folder);
+    drop(folder);
+    ran
 }
 
 #[test]
 fn draws_two_calls(rt: HostRuntime) -> Result<(), Fail> {
-    let alloc = rt.alloc();
-    let mut folder = folder_of(alloc)?;
-    let mut out = sink_of(alloc)?;
-    let words = words_of(alloc, "a/one.edi", "a/two.edi")?;
-    assert_eq!(rt; view(alloc, &words, &mut folder, &mut out), Status::Fine);
+    let ran = run(rt.alloc(), "a/one.edi", "a/two.edi")?;
     let report: &[u8] = b"written a/one.edi.svg\nwritten a/two.edi.svg\nwritten a/index.html\n";
-    assert_eq!(rt; out.text().as_slice(), report);
-    assert_eq!(rt; folder.file("a/index.html").is_some(), true);
+    assert!(rt; ran.status == Status::Fine);
+    assert!(rt; ran.report.as_slice() == report);
+    assert!(rt; ran.has_picture && ran.has_page);
     Ok(())
 }
 
 #[test]
 fn writes_nothing_for_a_cut_file(rt: HostRuntime) -> Result<(), Fail> {
-    let alloc = rt.alloc();
-    let mut folder = folder_of(alloc)?;
-    let mut out = sink_of(alloc)?;
-    let words = words_of(alloc, "a/one.edi", "a/cut.edi")?;
-    assert_eq!(rt; view(alloc, &words, &mut folder, &mut out), Status::Input);
-    assert_eq!(rt; out.text().as_slice(), b"refused edifact 3 0\n".as_slice());
-    assert_eq!(rt; folder.file("a/one.edi.svg").is_none(), true);
+    let ran = run(rt.alloc(), "a/one.edi", "a/cut.edi")?;
+    assert!(rt; ran.status == Status::Input);
+    assert!(rt; ran.report.as_slice() == b"refused edifact 3 0\n".as_slice());
+    assert!(rt; !ran.has_picture && !ran.has_page);
     Ok(())
 }
 
 #[test]
 fn turns_words_down(rt: HostRuntime) -> Result<(), Fail> {
-    let alloc = rt.alloc();
-    let mut folder = folder_of(alloc)?;
-    let mut out = sink_of(alloc)?;
-    let dashed = words_of(alloc, "a/one.edi", "-v")?;
-    assert_eq!(rt; view(alloc, &dashed, &mut folder, &mut out), Status::Words);
-    let apart = words_of(alloc, "a/one.edi", "two.edi")?;
-    assert_eq!(rt; view(alloc, &apart, &mut folder, &mut out), Status::Words);
+    let dashed = run(rt.alloc(), "a/one.edi", "-v")?;
+    assert!(rt; dashed.status == Status::Words && !dashed.has_picture);
+    let apart = run(rt.alloc(), "a/one.edi", "two.edi")?;
+    assert!(rt; apart.status == Status::Words && !apart.has_picture);
     Ok(())
 }

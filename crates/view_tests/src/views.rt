@@ -86,18 +86,26 @@ fn writes_legend(rt: HostRuntime) -> Result<(), Fail> {
     Ok(())
 }
 
-#[test]
-fn steps_through_pictures(rt: HostRuntime) -> Result<(), Fail> {
-    let alloc = rt.alloc();
+fn names(alloc: Global) -> Result<WordList, NoMemory> {
     let mut names = WordList::new(alloc);
     names.push(Word::of(alloc, "a b<.edi")?)?;
     names.push(Word::of(alloc, "c.edi")?)?;
-    let page = index_page(alloc, &names)?;
-    assert_eq!(rt;
-        has(&page, b"<a href='a%20b%3C.edi.svg'>a b&lt;.edi</a>"),
-        true
-    );
-    assert_eq!(rt; has(&page, b"<a href='#c1'>Next &gt;</a>"), true);
-    assert_eq!(rt; has(&page, b"<a href='#c0'>&lt; Previous</a>"), true);
+    Ok(names)
+}
+
+fn page(alloc: Global) -> Result<Bytes, NoMemory> {
+    let names = names(alloc)?;
+    let page = index_page(alloc, &names);
+    drop(names);
+    page
+}
+
+#[test]
+fn steps_through_pictures(rt: HostRuntime) -> Result<(), Fail> {
+    let page = page(rt.alloc())?;
+    let link: &[u8] = b"<a href='a%20b%3C.edi.svg'>a b&lt;.edi</a>";
+    assert!(rt; has(&page, link));
+    assert!(rt; has(&page, b"<a href='#c1'>Next &gt;</a>"));
+    assert!(rt; has(&page, b"<a href='#c0'>&lt; Previous</a>"));
     Ok(())
 }
