@@ -37,7 +37,9 @@ pub fn check<'a, F: Folder>(
         Found::Voyage(voyage) => voyage,
         Found::Refused(answer) => return Ok(answer),
     };
-    check_voyage(alloc, inputs.base, &voyage, folder)
+    let answer = check_voyage(alloc, inputs.base, &voyage, folder);
+    drop(voyage);
+    answer
 }
 
 /// What a voyage is answered: the limits of the model come first.
@@ -55,7 +57,11 @@ fn check_voyage<'a, F: Folder>(
     ensures failed { IfErr result (IsStop (Rose (F.faults folder.old) (F.faults folder.new)) (λ name. IsWithin (voyage_of v.now) × IsWrittenRead base.now (F.files folder.old) v.now name)) }
 {
     match Model::build(alloc, &v.ship, &v.cargo) {
-        Ok(model) => check_cert(alloc, base, v, &model, folder),
+        Ok(model) => {
+            let answer = check_cert(alloc, base, v, &model, folder);
+            drop(model);
+            answer
+        }
         Err(ModelNo::TooLarge { limit, value }) => match limit_text(alloc, limit, value) {
             Ok(line) => Ok(Answer::Large(line)),
             Err(NoMemory) => Err(ReadStop::NoMemory),

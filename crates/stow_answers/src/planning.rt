@@ -44,7 +44,9 @@ pub fn plan<'a, F: Folder, G: Gate + Sync, R: Threads + Wait + Sync>(
         Found::Voyage(voyage) => voyage,
         Found::Refused(answer) => return Ok(answer),
     };
-    match plan_of(rt, alloc, inputs.base, &voyage, workers, budget, gate) {
+    let answer = plan_of(rt, alloc, inputs.base, &voyage, workers, budget, gate);
+    drop(voyage);
+    match answer {
         Ok(answer) => Ok(answer),
         Err(NoMemory) => Err(ReadStop::NoMemory),
     }
@@ -68,7 +70,11 @@ fn plan_of<G: Gate + Sync, R: Threads + Wait + Sync>(
     ensures { IfOk result (PlanOf budget base.now v.now) }
 {
     match Model::build(alloc, &v.ship, &v.cargo) {
-        Ok(model) => plan_within(rt, alloc, base, v, &model, workers, budget, gate),
+        Ok(model) => {
+            let answer = plan_within(rt, alloc, base, v, &model, workers, budget, gate);
+            drop(model);
+            answer
+        }
         Err(ModelNo::TooLarge { limit, value }) => {
             Ok(Answer::Large(limit_text(alloc, limit, value)?))
         }

@@ -7,5 +7,5 @@ use Rattle.stow_answers.proofs.checking.check_voyage.Goals as goal
 pub build-requires : goal.build-requires
 build-requires g c = record { arrival = c.requires.settled.1.well_formed.each_place }
 
-pub check_cert-requires-clause-problem : goal.check_cert-requires-clause-problem
-check_cert-requires-clause-problem g c = subst IsProblem (sym c.in-Ok.ensures.0) (problem_of c.args.v.now c.requires)
+pub check_cert-answer-requires-clause-problem : goal.check_cert-answer-requires-clause-problem
+check_cert-answer-requires-clause-problem g c = subst IsProblem (sym c.in-Ok.ensures.0) (problem_of c.args.v.now c.requires)
