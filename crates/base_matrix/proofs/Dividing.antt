@@ -8,12 +8,12 @@ use Rattle.zero_one_rows.specs.declared.program.Var.{Var}
 use Rattle.zero_one_rows.specs.declared.program.Row.{Row}
 use Rattle.zero_one_rows.specs.Variables.{Voyage, is_var}
 use Rattle.zero_one_rows.specs.Rows.{coef, has, is_base}
-use Rattle.row_sums.specs.declared.sums.Sign.{Sign}
-use Rattle.row_sums.specs.declared.sums.Sign.TheVariants.{Plus, Minus}
-use Rattle.row_sums.specs.declared.sums.Part.{Part}
-use Rattle.row_sums.specs.declared.sums.Parts.{Parts}
-use Rattle.row_sums.specs.Sums.{parts, holds, counts, in_part, signed}
-use Rattle.row_sums.specs.Laws.{HasParts, AreSums, ShareNone, in_second}
+use Rattle.sum_matrix.specs.declared.sums.Sign.{Sign}
+use Rattle.sum_matrix.specs.declared.sums.Sign.TheVariants.{Plus, Minus}
+use Rattle.sum_matrix.specs.declared.sums.Part.{Part}
+use Rattle.sum_matrix.specs.declared.sums.Parts.{Parts}
+use Rattle.sum_matrix.specs.Sums.{parts, holds, counts, in_part, signed}
+use Rattle.sum_matrix.specs.Laws.{HasParts, AreSums, ShareNone, in_second}
 use Rattle.base_matrix.specs.Parted.{IsPart}
 
 -- a fact on each signed sum of a row

@@ -1,3 +1,13 @@
+pub mod Summing
+pub mod Landing
+pub mod Freeing
+pub mod Walking
+pub mod Rows
+pub mod Steps
+pub mod Falling
+pub mod Calming
+pub mod Ones
+pub mod Idle
 mod Dividing
 mod There
 mod Numbered

@@ -6,18 +6,18 @@ use borrow.Author.Differences.{ints}
 use Rattle.std.proofs.lemmas.Bool.{both_ways}
 use Rattle.stow_data.specs.Profile.{IsShip}
 use Rattle.proof_trees.specs.Program.{where_set}
-use Rattle.partial_plan.proofs.Summing.{same_or_other, equal, unequal}
+use Rattle.base_matrix.proofs.Summing.{same_or_other, equal, unequal}
 use Rattle.zero_one_rows.specs.declared.program.Row.{Row}
 use Rattle.zero_one_rows.specs.Listed.{ListsVariables}
 use Rattle.zero_one_rows.specs.Ranges.{NamesWhatIsThere}
 use Rattle.zero_one_rows.specs.Variables.{Voyage, variables, var, is_var}
 use Rattle.zero_one_rows.specs.Rows.{coef, has, is_base}
-use Rattle.row_sums.specs.declared.sums.Sum.{Sum}
-use Rattle.row_sums.specs.declared.sums.Sign.{Sign}
-use Rattle.row_sums.specs.declared.sums.Sign.TheVariants.{Plus, Minus}
-use Rattle.row_sums.specs.declared.sums.Part.{Part}
-use Rattle.row_sums.specs.Sums.{holds, counts, signed}
-use Rattle.row_sums.specs.Laws.{HasParts, AreSums, ShareNone}
+use Rattle.sum_matrix.specs.declared.sums.Sum.{Sum}
+use Rattle.sum_matrix.specs.declared.sums.Sign.{Sign}
+use Rattle.sum_matrix.specs.declared.sums.Sign.TheVariants.{Plus, Minus}
+use Rattle.sum_matrix.specs.declared.sums.Part.{Part}
+use Rattle.sum_matrix.specs.Sums.{holds, counts, signed}
+use Rattle.sum_matrix.specs.Laws.{HasParts, AreSums, ShareNone}
 use Rattle.sum_matrix.specs.declared.numbering.Numbering.{Numbering}
 use Rattle.sum_matrix.specs.Numbers.{number, numbers, IsNumbering, IsThere}
 use Rattle.sum_matrix.specs.Held.{stands, IsRising}

@@ -4,15 +4,15 @@ use Rattle.std.specs.Prelude.{nat_eq}
 use Rattle.std.proofs.lemmas.Bool.{both_ways, eqb-true}
 use Rattle.std.proofs.lemmas.Option.{none-some, same_Some}
 use Rattle.std.proofs.lemmas.List.Folds.{list_any-append}
-use Rattle.partial_plan.proofs.Summing.{equal}
+use Rattle.base_matrix.proofs.Summing.{equal}
 use Rattle.stow_data.specs.Profile.{IsShip}
 use Rattle.zero_one_rows.specs.declared.program.Row.{Row}
 use Rattle.zero_one_rows.specs.Ranges.{NamesWhatIsThere}
 use Rattle.zero_one_rows.specs.Variables.{Voyage}
 use Rattle.zero_one_rows.specs.Rows.{has}
-use Rattle.row_sums.specs.declared.sums.Part.{Part}
-use Rattle.row_sums.specs.declared.sums.Parts.{Parts}
-use Rattle.row_sums.specs.Sums.{parts}
+use Rattle.sum_matrix.specs.declared.sums.Part.{Part}
+use Rattle.sum_matrix.specs.declared.sums.Parts.{Parts}
+use Rattle.sum_matrix.specs.Sums.{parts}
 use Rattle.sum_matrix.specs.declared.numbering.Numbering.{Numbering}
 use Rattle.sum_matrix.specs.Numbers.{number, IsNumbering, IsThere}
 use Rattle.sum_matrix.specs.Held.{stands}

@@ -7,15 +7,15 @@ use Rattle.std.proofs.lemmas.Bool.{both_ways}
 use Rattle.std.proofs.lemmas.List.{map-append}
 use Rattle.std.proofs.lemmas.List.Elements.{All-append, All-cons, All-nil, All-head, All-tail}
 use Rattle.std.proofs.lemmas.List.Folds.{list_any-append}
-use Rattle.partial_plan.proofs.Summing.{same_or_other, equal, unequal}
+use Rattle.base_matrix.proofs.Summing.{same_or_other, equal, unequal}
 use Rattle.zero_one_rows.specs.declared.program.Row.{Row}
 use Rattle.zero_one_rows.specs.declared.program.Var.{Var}
 use Rattle.zero_one_rows.specs.Variables.{Voyage, variables, var}
 use Rattle.zero_one_rows.specs.Rows.{coef, has, is_base, whole}
-use Rattle.row_sums.specs.declared.sums.Sign.{Sign}
-use Rattle.row_sums.specs.declared.sums.Sign.TheVariants.{Plus, Minus}
-use Rattle.row_sums.specs.declared.sums.Part.{Part}
-use Rattle.row_sums.specs.Sums.{holds, counts, signed}
+use Rattle.sum_matrix.specs.declared.sums.Sign.{Sign}
+use Rattle.sum_matrix.specs.declared.sums.Sign.TheVariants.{Plus, Minus}
+use Rattle.sum_matrix.specs.declared.sums.Part.{Part}
+use Rattle.sum_matrix.specs.Sums.{holds, counts, signed}
 use Rattle.sum_matrix.specs.declared.numbering.Numbering.{Numbering}
 use Rattle.sum_matrix.specs.Numbers.{number, IsThere}
 use Rattle.sum_matrix.specs.Held.{stands, variables_of}

@@ -9,15 +9,15 @@ use Rattle.std.proofs.lemmas.List.Elements.{All-append, All-cons, All-nil, All-h
 use Rattle.std.proofs.lemmas.List.Folds.{list_any-append}
 use Rattle.std.proofs.lemmas.List.Kept.{AllPairs-cons}
 use Rattle.std.proofs.lemmas.Grind.{flat_map-append}
-use Rattle.partial_plan.proofs.Summing.{equal}
+use Rattle.base_matrix.proofs.Summing.{equal}
 use Rattle.zero_one_rows.specs.declared.program.Row.{Row}
 use Rattle.zero_one_rows.specs.Variables.{Voyage, variables, var}
 use Rattle.zero_one_rows.specs.Rows.{has}
-use Rattle.row_sums.specs.declared.sums.Sign.{Sign}
-use Rattle.row_sums.specs.declared.sums.Sign.TheVariants.{Plus, Minus}
-use Rattle.row_sums.specs.declared.sums.Part.{Part}
-use Rattle.row_sums.specs.declared.sums.Parts.{Parts}
-use Rattle.row_sums.specs.Sums.{parts, holds}
+use Rattle.sum_matrix.specs.declared.sums.Sign.{Sign}
+use Rattle.sum_matrix.specs.declared.sums.Sign.TheVariants.{Plus, Minus}
+use Rattle.sum_matrix.specs.declared.sums.Part.{Part}
+use Rattle.sum_matrix.specs.declared.sums.Parts.{Parts}
+use Rattle.sum_matrix.specs.Sums.{parts, holds}
 use Rattle.sum_matrix.specs.declared.numbering.Numbering.{Numbering}
 use Rattle.sum_matrix.specs.Numbers.{number, IsThere}
 use Rattle.sum_matrix.specs.Held.{stands, variables_of}

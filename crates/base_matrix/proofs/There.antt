@@ -18,11 +18,11 @@ use Rattle.zero_one_rows.specs.Listed.{IsNamed}
 use Rattle.zero_one_rows.specs.Variables.{Voyage, calls}
 use Rattle.zero_one_rows.specs.Ranges.{NamesWhatIsThere}
 use Rattle.zero_one_rows.specs.Rows.{has, half, stack, above, below, separation, is_call}
-use Rattle.row_sums.specs.declared.sums.Sum.TheVariants as sum
-use Rattle.row_sums.specs.declared.sums.Part.{Part}
-use Rattle.row_sums.specs.Sums.{parts, holds, class_names, class_number, number_in}
-use Rattle.row_sums.proofs.Excluding.{left_true, right_true}
-use Rattle.row_sums.proofs.Names.{first_class, second_class, first_named, second_named}
+use Rattle.sum_matrix.specs.declared.sums.Sum.TheVariants as sum
+use Rattle.sum_matrix.specs.declared.sums.Part.{Part}
+use Rattle.sum_matrix.specs.Sums.{parts, holds, class_names, class_number, number_in}
+use Rattle.sum_matrix.proofs.Excluding.{left_true, right_true}
+use Rattle.sum_matrix.proofs.Names.{first_class, second_class, first_named, second_named}
 use Rattle.sum_matrix.specs.Numbers.{IsCell, IsClass, IsThere}
 use Rattle.base_matrix.specs.Parted.{IsPart, NamesPlace}
 use Rattle.base_matrix.proofs.Dividing.{OnParts, on_part}

@@ -4,7 +4,7 @@ use Rattle.std.specs.Int.RustNames.{unsigned_abs}
 use borrow.Author.Differences.{ints}
 use Rattle.std.proofs.lemmas.Bool.{both_ways}
 use Rattle.std.proofs.Math.ListN.{get_or-replicate}
-use Rattle.partial_plan.proofs.Summing.{sum_size, sum_same}
+use Rattle.base_matrix.proofs.Summing.{sum_size, sum_same}
 use Rattle.stow_data.specs.Profile.{IsShip}
 use Rattle.stow_data.specs.Shipment.{IsCargo}
 use Rattle.proof_trees.specs.Program.{sum_to}
@@ -16,12 +16,12 @@ use Rattle.zero_one_rows.specs.Listed.{ListsVariables}
 use Rattle.zero_one_rows.specs.Ranges.{HasSmallCoefficients, HasSmallRightSides}
 use Rattle.zero_one_rows.specs.Variables.{Voyage, variables, var, kind}
 use Rattle.zero_one_rows.specs.Rows.{coef, has, is_base, whole, half}
-use Rattle.row_sums.specs.declared.sums.Sum.TheVariants as sum
-use Rattle.row_sums.specs.declared.sums.Sign.{Sign}
-use Rattle.row_sums.specs.declared.sums.Sign.TheVariants.{Plus, Minus}
-use Rattle.row_sums.specs.declared.sums.Part.{Part}
-use Rattle.row_sums.specs.Sums.{parts, holds, counts, signed}
-use Rattle.row_sums.specs.Laws.{HasParts, AreSums, ShareNone}
+use Rattle.sum_matrix.specs.declared.sums.Sum.TheVariants as sum
+use Rattle.sum_matrix.specs.declared.sums.Sign.{Sign}
+use Rattle.sum_matrix.specs.declared.sums.Sign.TheVariants.{Plus, Minus}
+use Rattle.sum_matrix.specs.declared.sums.Part.{Part}
+use Rattle.sum_matrix.specs.Sums.{parts, holds, counts, signed}
+use Rattle.sum_matrix.specs.Laws.{HasParts, AreSums, ShareNone}
 use Rattle.sum_matrix.specs.declared.numbering.Numbering.{Numbering}
 use Rattle.base_matrix.specs.Terms.{IsSmall}
 use Rattle.base_matrix.specs.Counted.{weight_of}

@@ -2,7 +2,7 @@
 use Rattle.std.specs.Prelude.{◌≡◌, ℕ, ◌/◌, ◌==◌, Bool, true, false, ◌++◌, cond, List, [], map, flat_map, slice_index_or, ℤ, pos, ◌-ℤ◌}
 use Rattle.zero_one_rows.specs.declared.program.Var.{Var}
 use Rattle.zero_one_rows.specs.Variables.{Voyage, variables, var, kind}
-use Rattle.row_sums.specs.declared.sums.Sum.{Sum}
+use Rattle.sum_matrix.specs.declared.sums.Sum.{Sum}
 use Rattle.sum_matrix.specs.declared.numbering.Numbering.{Numbering}
 use Rattle.sum_matrix.specs.Numbers.{number, IsThere}
 use Rattle.sum_matrix.specs.Held.{variables_of, AreSumsOf, IsRising}

@@ -1,3 +1,9 @@
+pub mod Fixing
+pub mod Forced
+pub mod Full
+pub mod Packing
+pub mod Stopping
+pub mod Tightening
 pub mod Terms
 pub mod Parted
 pub mod Counted

@@ -1,6 +1,6 @@
 -- The sums of each base row by sign, and the rows of each sum.
 use Rattle.std.specs.Prelude.{false, true}
-use Rattle.flat_lists.specs.Transposed.{IsTransposed}
+use Rattle.sum_matrix.specs.Transposed.{IsTransposed}
 use Rattle.zero_one_rows.specs.Variables.{Voyage}
 use Rattle.sum_matrix.specs.declared.numbering.Numbering.{Numbering}
 use Rattle.sum_matrix.specs.Numbers.{numbers}

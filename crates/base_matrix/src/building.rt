@@ -1,7 +1,7 @@
 //! The parts of the matrix, built.
 ghost use Rattle.std.specs.Prelude.{◌≡◌, ℕ, ◌<◌, ◌≤◌, [], IfOk, length, slice_index_or};
 ghost use Rattle.zero_one_rows.specs.Variables.{variables};
-ghost use Rattle.flat_lists.specs.Transposed.{IsTransposed};
+ghost use Rattle.sum_matrix.specs.Transposed.{IsTransposed};
 ghost use Rattle.sum_matrix.specs.Numbers.{numbers};
 ghost use Rattle.base_matrix.specs.Terms.{count};
 ghost use Rattle.base_matrix.specs.Counted.{weight_of, all_weights, AreEntries, AreShares};
@@ -14,11 +14,9 @@ use crate::entries::{Entry, Share};
 use crate::laws::rows_obey_laws;
 use crate::margins::{Margins, heaviest_of, margins_of};
 use crate::signed::{SignedRows, rows_at};
-use flat_lists::FlatLists;
-use row_sums::RowSums;
 use std::alloc::Global;
 use stow_data::{NoMemory, Seq, VarNo};
-use sum_matrix::SumMatrix;
+use sum_matrix::{FlatLists, RowSums, SumMatrix};
 use zero_one_model::Model;
 use zero_one_rows::Var;
 

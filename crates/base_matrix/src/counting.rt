@@ -5,11 +5,9 @@ ghost use Rattle.sum_matrix.specs.Numbers.{numbers};
 ghost use Rattle.base_matrix.specs.Counted.{counted, weighs, all_weights, entry_by, share_of, AreEntries, AreShares};
 
 use crate::entries::{Entry, Share};
-use flat_lists::FlatLists;
-use row_sums::RowSums;
 use std::alloc::Global;
 use stow_data::{NoMemory, Seq, VarNo};
-use sum_matrix::{Numbering, SumMatrix};
+use sum_matrix::{FlatLists, Numbering, RowSums, SumMatrix};
 use zero_one_rows::{Var, kind_at, variables_stand_once};
 
 /// Whether a number is that of a sum of weights.

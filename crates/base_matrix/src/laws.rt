@@ -4,10 +4,10 @@ ghost use Rattle.stow_data.specs.Shipment.{IsCargo};
 ghost use Rattle.zero_one_rows.specs.Listed.{ListsVariables};
 ghost use Rattle.zero_one_rows.specs.Ranges.{NamesWhatIsThere, HasSmallCoefficients, HasSmallRightSides};
 ghost use Rattle.program_rows.specs.Ordered.{ListsBaseRows};
-ghost use Rattle.row_sums.specs.Laws.{HasParts, AreSums, ShareNone};
+ghost use Rattle.sum_matrix.specs.Laws.{HasParts, AreSums, ShareNone};
 
 use program_rows::rows_are_listed;
-use row_sums::rows_are_sums;
+use sum_matrix::rows_are_sums;
 use zero_one_model::Model;
 use zero_one_rows::{rows_are_in_range, variables_stand_once};
 

@@ -1,17 +1,30 @@
-//! The base rows of a program by number, each as its one or two signed sums, in memory of the sums and not of the rows written out; and written out besides, where that is small.
+//! The base rows of a program by number, and boxes that are tightened by rows and taken back.
 //!
 //! A search fixes a variable and asks which rows lose greatest value by it, and it looks at the terms of a row that may force something. Many rows share one sum, so both are kept sum by sum: the variables of each sum, the sums of each variable, and the rows of each sum by its sign. Reading goes through one more list so, which costs time at each step of a search; where all rows together have few terms, they are written out too.
 #![tactic(auto)]
 
+mod base_rows;
 mod building;
 mod counting;
 mod entries;
+mod forcing;
+mod full;
 mod laws;
 mod margins;
 mod matrix;
+mod packing;
 mod reading;
 mod signed;
+mod slack;
+mod tightening;
+mod trail;
 mod written;
 
+pub use base_rows::base_row;
 pub use entries::{Entry, Loss, Share, Term};
+pub use forcing::{force, tighten_by, violates};
+pub use full::{breaks_none, cost_of};
 pub use matrix::{BaseMatrix, Losses};
+pub use slack::{slack_among, slack_of};
+pub use tightening::{Tightened, tighten};
+pub use trail::{UndoList, undo};

@@ -7,11 +7,12 @@ ghost use Rattle.base_matrix.specs.Terms.{count, row_at, IsSmall};
 ghost use Rattle.base_matrix.specs.Counted.{weight_of};
 ghost use Rattle.base_matrix.specs.Margins.{top_by, IsMargin, AreMargins};
 
+use crate::base_rows::base_row;
 use crate::laws::rows_obey_laws;
-use flat_lists::FlatLists;
-use partial_plan::{base_row, slack_among};
+use crate::slack::slack_among;
 use std::alloc::Global;
 use stow_data::{NoMemory, Seq};
+use sum_matrix::FlatLists;
 use zero_one_model::{Box01, Model};
 use zero_one_rows::Row;
 

@@ -5,6 +5,7 @@ ghost use Rattle.zero_one_rows.specs.Variables.{variables};
 ghost use Rattle.zero_one_rows.specs.Rows.{base, whole};
 ghost use Rattle.base_matrix.specs.Terms.{count, row_at, loss, loses, lost, slack_in, AreTerms, IsSmall};
 
+use crate::base_rows::base_row;
 use crate::building::{columns_of, matrix_of, rows_and_margins};
 use crate::entries::{Entry, Loss, Share, Term};
 use crate::laws::rows_obey_laws;
@@ -12,11 +13,9 @@ use crate::margins::Margins;
 use crate::reading::list_terms;
 use crate::signed::SignedRows;
 use crate::written::{Written, written_of};
-use flat_lists::FlatLists;
-use partial_plan::base_row;
 use std::alloc::Global;
 use stow_data::{NoMemory, VarNo};
-use sum_matrix::{Numbering, SumMatrix};
+use sum_matrix::{FlatLists, Numbering, SumMatrix};
 use zero_one_model::Model;
 use zero_one_rows::Row;
 

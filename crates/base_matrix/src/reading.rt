@@ -4,8 +4,8 @@ ghost use Rattle.base_matrix.specs.Counted.{term_of, terms_of, row_terms_of};
 
 use crate::entries::{Entry, Term};
 use crate::signed::SignedRows;
-use flat_lists::FlatLists;
 use stow_data::NoMemory;
+use sum_matrix::FlatLists;
 
 /// An entry of a sum that stands in a row with plus, or with minus.
 fn term(entry: Entry, minus: bool) -> Term

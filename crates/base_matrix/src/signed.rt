@@ -5,12 +5,10 @@ ghost use Rattle.sum_matrix.specs.Numbers.{number, numbers, IsLow, IsNumbering};
 ghost use Rattle.base_matrix.specs.Terms.{count, row_at};
 ghost use Rattle.base_matrix.specs.Parted.{loses_at, NamesPlace, PartsLow, numbers_of, AreSumsOf, AreRowSums};
 
-use flat_lists::FlatLists;
-use partial_plan::base_row;
-use row_sums::{Part, Parts, Sign};
+use crate::base_rows::base_row;
 use std::alloc::Global;
 use stow_data::{NoMemory, Seq, Ship};
-use sum_matrix::{Numbering, SumMatrix};
+use sum_matrix::{FlatLists, Numbering, Part, Parts, Sign, SumMatrix};
 use zero_one_model::Model;
 use zero_one_rows::{Row, rows_are_in_range};
 

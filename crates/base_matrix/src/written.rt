@@ -13,10 +13,9 @@ use crate::entries::{Entry, Loss, Share, Term};
 use crate::laws::rows_obey_laws;
 use crate::reading::list_terms;
 use crate::signed::SignedRows;
-use flat_lists::FlatLists;
 use std::alloc::Global;
 use stow_data::{NoMemory, VarNo};
-use sum_matrix::Numbering;
+use sum_matrix::{FlatLists, Numbering};
 use zero_one_model::Model;
 
 /// The most terms that are written out.

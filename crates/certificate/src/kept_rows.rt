@@ -2,11 +2,10 @@
 ghost use Rattle.std.specs.Prelude.{◌≡◌, IfOk};
 ghost use Rattle.certificate.specs.KeptRows.{row_of};
 
-use chain_rows::Chain;
 use std::alloc::Global;
 use std::marker::Model;
 use stow_data::{CallNo, HalfNo, KindNo, NoMemory, PlaceNo, Seq, StackNo};
-use zero_one_rows::{Raise, Row};
+use zero_one_rows::{Chain, Raise, Row};
 
 /// A row in 24 bytes: the numbers of a crossing row, which few rows of a tree are, stand behind a pointer. Contracts see the row.
 #[derive(Drop)]

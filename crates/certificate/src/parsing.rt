@@ -9,9 +9,8 @@ ghost use Rattle.certificate.specs.Reading.{row_of_two, row_of_three, row_of_fou
 
 use crate::words::{Key, Token};
 use arrayvec::ArrayVec;
-use chain_rows::Chain;
 use stow_data::{CallNo, HalfNo, KindNo, PlaceNo, StackNo};
-use zero_one_rows::Row;
+use zero_one_rows::{Chain, Row};
 
 pub(crate) type Numbers = ArrayVec<u32, 18>;
 

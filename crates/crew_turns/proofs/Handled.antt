@@ -9,17 +9,17 @@ use Rattle.proof_trees.specs.Boxes.{Box}
 use Rattle.proof_trees.specs.Multipliers.{Multipliers}
 use Rattle.proof_trees.specs.Trees.{End, Leaf, Left, Branch, Entry, root}
 use Rattle.certificate.specs.declared.tree.Record.{Record}
-use Rattle.search_nodes.specs.declared.nodes.Node.{Node}
+use Rattle.certificate.specs.declared.nodes.Node.{Node}
 use Rattle.certificate.specs.Entries.{same_row, number_of, entry_of}
-use Rattle.search_machine.specs.Bags.{weigh, Every}
-use Rattle.search_machine.specs.Journals.{Path, Placed, branches, is_left, Anything, EndAllowed, box_after, multipliers_after}
-use Rattle.search_machine.specs.Machine as machine
-use Rattle.search_machine.specs.Machine.{Handled, handled, at_its_path, half_node, IsTrail}
-use Rattle.search_machine.specs.Outcomes.{path_of, children}
-use Rattle.search_machine.proofs.Weights.{weigh_append, every_append, every_more}
-use Rattle.search_machine.proofs.Trails.{trail_more}
-use Rattle.incumbent_word.specs.declared.view.View.{View}
-use Rattle.incumbent_word.specs.Rule.{none_yet, seen_at, offered_at, with_ticket, one_over, after_split, joined}
+use Rattle.search_core.specs.Bags.{weigh, Every}
+use Rattle.search_core.specs.Journals.{Path, Placed, branches, is_left, Anything, EndAllowed, box_after, multipliers_after}
+use Rattle.search_core.specs.Machine as machine
+use Rattle.search_core.specs.Machine.{Handled, handled, at_its_path, half_node, IsTrail}
+use Rattle.search_core.specs.Outcomes.{path_of, children}
+use Rattle.search_core.proofs.Weights.{weigh_append, every_append, every_more}
+use Rattle.search_core.proofs.Trails.{trail_more}
+use Rattle.node_racks.specs.declared.view.View.{View}
+use Rattle.node_racks.specs.Rule.{none_yet, seen_at, offered_at, with_ticket, one_over, after_split, joined}
 use Rattle.node_ledger.specs.Gathered.{placed}
 use Rattle.node_work.specs.Work.{node_of, IsNode, begins_at, most_at, EndsClosed, EndsBranched, EndsFull, Works}
 use Rattle.node_work.specs.declared.worked.Worked.{Worked}

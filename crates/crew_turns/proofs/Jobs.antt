@@ -1,11 +1,11 @@
 -- A worker's job, as nodes come to it, are handled and go on.
 use Rattle.std.proofs.Common.{◌≡◌, ℕ, ◌+◌, [], ◌∷◌, ◌++◌, Option, Some, None, sym, subst, ap, ◌∙◌, arith}
 use Rattle.zero_one_rows.specs.Variables.{Voyage}
-use Rattle.search_nodes.specs.declared.nodes.Node.{Node}
-use Rattle.search_machine.specs.Bags.{weigh, Every}
-use Rattle.incumbent_word.specs.declared.view.View.{View}
-use Rattle.incumbent_word.specs.Rule.{with_ticket, one_over}
-use Rattle.incumbent_word.specs.Tokens.{BoardToken, SeatToken}
+use Rattle.certificate.specs.declared.nodes.Node.{Node}
+use Rattle.search_core.specs.Bags.{weigh, Every}
+use Rattle.node_racks.specs.declared.view.View.{View}
+use Rattle.node_racks.specs.Rule.{with_ticket, one_over}
+use Rattle.node_racks.specs.Tokens.{BoardToken, SeatToken}
 use Rattle.node_racks.specs.declared.racks.Rack.{Rack}
 use Rattle.node_racks.specs.declared.racks.Pass.{Pass}
 use Rattle.node_racks.specs.Racks.{IsPassAt, took_weight, put_weight}

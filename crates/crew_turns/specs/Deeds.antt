@@ -4,13 +4,13 @@ use Rattle.zero_one_rows.specs.declared.program.Row.{Row}
 use Rattle.zero_one_rows.specs.Variables.{Voyage}
 use Rattle.proof_trees.specs.Boxes.{Box}
 use Rattle.certificate.specs.declared.tree.Record.{Record}
-use Rattle.search_nodes.specs.declared.nodes.Node.{Node}
-use Rattle.search_machine.specs.Bags.{weigh, Every}
-use Rattle.search_machine.specs.Journals.{is_left}
-use Rattle.search_machine.specs.Machine as machine
-use Rattle.search_machine.specs.Machine.{Handled}
-use Rattle.search_machine.specs.Outcomes.{path_of, children}
-use Rattle.incumbent_word.specs.declared.view.View.{View}
+use Rattle.certificate.specs.declared.nodes.Node.{Node}
+use Rattle.search_core.specs.Bags.{weigh, Every}
+use Rattle.search_core.specs.Journals.{is_left}
+use Rattle.search_core.specs.Machine as machine
+use Rattle.search_core.specs.Machine.{Handled}
+use Rattle.search_core.specs.Outcomes.{path_of, children}
+use Rattle.node_racks.specs.declared.view.View.{View}
 use Rattle.node_work.specs.Work.{node_of}
 use Rattle.node_work.specs.declared.worked.Worked.{Worked}
 use Rattle.node_work.specs.declared.worked.Worked.TheVariants.{Closed, Branched, Full, NoMemory}

@@ -2,12 +2,12 @@
 use Rattle.std.specs.Prelude.{◌≡◌, ℕ, ◌+◌, ◌≤◌, ◌==◌, cond, List, []}
 use Rattle.stow_data.specs.Shipment.{IsCargo}
 use Rattle.zero_one_rows.specs.Variables.{Voyage}
-use Rattle.search_nodes.specs.declared.nodes.Node.{Node}
-use Rattle.search_machine.specs.Bags.{weigh, Every}
-use Rattle.search_machine.specs.Machine.{root_node}
-use Rattle.incumbent_word.specs.declared.view.View.{View}
-use Rattle.incumbent_word.specs.Rule.{none_yet}
-use Rattle.incumbent_word.specs.Tokens.{BoardToken, SeatToken}
+use Rattle.certificate.specs.declared.nodes.Node.{Node}
+use Rattle.search_core.specs.Bags.{weigh, Every}
+use Rattle.search_core.specs.Machine.{root_node}
+use Rattle.node_racks.specs.declared.view.View.{View}
+use Rattle.node_racks.specs.Rule.{none_yet}
+use Rattle.node_racks.specs.Tokens.{BoardToken, SeatToken}
 use Rattle.node_racks.specs.declared.racks.Rack.{Rack}
 use Rattle.node_racks.specs.Racks.{IsPassAt, took_weight, put_weight}
 use Rattle.node_work.specs.Work.{IsNode, most_rehandles}

@@ -2,8 +2,7 @@
 ghost use Rattle.std.specs.Prelude.{◌≡◌};
 ghost use Rattle.crew_turns.specs.Deeds.{no_deeds};
 
-use certificate::{Journal, PathList};
-use search_nodes::Node;
+use certificate::{Journal, Node, PathList};
 use std::alloc::Global;
 use zero_one_model::Box01;
 

@@ -4,9 +4,8 @@ ghost use Rattle.crew_turns.specs.Deeds.{Did, half_at, halves_at};
 ghost use Rattle.steal_pool.specs.UnderWay.{entry_at};
 
 use crate::deeds::{Deeds, Halves, Solution};
-use certificate::{Entry, Path, Record};
+use certificate::{Entry, Node, Path, Record, SharedRecord, share_all};
 use node_work::Worked;
-use search_nodes::{Node, SharedRecord, share_all};
 use std::alloc::Global;
 use stow_data::NoMemory;
 

@@ -6,9 +6,9 @@ ghost use Rattle.steal_pool.specs.UnderWay.{Tells};
 ghost use Rattle.crew_turns.specs.Deeds.{EachHalf, Flow, IsDone, halves_weight, on_nodes};
 
 use crate::deeds::{Deeds, Halves};
-use incumbent_word::{Board, Seat};
+use certificate::Node;
+use node_racks::{Board, Seat};
 use node_work::{Desk, Worked};
-use search_nodes::Node;
 use std::alloc::Global;
 use stow_data::NoMemory;
 

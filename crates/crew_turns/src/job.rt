@@ -1,10 +1,9 @@
 //! What one worker has.
 
 use crate::deeds::Deeds;
-use incumbent_word::Seat;
-use node_racks::{Pass, Wanted};
+use certificate::Node;
+use node_racks::{Pass, Seat, Wanted};
 use node_work::Desk;
-use search_nodes::Node;
 
 /// What one worker has: its pass to the rack, its seat at the board, its desk, the number of its turns, what it did, and the nodes that its deque refused.
 #[derive(Drop)]

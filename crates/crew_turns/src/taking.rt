@@ -1,13 +1,13 @@
 //! Where a worker gets nodes, and where it puts them.
 ghost use Rattle.std.specs.Prelude.{◌≡◌, ℕ, ◌+◌, [], IfOk, OnOk, IfSome, IfNone};
-ghost use Rattle.search_nodes.specs.declared.nodes.Node.{Node};
-ghost use Rattle.search_machine.specs.Bags.{weigh, Every};
+ghost use Rattle.certificate.specs.declared.nodes.Node.{Node};
+ghost use Rattle.search_core.specs.Bags.{weigh, Every};
 ghost use Rattle.node_racks.specs.Racks.{IsPassAt, took_weight, put_weight};
 ghost use Rattle.crew_turns.specs.Deeds.{EachHalf, halves_weight};
 
 use crate::deeds::Halves;
+use certificate::Node;
 use node_racks::{Pass, Rack, Wanted};
-use search_nodes::Node;
 use stow_data::NoMemory;
 
 // A node stolen from any other worker, the next one first.

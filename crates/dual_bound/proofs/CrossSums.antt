@@ -8,8 +8,8 @@ use Rattle.std.proofs.lemmas.Bool.Decides.{nat_tests}
 use Rattle.std.proofs.lemmas.List.Sums.{sum_by-cons}
 use Rattle.proof_trees.specs.Program.{sum_to}
 use Rattle.proof_trees.specs.Boxes.{Box, at}
-use Rattle.chain_rows.specs.Chains.{rises, is_length, is_chain, pairs_of}
-use Rattle.chain_rows.specs.RightSide.{right_side, all_kept_out, kept_out}
+use Rattle.zero_one_rows.specs.Chains.{rises, is_length, is_chain, pairs_of}
+use Rattle.zero_one_rows.specs.RightSide.{right_side, all_kept_out, kept_out}
 use Rattle.stow_data.specs.Ship.{same_length}
 use Rattle.zero_one_rows.specs.declared.program.Row.TheVariants.{Cross}
 use Rattle.zero_one_rows.specs.Variables.{Voyage, calls, kind, variables, var, is_rehandled}

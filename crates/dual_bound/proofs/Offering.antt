@@ -6,7 +6,7 @@ use borrow.Author.Differences.{ints}
 use Rattle.std.proofs.lemmas.Bool.{and_parts, ltb-true, leb-true, eqb-true}
 use Rattle.proof_trees.specs.Program.{where_set}
 use Rattle.proof_trees.specs.Boxes.{Box, at}
-use Rattle.chain_rows.specs.Chains.{is_chain, pairs_of}
+use Rattle.zero_one_rows.specs.Chains.{is_chain, pairs_of}
 use Rattle.zero_one_rows.specs.declared.program.Row.{Row}
 use Rattle.zero_one_rows.specs.declared.program.Row.TheVariants.{Flow, Start, Cell, Support, Twenty, Block, Hatch, Weight, Apart, Cross}
 use Rattle.zero_one_rows.specs.Variables.{Voyage, calls, variables, var}

@@ -5,8 +5,8 @@ use Rattle.std.specs.List.{sum_by}
 use Rattle.std.proofs.lemmas.Bool.Decides.{eqb_tells}
 use Rattle.std.proofs.lemmas.List.{get_or-set_same, get_or-set_other}
 use Rattle.std.proofs.lemmas.List.Sums.{sum_by-cons, count_by-le-length}
-use Rattle.chain_rows.specs.Gains.{gain, greatest_to, best_gain}
-use Rattle.chain_rows.proofs.Signed.{unsigned_side}
+use Rattle.zero_one_rows.specs.Gains.{gain, greatest_to, best_gain}
+use Rattle.zero_one_rows.proofs.Signed.{unsigned_side}
 use Rattle.stow_data.specs.Ship.{Ship}
 use Rattle.stow_data.specs.Shipment.{Cargo}
 use Rattle.zero_one_rows.specs.Crossing.{columns, tallest, length_of, load_of, is_of_load, crossing_side}

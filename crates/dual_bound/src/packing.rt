@@ -6,16 +6,15 @@
 //! taken once more, and these weights grow by a tenth. What was taken is scaled to the room, and what stays free is filled by the
 //! chains that bring most.
 ghost use Rattle.std.specs.Prelude.{◌≡◌, ℕ, ◌<◌, ◌≤◌, ◌^◌, length, unsigned_abs};
-ghost use Rattle.chain_rows.specs.Chains.{pairs_of};
+ghost use Rattle.zero_one_rows.specs.Chains.{pairs_of};
 ghost use Rattle.dual_bound.specs.Costs.{number_at};
 
 use crate::best_pairs::{PAIRS, most_of};
 use crate::pairs::{PairSides, PairTable};
 use crate::tracing::chain_of;
-use chain_rows::{Chain, pair_at, pair_count};
 use std::alloc::Global;
 use stow_data::NoMemory;
-use zero_one_rows::Row;
+use zero_one_rows::{Chain, Row, pair_at, pair_count};
 
 /// The room of each pair.
 const ROOM: u64 = 16;

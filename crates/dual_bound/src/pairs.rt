@@ -9,12 +9,11 @@ ghost use Rattle.dual_bound.specs.Costs.{number_at, gap};
 ghost use Rattle.dual_bound.specs.Pairs.{own_part, AreParts, AreSides, IsKey, IsKeyOf, AreKeys, ArePairs, AreGained};
 
 use crate::best_pairs::PAIRS;
-use chain_rows::Chain;
-use flat_lists::FlatLists;
 use std::alloc::Global;
 use stow_data::{Cargo, Kinds, Length, NoMemory, Seq, Ship, VarNo, kinds};
+use sum_matrix::FlatLists;
 use zero_one_model::{Box01, Model};
-use zero_one_rows::{Row, Var, columns, kind_at, right_side, tallest, variables_stand_once};
+use zero_one_rows::{Chain, Row, Var, columns, kind_at, right_side, tallest, variables_stand_once};
 
 /// The columns of a length, and for each price from 1 what each pair of calls brings, but for its variables.
 #[derive(Drop)]

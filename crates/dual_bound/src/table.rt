@@ -10,9 +10,9 @@ ghost use Rattle.dual_bound.specs.Pairs.{ArePairs};
 use crate::pairs::PairTable;
 use crate::terms::terms_of;
 use base_matrix::{BaseMatrix, Term};
-use flat_lists::FlatLists;
 use std::alloc::Global;
 use stow_data::{NoMemory, Seq};
+use sum_matrix::FlatLists;
 use zero_one_model::Model;
 
 /// The most terms of crossing rows that are kept.

@@ -4,7 +4,7 @@ ghost use Rattle.dual_bound.specs.Climbs.{AreWorths};
 
 use crate::best_pairs::{Best, best_from, most_at, most_of};
 use arrayvec::ArrayVec;
-use chain_rows::Chain;
+use zero_one_rows::Chain;
 
 // The calls of the pairs so far, and the least destination of the next one.
 #[derive(Drop)]

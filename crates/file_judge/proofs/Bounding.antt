@@ -11,7 +11,7 @@ use Rattle.certificate.specs.declared.tree.Outcome.{Outcome}
 use Rattle.certificate.specs.declared.tree.Outcome.TheVariants.{Optimal, Gap, NoPlan, Undecided}
 use Rattle.certificate.specs.declared.tree.Record.{Record}
 use Rattle.bound_checker.specs.Entries.{ProvesBound}
-use Rattle.solution_meaning.specs.Laws.{IsVoyageBound, HasNoVoyage, most_lifts}
+use Rattle.model_bridge.specs.Laws.{IsVoyageBound, HasNoVoyage, most_lifts}
 use Rattle.file_judge.specs.declared.refusals.JudgeNo.{JudgeNo}
 use Rattle.file_judge.specs.declared.refusals.JudgeNo.TheVariants.{Text, Plan, Bound, Numbers, NoMemory}
 use Rattle.file_judge.specs.Files.{AreLegal, FilesTake, IsFilesNo, IsTakenNo}

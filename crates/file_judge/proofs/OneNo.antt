@@ -19,11 +19,11 @@ use Rattle.certificate.specs.Entries.{same_row, entry_of}
 use Rattle.bound_checker.specs.Entries.{ProvesBound}
 use Rattle.bound_checker.specs.Faults.{first_fault}
 use Rattle.bound_checker.proofs.Bounding.{proves_nowhere}
-use Rattle.solution_meaning.specs.Laws.{IsProblem, most_lifts}
+use Rattle.model_bridge.specs.Laws.{IsProblem, most_lifts}
 use Rattle.plan_files.specs.Shown.{shown_by}
-use Rattle.plan_checker.specs.declared.faults.PlanNo.{PlanNo}
-use Rattle.plan_checker.specs.Checked.{HasRehandles, IsPlanNo}
-use Rattle.plan_checker.proofs.Files.{not_refused}
+use Rattle.plan_files.specs.declared.plan_faults.PlanNo.{PlanNo}
+use Rattle.plan_files.specs.Checked.{HasRehandles, IsPlanNo}
+use Rattle.plan_files.proofs.Files.{not_refused}
 use Rattle.stow_report.specs.declared.numbers.NumbersNo.{NumbersNo}
 use Rattle.stow_report.specs.declared.numbers.NumbersNo.TheVariants.{Rehandles, Nodes, Outcome}
 use Rattle.voyage_inputs.proofs.OneMessage.{message_not_fault, one_baplie_fault, one_message}

@@ -11,12 +11,12 @@ use Rattle.voyage_meaning.specs.Voyage.{HasCount}
 use Rattle.plan_lifts.specs.Lifted.{IsFirstIllegal}
 use Rattle.baplie.specs.declared.parts.Message.{Message}
 use Rattle.plan_files.specs.Shown.{ShowAll, Shows, shown_by}
-use Rattle.shown_plans.specs.declared.faults.FileNo.{FileNo}
-use Rattle.shown_plans.specs.PlanOf.{plan_of}
-use Rattle.shown_plans.proofs.Shown.{shows_told}
-use Rattle.plan_checker.specs.declared.faults.PlanNo.{PlanNo}
-use Rattle.plan_checker.specs.declared.faults.PlanNo.TheVariants.{File, Rule, NoMemory}
-use Rattle.plan_checker.specs.Checked.{HasRehandles, IsPlanNo, IsUnshown}
+use Rattle.plan_files.specs.declared.file_faults.FileNo.{FileNo}
+use Rattle.plan_files.specs.PlanOf.{plan_of}
+use Rattle.plan_files.proofs.Shown.{shows_told}
+use Rattle.plan_files.specs.declared.plan_faults.PlanNo.{PlanNo}
+use Rattle.plan_files.specs.declared.plan_faults.PlanNo.TheVariants.{File, Rule, NoMemory}
+use Rattle.plan_files.specs.Checked.{HasRehandles, IsPlanNo, IsUnshown}
 use Rattle.file_judge.proofs.OneRule.{one_rule}
 
 same_ok : {A E : Type 0} (r : Result A E) (a b : A) → r ≡ Ok a → r ≡ Ok b → a ≡ b

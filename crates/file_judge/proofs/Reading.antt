@@ -10,7 +10,7 @@ use Rattle.baplie.specs.Messages.{IsMessageOf}
 use Rattle.baplie.specs.declared.faults.BaplieFault.{BaplieFault}
 use Rattle.arrival_plan.specs.Settled.{AreRead}
 use Rattle.plan_files.specs.Shown.{shown_by}
-use Rattle.plan_checker.specs.Checked.{HasRehandles}
+use Rattle.plan_files.specs.Checked.{HasRehandles}
 use Rattle.file_judge.specs.declared.refusals.JudgeNo.{JudgeNo}
 use Rattle.file_judge.specs.declared.refusals.JudgeNo.TheVariants.{Text, Plan, Bound, Numbers, NoMemory}
 use Rattle.file_judge.specs.Files.{AreLegal, AreMessages, HasTextFault, IsFirstFaulty, IsSetNo, IsTakenNo, IsTextNo, IsTextsNo}

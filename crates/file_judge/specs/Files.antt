@@ -8,9 +8,9 @@ use Rattle.baplie.specs.declared.faults.BaplieFault.{BaplieFault}
 use Rattle.baplie.specs.declared.faults.BaplieFault.TheVariants as baplie
 use Rattle.baplie.specs.Reading.{IsBaplieFault}
 use Rattle.plan_files.specs.Shown.{shown_by}
-use Rattle.plan_checker.specs.declared.faults.PlanNo.{PlanNo}
-use Rattle.plan_checker.specs.declared.faults.PlanNo.TheVariants as plan
-use Rattle.plan_checker.specs.Checked.{HasRehandles, IsPlanNo}
+use Rattle.plan_files.specs.declared.plan_faults.PlanNo.{PlanNo}
+use Rattle.plan_files.specs.declared.plan_faults.PlanNo.TheVariants as plan
+use Rattle.plan_files.specs.Checked.{HasRehandles, IsPlanNo}
 use Rattle.file_judge.specs.declared.refusals.JudgeNo.{JudgeNo}
 use Rattle.file_judge.specs.declared.refusals.JudgeNo.TheVariants.{Text, Plan, Bound, Numbers, NoMemory}
 

@@ -10,7 +10,7 @@ use Rattle.certificate.specs.declared.tree.End.TheVariants.{Leaf, Left, Branch}
 use Rattle.certificate.specs.declared.refusals.BoundNo.{BoundNo}
 use Rattle.bound_checker.specs.Entries.{ProvesBound}
 use Rattle.bound_checker.specs.Faults.{first_fault}
-use Rattle.solution_meaning.specs.Laws.{IsVoyageBound, HasNoVoyage, most_lifts}
+use Rattle.model_bridge.specs.Laws.{IsVoyageBound, HasNoVoyage, most_lifts}
 use Rattle.stow_report.specs.declared.numbers.NumbersNo.{NumbersNo}
 use Rattle.stow_report.specs.declared.numbers.NumbersNo.TheVariants as numbers
 use Rattle.file_judge.specs.declared.refusals.JudgeNo.{JudgeNo}

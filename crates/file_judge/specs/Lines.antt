@@ -1,5 +1,5 @@
 -- The line of a refusal.
-use Rattle.plan_checker.specs.declared.faults.PlanNo.TheVariants as plan
+use Rattle.plan_files.specs.declared.plan_faults.PlanNo.TheVariants as plan
 use Rattle.stow_report.specs.declared.lines.Line.{Line}
 use Rattle.stow_report.specs.Departures.{departure_line, plan_line}
 use Rattle.stow_report.specs.Numbers.{numbers_line}

@@ -1,7 +1,7 @@
 //! The parts of a check, in their order.
 ghost use Rattle.std.specs.Prelude.{◌≡◌, ◌<◌, ◌≤◌, ◌^◌, ◌+◌, All, IfErr, IsSome, MatchResult, OnOk, length, min};
 ghost use Rattle.bound_checker.specs.Entries.{ProvesBound};
-ghost use Rattle.solution_meaning.specs.Laws.{IsProblem, IsVoyageBound, HasNoVoyage, most_lifts};
+ghost use Rattle.model_bridge.specs.Laws.{IsProblem, IsVoyageBound, HasNoVoyage, most_lifts};
 ghost use Rattle.file_judge.specs.Judged.{Bounds, Holds, IsNo, IsTreeNo, checked};
 
 use crate::numbers::numbers_no;
@@ -9,7 +9,7 @@ use crate::refusals::JudgeNo;
 use crate::texts::rehandles_found;
 use bound_checker::{BoundNo, check_bound};
 use certificate::{Head, Tree};
-use solution_meaning::bounds_are_of_voyages;
+use model_bridge::bounds_are_of_voyages;
 use std::alloc::Global;
 use stow_data::{Bytes, Cargo, Ship};
 use zero_one_model::Model;

@@ -3,7 +3,7 @@ ghost use Rattle.std.specs.Prelude.{◌≡◌, IfOk};
 ghost use Rattle.file_judge.specs.Lines.{line_of};
 
 use crate::refusals::JudgeNo;
-use plan_checker::PlanNo;
+use plan_files::PlanNo;
 use std::alloc::Global;
 use stow_data::NoMemory;
 use stow_report::{Line, bound_line, departure_line, numbers_line, plan_line};

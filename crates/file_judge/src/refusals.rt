@@ -4,7 +4,7 @@ ghost use Rattle.file_judge.specs.declared.refusals.JudgeNo.TheVariants.{NoMemor
 
 use baplie::BaplieFault;
 use certificate::BoundNo;
-use plan_checker::PlanNo;
+use plan_files::PlanNo;
 use stow_data::{CallNo, NoMemory};
 use stow_report::NumbersNo;
 

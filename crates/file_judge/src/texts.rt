@@ -3,12 +3,12 @@ ghost use Rattle.std.specs.Prelude.{◌≡◌, ◌≤◌, ◌<◌, ◌^◌, ◌+
 ghost use Rattle.stowage_rules.specs.Departure.{HasArrival};
 ghost use Rattle.baplie.specs.Messages.{IsMessageOf};
 ghost use Rattle.plan_files.specs.Shown.{shown_by};
-ghost use Rattle.plan_checker.specs.Checked.{HasRehandles};
+ghost use Rattle.plan_files.specs.Checked.{HasRehandles};
 ghost use Rattle.file_judge.specs.Files.{AreLegal, AreMessages, FilesTake, IsFilesNo, IsSetNo, IsTakenNo, IsTextNo, IsTextsNo};
 
 use crate::refusals::JudgeNo;
 use baplie::{BaplieFault, Message, read_baplie};
-use plan_checker::{PlanNo, check_plan};
+use plan_files::{PlanNo, check_plan};
 use std::alloc::Global;
 use stow_data::{Bytes, CallNo, Cargo, Seq, Ship};
 

@@ -9,11 +9,11 @@ use Rattle.proof_trees.specs.Boxes.{Box, at, tight, tight_at, violated}
 use Rattle.zero_one_rows.specs.declared.program.Row.{Row}
 use Rattle.zero_one_rows.specs.Variables.{Voyage, variables}
 use Rattle.zero_one_rows.specs.Rows.{whole}
-use Rattle.partial_plan.specs.Fixing.{free_in}
-use Rattle.partial_plan.specs.Forced.{forces, is_above}
-use Rattle.partial_plan.proofs.Summing.{same_or_other, unequal}
-use Rattle.partial_plan.proofs.Landing.{broken_is, landed, met_is, tight_by, tight_landed}
-use Rattle.partial_plan.proofs.Walking.{Partly, listed_all}
+use Rattle.base_matrix.specs.Fixing.{free_in}
+use Rattle.base_matrix.specs.Forced.{forces, is_above}
+use Rattle.base_matrix.proofs.Summing.{same_or_other, unequal}
+use Rattle.base_matrix.proofs.Landing.{broken_is, landed, met_is, tight_by, tight_landed}
+use Rattle.base_matrix.proofs.Walking.{Partly, listed_all}
 use Rattle.base_matrix.specs.declared.entries.Term.{Term}
 use Rattle.kept_box.specs.declared.slacks.Slacks.{Slacks}
 use Rattle.kept_box.specs.declared.desk.Desk.{Desk}

@@ -9,7 +9,7 @@ use Rattle.zero_one_rows.specs.declared.program.Row.{Row}
 use Rattle.zero_one_rows.specs.Variables.{Voyage}
 use Rattle.zero_one_rows.specs.Rows.{whole}
 use Rattle.program_rows.specs.Counted.{base_rows}
-use Rattle.partial_plan.proofs.Summing.{same_or_other}
+use Rattle.base_matrix.proofs.Summing.{same_or_other}
 use Rattle.kept_box.specs.declared.slacks.Slacks.{Slacks}
 use Rattle.base_matrix.specs.Terms.{row_at}
 use Rattle.kept_box.specs.Waiting.{number_at}

@@ -14,10 +14,10 @@ use Rattle.zero_one_rows.specs.Variables.{Voyage, variables}
 use Rattle.zero_one_rows.specs.Rows.{whole}
 use Rattle.program_rows.specs.Counted.{base_rows}
 use Rattle.program_rows.specs.Ordered.{ListsBaseRows}
-use Rattle.partial_plan.specs.Forced.{forces, is_above}
-use Rattle.partial_plan.specs.Tightening.{IsCalm, IsQuiet}
-use Rattle.partial_plan.proofs.Summing.{same_or_other, equal, unequal, sum_one}
-use Rattle.partial_plan.proofs.Landing.{landed, met_is, most_less, tight_by, tight_landed}
+use Rattle.base_matrix.specs.Forced.{forces, is_above}
+use Rattle.base_matrix.specs.Tightening.{IsCalm, IsQuiet}
+use Rattle.base_matrix.proofs.Summing.{same_or_other, equal, unequal, sum_one}
+use Rattle.base_matrix.proofs.Landing.{landed, met_is, most_less, tight_by, tight_landed}
 use Rattle.kept_box.specs.declared.slacks.Slacks.{Slacks}
 use Rattle.base_matrix.specs.Terms.{count, row_at, slack_in, loss}
 use Rattle.base_matrix.specs.Terms.{IsSmall}

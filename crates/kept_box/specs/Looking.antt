@@ -3,10 +3,10 @@ use Rattle.std.specs.Prelude.{◌≡◌, ℕ, ◌<◌, true, false, All, List, l
 use Rattle.proof_trees.specs.Boxes.{Box, at, violated}
 use Rattle.zero_one_rows.specs.Variables.{Voyage}
 use Rattle.zero_one_rows.specs.Rows.{base, whole}
-use Rattle.partial_plan.specs.declared.tightening.Tightened.{Tightened}
-use Rattle.partial_plan.specs.declared.tightening.Tightened.TheVariants.{Quiet, Violated, NoMemory}
-use Rattle.partial_plan.specs.Forced.{forces}
-use Rattle.partial_plan.specs.Tightening.{IsQuiet}
+use Rattle.base_matrix.specs.declared.tightening.Tightened.{Tightened}
+use Rattle.base_matrix.specs.declared.tightening.Tightened.TheVariants.{Quiet, Violated, NoMemory}
+use Rattle.base_matrix.specs.Forced.{forces}
+use Rattle.base_matrix.specs.Tightening.{IsQuiet}
 use Rattle.base_matrix.specs.declared.entries.Term.{Term}
 
 -- a row of these terms with this slack forces none of its variables, or one

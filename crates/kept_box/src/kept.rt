@@ -5,13 +5,12 @@ ghost use Rattle.zero_one_rows.specs.declared.program.Row.{Row};
 ghost use Rattle.zero_one_rows.specs.Variables.{variables};
 ghost use Rattle.zero_one_rows.specs.Rows.{base, whole};
 ghost use Rattle.program_rows.specs.Counted.{base_rows};
-ghost use Rattle.partial_plan.specs.Fixing.{Fixes, released};
-ghost use Rattle.partial_plan.specs.Tightening.{IsQuiet, Tightens};
+ghost use Rattle.base_matrix.specs.Fixing.{Fixes, released};
+ghost use Rattle.base_matrix.specs.Tightening.{IsQuiet, Tightens};
 
 use crate::desk::Desk;
 use crate::slacks::Slacks;
-use base_matrix::{BaseMatrix, Term};
-use partial_plan::Tightened;
+use base_matrix::{BaseMatrix, Term, Tightened};
 use std::alloc::Global;
 use stow_data::{NoMemory, VarNo};
 use zero_one_model::Box01;

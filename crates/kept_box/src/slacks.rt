@@ -5,9 +5,9 @@ ghost use Rattle.base_matrix.specs.Terms.{loses, lost, lost_by};
 ghost use Rattle.kept_box.specs.Waiting.{number_at, waits_at, waiting_in, Marked, IsShort};
 
 use base_matrix::{Loss, Share};
-use flat_lists::FlatLists;
 use std::alloc::Global;
 use stow_data::NoMemory;
+use sum_matrix::FlatLists;
 
 // The slack of each base row, whether it waits to be looked at, how many rows wait, and hints where to look; a hint may be wrong or missing.
 #[derive(Drop)]

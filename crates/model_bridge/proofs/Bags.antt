@@ -10,10 +10,10 @@ use Rattle.proof_trees.specs.Program.{sum_to, where_set}
 use Rattle.stow_data.proofs.Members.{Member, range-more, range_at}
 use Rattle.stow_data.proofs.Distinct.{Each, each_at, each_from}
 use Rattle.zero_one_rows.proofs.Listing.{filter_at, get_member, member_get}
-use Rattle.solution_meaning.proofs.Match.{total, total_append, picked, total_picked}
-use Rattle.solution_meaning.proofs.Sums.{same_sum}
-use Rattle.solution_meaning.proofs.Sorting.{Rising}
-use Rattle.solution_meaning.proofs.Walk.{IsBag}
+use Rattle.model_bridge.proofs.Match.{total, total_append, picked, total_picked}
+use Rattle.model_bridge.proofs.Sums.{same_sum}
+use Rattle.model_bridge.proofs.Sorting.{Rising}
+use Rattle.model_bridge.proofs.Walk.{IsBag}
 
 -- how far above, and below, 0
 abbrev up : ℤ → ℕ

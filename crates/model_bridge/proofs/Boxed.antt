@@ -11,7 +11,7 @@ use Rattle.zero_one_rows.specs.declared.program.Row.{Row}
 use Rattle.zero_one_rows.specs.Variables.{Voyage, variables}
 use Rattle.zero_one_rows.specs.Rows.{base, whole, IsSolution}
 use Rattle.stowage_rules.proofs.Items.{slice_get-set_other, slice_get-set_same}
-use Rattle.solution_meaning.proofs.Sums.{same_sum}
+use Rattle.model_bridge.proofs.Sums.{same_sum}
 use Rattle.model_bridge.specs.Pairs.{is_one}
 use Rattle.model_bridge.specs.Sailed.{IsFull, BreaksNone}
 use Rattle.model_bridge.specs.Assigned.{BreaksNoRow, Costs, IsBoxOf}

@@ -7,12 +7,12 @@ use Rattle.proof_trees.specs.Boxes.{Box}
 use Rattle.stow_data.specs.Plans.{Plan}
 use Rattle.zero_one_rows.specs.Variables.{Voyage, calls}
 use Rattle.zero_one_rows.specs.Rows.{IsSolution, is_call}
-use Rattle.solution_meaning.specs.Laws.{IsProblem}
-use Rattle.solution_meaning.proofs.Match.{each_more}
-use Rattle.solution_meaning.proofs.Calls.{IsPair, IsHeld}
-use Rattle.solution_meaning.proofs.Known.{facts}
-use Rattle.solution_meaning.proofs.Walk.{ArePlansOf, IsHeldNext, matched_next}
-use Rattle.solution_meaning.proofs.First.{arrival_pairs, held_first, made_plans_sail}
+use Rattle.model_bridge.specs.Laws.{IsProblem}
+use Rattle.model_bridge.proofs.Match.{each_more}
+use Rattle.model_bridge.proofs.Calls.{IsPair, IsHeld}
+use Rattle.model_bridge.proofs.Known.{facts}
+use Rattle.model_bridge.proofs.Walk.{ArePlansOf, IsHeldNext, matched_next}
+use Rattle.model_bridge.proofs.First.{arrival_pairs, held_first, made_plans_sail}
 use Rattle.model_bridge.specs.Pairs.{Pairs, ones, listed_ones, pair_at_arrival, IsNextHeld, plan_of_pairs}
 use Rattle.model_bridge.specs.Sailed.{AreSailed}
 use Rattle.model_bridge.proofs.Steps.{arrivals, plans_are, ones_are, next_is}

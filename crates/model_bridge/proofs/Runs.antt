@@ -5,8 +5,8 @@ use Rattle.std.proofs.lemmas.Bool.{eq-eqb, ne_eqb, lt-ltb, le-ltb, false≢true}
 use Rattle.stow_data.specs.Plans.{Plan}
 use Rattle.zero_one_rows.specs.declared.program.Var.{Var}
 use Rattle.zero_one_rows.specs.Variables.{Voyage, calls}
-use Rattle.solution_meaning.proofs.Words.{any_below}
-use Rattle.solution_meaning.proofs.Stays.{kept, is_kind, passes, assigned}
+use Rattle.model_bridge.proofs.Words.{any_below}
+use Rattle.model_bridge.proofs.Stays.{kept, is_kind, passes, assigned}
 
 -- a test at one of two numbers
 cond_at : (k t u : Bool) (a b put : ℕ) → (k ≡ true → (a == put) ≡ t) → (k ≡ false → (b == put) ≡ u) → (cond k a b == put) ≡ cond k t u

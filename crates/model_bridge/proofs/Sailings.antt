@@ -25,16 +25,16 @@ use Rattle.zero_one_rows.specs.declared.program.Var.{Var}
 use Rattle.zero_one_rows.specs.Variables.{Voyage, variables, var, calls}
 use Rattle.zero_one_rows.specs.Rows.{base, IsSolution, is_filled}
 use Rattle.zero_one_rows.proofs.Listing.{var_listed}
-use Rattle.crossing_law.proofs.Worlds.{total_to}
-use Rattle.crossing_law.proofs.KindFacts.{total_front}
-use Rattle.solution_meaning.specs.Laws.{IsProblem}
-use Rattle.solution_meaning.proofs.Words.{kind_at}
-use Rattle.solution_meaning.proofs.Stays.{IsSailed, kept, is_kind, assignment}
-use Rattle.solution_meaning.proofs.Sums.{same_sum}
-use Rattle.solution_meaning.proofs.Known.{facts}
-use Rattle.solution_meaning.proofs.Runs.{at_index}
-use Rattle.solution_meaning.proofs.Voyage.{ends_at}
-use Rattle.solution_meaning.proofs.Final.{is_solution, call_cost, cost_is}
+use Rattle.zero_one_rows.proofs.Worlds.{total_to}
+use Rattle.zero_one_rows.proofs.KindFacts.{total_front}
+use Rattle.model_bridge.specs.Laws.{IsProblem}
+use Rattle.model_bridge.proofs.Words.{kind_at}
+use Rattle.model_bridge.proofs.Stays.{IsSailed, kept, is_kind, assignment}
+use Rattle.model_bridge.proofs.Sums.{same_sum}
+use Rattle.model_bridge.proofs.Known.{facts}
+use Rattle.model_bridge.proofs.PlaceRuns.{at_index}
+use Rattle.model_bridge.proofs.Voyage.{ends_at}
+use Rattle.model_bridge.proofs.Final.{is_solution, call_cost, cost_is}
 use Rattle.model_bridge.specs.Pairs.{each_kind}
 use Rattle.model_bridge.specs.Stays.{plan_after, is_left, is_lifted, began, begins, begin_table, begin_in, is_of, is_run, is_stay, IsWithin}
 use Rattle.model_bridge.proofs.Tables.{given_at, given_long}

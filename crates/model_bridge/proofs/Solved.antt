@@ -8,7 +8,7 @@ use Rattle.voyage_meaning.specs.Voyage.{HasCount}
 use Rattle.plan_lifts.specs.Lifted.{IsLifted}
 use Rattle.zero_one_rows.specs.Variables.{Voyage, variables, var, calls}
 use Rattle.zero_one_rows.specs.Rows.{CrossingRowsHold}
-use Rattle.solution_meaning.specs.Laws.{IsProblem}
+use Rattle.model_bridge.specs.Laws.{IsProblem}
 use Rattle.model_bridge.specs.Pairs.{each_kind}
 use Rattle.model_bridge.specs.Sailed.{IsFull, BreaksNone}
 use Rattle.model_bridge.specs.Stays.{began, begins, begin_table, begin_in, is_stay, IsWithin}

@@ -12,14 +12,14 @@ use Rattle.stow_data.specs.Ship.{places}
 use Rattle.stow_data.proofs.Distinct.{Each, each_from}
 use Rattle.zero_one_rows.specs.Variables.{Voyage, variables, var}
 use Rattle.zero_one_rows.specs.Rows.{base, IsSolution}
-use Rattle.solution_meaning.proofs.Words.{container, kind_at}
-use Rattle.solution_meaning.proofs.Sums.{same_sum}
-use Rattle.solution_meaning.proofs.Match.{total, total_append, picked, each_append, each_picked}
-use Rattle.solution_meaning.proofs.Members.{empties, plan_from}
-use Rattle.solution_meaning.proofs.Plans.{spot}
-use Rattle.solution_meaning.proofs.Calls.{kept, freed as freed_from, gone, each_freed}
-use Rattle.solution_meaning.proofs.Walk.{IsBag, IsHeldNext, each_bag}
-use Rattle.solution_meaning.proofs.First.{arrival_pairs, with_pair, AreOnes}
+use Rattle.model_bridge.proofs.Words.{container, kind_at}
+use Rattle.model_bridge.proofs.Sums.{same_sum}
+use Rattle.model_bridge.proofs.Match.{total, total_append, picked, each_append, each_picked}
+use Rattle.model_bridge.proofs.Members.{empties, plan_from}
+use Rattle.model_bridge.proofs.Departures.{spot}
+use Rattle.model_bridge.proofs.Calls.{kept, freed as freed_from, gone, each_freed}
+use Rattle.model_bridge.proofs.Walk.{IsBag, IsHeldNext, each_bag}
+use Rattle.model_bridge.proofs.First.{arrival_pairs, with_pair, AreOnes}
 use Rattle.model_bridge.specs.Pairs.{Pairs, ones, is_one, pair_with, pair_at_arrival, listed_ones, stays, is_freed, freed, loads, loading_at, is_put, kind_of_var, each_kind, IsNextHeld, plan_of_pairs}
 use Rattle.model_bridge.specs.Sailed.{IsFull, BreaksNone}
 use Rattle.model_bridge.proofs.Bags.{permuted, listed_bag, listed_picked, twice_picked, each_listed, rising_from}

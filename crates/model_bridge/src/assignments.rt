@@ -5,7 +5,7 @@ ghost use Rattle.stowage_rules.specs.Plan.{Holds};
 ghost use Rattle.voyage_meaning.specs.Voyage.{HasCount};
 ghost use Rattle.plan_lifts.specs.Lifted.{IsLifted};
 ghost use Rattle.zero_one_rows.specs.Variables.{variables, var};
-ghost use Rattle.solution_meaning.specs.Laws.{IsProblem};
+ghost use Rattle.model_bridge.specs.Laws.{IsProblem};
 ghost use Rattle.model_bridge.specs.Sailed.{IsFull, BreaksNone};
 ghost use Rattle.model_bridge.specs.Pairs.{each_kind};
 ghost use Rattle.model_bridge.specs.Stays.{begin_in, is_of, is_run, is_stay, IsWithin};
@@ -13,12 +13,11 @@ ghost use Rattle.model_bridge.specs.Assigned.{AreStays, BreaksNoRow, Costs, IsBo
 
 use crate::begins::{BeginTable, begin_table, plan_after};
 use crate::pairs::{KindList, box_kinds};
-use crossing_law::crossing_rows_hold;
 use plan_lifts::Lifted;
 use std::alloc::Global;
 use stow_data::{CallNo, Cargo, KindNo, NoMemory, PlaceNo, Plan, PlanList, Ship, VarNo};
 use zero_one_model::{Box01, Model};
-use zero_one_rows::Var;
+use zero_one_rows::{Var, crossing_rows_hold};
 
 /// Whether a container of the kind stands at a place.
 fn is_of_kind(kinds: &KindList, plan: &Plan, p: PlaceNo, kind: KindNo) -> bool

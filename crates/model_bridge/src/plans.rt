@@ -1,7 +1,7 @@
 //! The departures of a solution.
 ghost use Rattle.std.specs.Prelude.{◌≡◌, ◌<◌, ◌++◌, ◌∷◌, [], All, IfOk, OnOk, length};
 ghost use Rattle.zero_one_rows.specs.Variables.{variables};
-ghost use Rattle.solution_meaning.specs.Laws.{IsProblem};
+ghost use Rattle.model_bridge.specs.Laws.{IsProblem};
 ghost use Rattle.model_bridge.specs.Pairs.{each_kind, plan_of_pairs};
 ghost use Rattle.model_bridge.specs.Sailed.{IsFull, BreaksNone, AreSailed};
 

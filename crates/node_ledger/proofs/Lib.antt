@@ -1,4 +1,3 @@
 mod Numbering
 mod Shuffles
 mod Order
-mod Samples

@@ -5,8 +5,8 @@ use Rattle.zero_one_rows.specs.declared.program.Row.{Row}
 use Rattle.certificate.specs.declared.tree.End.{End}
 use Rattle.certificate.specs.declared.tree.End.TheVariants.{Leaf, Left, Branch}
 use Rattle.certificate.specs.declared.journals.Entry.{Entry}
-use Rattle.search_machine.specs.Bags.{weigh, Every}
-use Rattle.search_machine.specs.Journals.{Path, Placed, branches, is_left, halves, left_at, all_nodes}
+use Rattle.search_core.specs.Bags.{weigh, Every}
+use Rattle.search_core.specs.Journals.{Path, Placed, branches, is_left, halves, left_at, all_nodes}
 use Rattle.certificate.specs.Entries.{end_of, record_of}
 use Rattle.node_ledger.specs.Gathered.{entries, placed, AreWhole}
 use Rattle.node_ledger.specs.Preorder.{left_node}

@@ -6,8 +6,8 @@ use Rattle.std.specs.Ordering.{is_lt}
 use Rattle.std.proofs.lemmas.List.Sorted.{ranks_by, sorted_far}
 use Rattle.certificate.specs.declared.journals.Entry.{Entry as Line}
 use Rattle.proof_trees.specs.Trees.{Entry}
-use Rattle.search_machine.specs.Bags.{Every}
-use Rattle.search_machine.specs.Journals.{Path, Placed, Tree, Tip, Fork, preorder, root_of, roots, in_half, half, Gathers, under}
+use Rattle.search_core.specs.Bags.{Every}
+use Rattle.search_core.specs.Journals.{Path, Placed, Tree, Tip, Fork, preorder, root_of, roots, in_half, half, Gathers, under}
 use Rattle.node_ledger.specs.Preorder.{by_preorder, InPreorder}
 
 abbrev before : Path → Path → Bool

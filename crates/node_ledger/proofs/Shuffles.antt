@@ -4,7 +4,7 @@ use Rattle.std.specs.List.{swap}
 use Rattle.std.specs.List.Sorted.{IsPermutation}
 use Rattle.std.proofs.lemmas.List.Sorted.{IsPermutation-keeps}
 use Rattle.proof_trees.specs.Trees.{Entry}
-use Rattle.search_machine.specs.Journals.{Path, Placed, Tree, Tip, Fork, root_of, roots, in_half, half, Gathers}
+use Rattle.search_core.specs.Journals.{Path, Placed, Tree, Tip, Fork, root_of, roots, in_half, half, Gathers}
 
 -- by exchanges of neighbours
 pub data Moved {X : Type 0} : List X → List X → Type 0 where

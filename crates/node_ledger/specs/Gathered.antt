@@ -6,7 +6,7 @@ use Rattle.zero_one_rows.specs.declared.program.Row.{Row}
 use Rattle.certificate.specs.declared.tree.Record.{Record}
 use Rattle.certificate.specs.declared.journals.Entry.{Entry}
 use Rattle.certificate.specs.Entries.{record_of}
-use Rattle.search_machine.specs.Journals.{Path, Placed, Whole, Tree, preorder, Gathers, all_nodes}
+use Rattle.search_core.specs.Journals.{Path, Placed, Whole, Tree, preorder, Gathers, all_nodes}
 
 -- all journals' entries, one journal after the other
 abbrev pub entries : List (List Entry) → List Entry

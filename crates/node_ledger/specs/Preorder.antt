@@ -6,7 +6,7 @@ use Rattle.std.specs.Cmp.Lexicographic.{slice_cmp}
 use Rattle.std.specs.List.Sorted.{IsSortedBy}
 use Rattle.certificate.specs.declared.tree.End.TheVariants.{Left}
 use Rattle.certificate.specs.declared.journals.Entry.{Entry}
-use Rattle.search_machine.specs.Journals.{Path}
+use Rattle.search_core.specs.Journals.{Path}
 
 -- by the first branch at which the paths part, where true comes first; else the shorter path comes first
 abbrev pub by_preorder : Path → Path → Ordering

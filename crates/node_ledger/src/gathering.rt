@@ -5,7 +5,7 @@ ghost use Rattle.node_ledger.specs.Gathered.{AreWhole, IsGathered};
 
 use crate::nodes::{every_node, sort_nodes};
 use certificate::{Entry, JournalList, PathList, Tree};
-use search_machine::journals_are_a_tree;
+use search_core::journals_are_a_tree;
 use std::alloc::Global;
 use stow_data::NoMemory;
 use zero_one_rows::Row;

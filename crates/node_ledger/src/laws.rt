@@ -6,11 +6,11 @@ ghost use Rattle.certificate.specs.declared.tree.Record.{Record};
 ghost use Rattle.certificate.specs.declared.journals.Entry.{Entry};
 ghost use Rattle.proof_trees.specs.Program.{Program};
 ghost use Rattle.proof_trees.specs.Trees.{Proves};
-ghost use Rattle.search_machine.specs.Journals.{Path, Settled, EachAllowed};
+ghost use Rattle.search_core.specs.Journals.{Path, Settled, EachAllowed};
 ghost use Rattle.certificate.specs.Entries.{record_of};
 ghost use Rattle.node_ledger.specs.Gathered.{placed_entries, nodes_of, AreWhole, IsGathered};
 
-use search_machine::journals_are_a_tree;
+use search_core::journals_are_a_tree;
 use zero_one_rows::Row;
 
 /// Gathered journals are one tree. What the rules of proof trees allow record by record settles the tree at that value, and proves it where no node was left.

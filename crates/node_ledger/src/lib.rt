@@ -4,8 +4,6 @@
 mod gathering;
 mod laws;
 mod nodes;
-#[cfg(test)]
-mod tests;
 
 pub use gathering::gather;
 pub use laws::gathered_journals_prove;

@@ -1,15 +1,15 @@
 -- Deques as their tokens come back.
 use Rattle.std.proofs.Common.{◌≡◌, ◌+◌, ◌<◌, ℕ, List, [], ◌∷◌, ◌++◌, length, Option, Some, None, option_to_list, ap, sym, subst, refl, arith}
-use Rattle.search_nodes.specs.declared.nodes.Node.{Node}
+use Rattle.certificate.specs.declared.nodes.Node.{Node}
 use Rattle.node_racks.specs.declared.rule.Hand.{Hand}
-use Rattle.search_machine.specs.Bags.{weigh, Every}
-use Rattle.search_machine.proofs.Weights.{every_append}
+use Rattle.search_core.specs.Bags.{weigh, Every}
+use Rattle.search_core.proofs.Weights.{every_append}
 use Rattle.node_racks.specs.Bags.{hand}
 use Rattle.node_racks.specs.Rounds.{Each, deques, own_put, own_took}
 use Rattle.crossbeam_deque.specs.Handles.{worker_deque, worker_view}
 use Rattle.crossbeam_deque.specs.declared.handles.Worker.{Worker}
 use Rattle.node_racks.specs.Racks.{stolen_weight}
-use Rattle.search_machine.proofs.Weights.{weigh_append}
+use Rattle.search_core.proofs.Weights.{weigh_append}
 use Rattle.crossbeam_deque.specs.Handles.{Pass}
 
 pub given : (h : Node → ℕ) (o t n : Hand) → n ≡ hand (o.parts + t.parts) (o.put ++ t.put) (o.took ++ t.took) → t.put ≡ [] → (weigh h n.put ≡ weigh h o.put) × (weigh h n.took ≡ weigh h o.took + weigh h t.took)

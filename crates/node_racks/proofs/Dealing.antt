@@ -6,9 +6,9 @@ use Rattle.atomic_blocks.specs.Lent.{RowsId}
 use Rattle.crossbeam_deque.specs.Handles.{Pass, IsPassOf, worker_deque, worker_flavor, worker_view, stealer_deque, stealer_flavor, view}
 use Rattle.crossbeam_deque.specs.declared.handles.Worker.{Worker}
 use Rattle.crossbeam_deque.specs.declared.handles.Stealer.{Stealer}
-use Rattle.search_nodes.specs.declared.nodes.Node.{Node}
-use Rattle.search_machine.specs.Bags.{weigh, Every}
-use Rattle.search_machine.proofs.Weights.{every_append, every_more, weigh_map}
+use Rattle.certificate.specs.declared.nodes.Node.{Node}
+use Rattle.search_core.specs.Bags.{weigh, Every}
+use Rattle.search_core.proofs.Weights.{every_append, every_more, weigh_map}
 use Rattle.node_racks.specs.declared.rule.Hand.{Hand}
 use Rattle.node_racks.specs.declared.rule.Fair.{Fair}
 use Rattle.node_racks.specs.declared.racks.Rack.{Rack}

@@ -6,11 +6,11 @@ use lib.ListN.{get_elem?}
 use Rattle.crossbeam_deque.specs.Tasks.{Pushes, Takes, Pops, Forks, Merges, Learns}
 use Rattle.crossbeam_deque.proofs.Lists.{at_set, at_snoc}
 use Rattle.std.proofs.Common.{Option, Some, None, IfSome}
-use Rattle.search_nodes.specs.declared.nodes.Node.{Node}
+use Rattle.certificate.specs.declared.nodes.Node.{Node}
 use Rattle.node_racks.specs.Rounds.{Each}
 use Rattle.node_racks.specs.declared.rule.Hand.{Hand}
-use Rattle.search_machine.specs.Bags.{weigh, Every}
-use Rattle.search_machine.proofs.Weights.{weigh_append, every_append, every_left, every_right}
+use Rattle.search_core.specs.Bags.{weigh, Every}
+use Rattle.search_core.proofs.Weights.{weigh_append, every_append, every_left, every_right}
 use Rattle.node_racks.specs.Bags.{hand, total, counted, Balanced, Took, Found}
 
 empty_weighs : (h : Node → ℕ) (xs : List Node) → length xs ≤ 0 → weigh h xs ≡ 0

@@ -1,3 +1,6 @@
+mod Moves
+mod Seats
+mod Tokens
 pub mod Backs
 pub mod Dealing
 pub mod Keeps

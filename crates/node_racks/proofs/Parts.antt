@@ -2,12 +2,12 @@ use Rattle.std.proofs.Common.{◌≡◌, ◌≢◌, ℕ, zero, suc, ◌+◌, ◌
 use Rattle.std.proofs.lemmas.List.{get_or-set_same, get_or-set_other}
 use Rattle.std.proofs.lemmas.Bool.Decides.{eqb_tells}
 use Rattle.crossbeam_deque.specs.Handles.{Pass, view}
-use Rattle.search_nodes.specs.declared.nodes.Node.{Node}
+use Rattle.certificate.specs.declared.nodes.Node.{Node}
 use Rattle.node_racks.specs.declared.rule.Hand.{Hand}
-use Rattle.search_machine.specs.Bags.{weigh}
+use Rattle.search_core.specs.Bags.{weigh}
 use Rattle.node_racks.specs.Bags.{hand}
 use Rattle.node_racks.specs.Racks.{stolen_weight}
-use Rattle.search_machine.proofs.Weights.{weigh_append}
+use Rattle.search_core.proofs.Weights.{weigh_append}
 
 same_or_other : (a b : ℕ) → (a ≡ b) ⊎ (a ≢ b)
 same_or_other a b = elim (eqb_tells a b) [ inl h ↦ inl h.1 | inr h ↦ inr h.1 ]

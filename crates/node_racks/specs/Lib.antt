@@ -1,3 +1,5 @@
+pub mod Rule
+pub mod Tokens
 pub mod Bags
 pub mod Racks
 pub mod Rounds

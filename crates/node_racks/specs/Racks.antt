@@ -1,11 +1,11 @@
 -- A rack of deques, and the pass of one worker.
 use Rattle.std.specs.Prelude.{◌≡◌, ℕ, zero, suc, ◌+◌, ◌<◌, ◌≤◌, List, [], ◌∷◌, length, map, All, slice_index_or}
 use Rattle.crossbeam_deque.specs.Handles.{Pass, view, IsPassOf, worker_flavor, worker_view, worker_deque, stealer_deque, stealer_flavor}
-use Rattle.search_nodes.specs.declared.nodes.Node.{Node}
+use Rattle.certificate.specs.declared.nodes.Node.{Node}
 use Rattle.node_racks.specs.declared.rule.Hand.{Hand}
 use Rattle.node_racks.specs.declared.racks.Rack.{Rack}
 use Rattle.node_racks.specs.declared.racks.Pass.{Pass as Passes}
-use Rattle.search_machine.specs.Bags.{weigh}
+use Rattle.search_core.specs.Bags.{weigh}
 
 module _ {A : Type 0} where
   abbrev pub stolen_weight : (Node → ℕ) → List (Pass Node Hand A) → ℕ

@@ -5,11 +5,11 @@ use Rattle.atomic_blocks.specs.Lent.{RowsId}
 use Rattle.crossbeam_deque.specs.Handles.{Pass, IsPassOf, worker_deque, worker_flavor, worker_view, stealer_deque, stealer_flavor, view}
 use Rattle.crossbeam_deque.specs.declared.handles.Worker.{Worker}
 use Rattle.crossbeam_deque.specs.declared.handles.Stealer.{Stealer}
-use Rattle.search_nodes.specs.declared.nodes.Node.{Node}
+use Rattle.certificate.specs.declared.nodes.Node.{Node}
 use Rattle.node_racks.specs.declared.rule.Hand.{Hand}
 use Rattle.node_racks.specs.declared.rule.Fair.{Fair}
 use Rattle.node_racks.specs.declared.racks.Pass.{Pass as Passes}
-use Rattle.search_machine.specs.Bags.{weigh, Every}
+use Rattle.search_core.specs.Bags.{weigh, Every}
 use Rattle.node_racks.specs.Bags.{hand}
 use Rattle.node_racks.specs.Racks.{stolen_weight}
 

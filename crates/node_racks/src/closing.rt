@@ -1,8 +1,8 @@
 //! How a rack is closed.
 ghost use Rattle.std.specs.Prelude.{◌≡◌, ℕ, ◌+◌, ◌-◌, ◌<◌, ◌≤◌, ◌++◌, [], List, MatchOption, option_to_list, IfOk, OnOk, length, map};
 ghost use Rattle.crossbeam_deque.specs.Handles.{IsPassOf, worker_deque, worker_flavor, worker_view, view};
-ghost use Rattle.search_nodes.specs.declared.nodes.Node.{Node};
-ghost use Rattle.search_machine.specs.Bags.{weigh, Every};
+ghost use Rattle.certificate.specs.declared.nodes.Node.{Node};
+ghost use Rattle.search_core.specs.Bags.{weigh, Every};
 ghost use Rattle.node_racks.specs.Racks.{stolen_weight, IsPassAt, AreAll, all_put, all_took};
 ghost use Rattle.node_racks.specs.Rounds.{Each, IsHeld, Fits, deques, own_of, own_put, own_took, row_of};
 
@@ -10,7 +10,7 @@ use crate::deques::{Deque, Token, give_back, rest};
 use crate::opening::Dealt;
 use crate::racks::{Pass, Rack};
 use crate::rule::Wanted;
-use search_nodes::Node;
+use certificate::Node;
 use std::alloc::Global;
 use stow_data::NoMemory;
 

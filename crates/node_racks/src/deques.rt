@@ -2,13 +2,13 @@
 
 ghost use Rattle.std.specs.Prelude.{◌≡◌, ℕ, ◌+◌, ◌-◌, ◌<◌, ◌⊎◌, ◌≤◌, ◌^◌, ◌++◌, ◌∷◌, [], length, All, IfOk, IfErr, IfSome, IfNone, OnOk, OnErr};
 ghost use Rattle.crossbeam_deque.specs.Handles.{view, IsPassOf, SamePass, taken, worker_deque, worker_flavor, worker_view, worker_capacity, worker_index, SameWorker, stealer_deque, stealer_flavor};
-ghost use Rattle.search_machine.specs.Bags.{weigh, Every};
+ghost use Rattle.search_core.specs.Bags.{weigh, Every};
 ghost use Rattle.node_racks.specs.Bags.{hand, Found};
-ghost use Rattle.search_nodes.specs.declared.nodes.Node.{Node};
+ghost use Rattle.certificate.specs.declared.nodes.Node.{Node};
 
 use crate::rule::{Cut, Fair, Hand, Pops, Puts, Takes, Total, Wanted};
+use certificate::Node;
 use crossbeam_deque::{Pass, Steal, Stealer, Worker};
-use search_nodes::Node;
 use std::alloc::Global;
 use stow_data::NoMemory;
 

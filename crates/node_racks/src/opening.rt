@@ -1,7 +1,7 @@
 //! How a rack is opened.
 ghost use Rattle.std.specs.Prelude.{◌≡◌, ◌-◌, ◌<◌, ◌≤◌, IfOk, ◌∷◌, length, map};
 ghost use Rattle.crossbeam_deque.specs.Handles.{worker_deque};
-ghost use Rattle.search_machine.specs.Bags.{Every};
+ghost use Rattle.search_core.specs.Bags.{Every};
 ghost use Rattle.node_racks.specs.Racks.{IsPassAt, IsFresh, AreAll, count_from, number_of};
 ghost use Rattle.node_racks.specs.Rounds.{Each, FitsNew, IsUnused, AreLifo, deques, own_of, row_of, stolen_from};
 

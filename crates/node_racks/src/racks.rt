@@ -3,11 +3,11 @@ ghost use Rattle.std.specs.Prelude.{◌≡◌, ℕ, ◌+◌, ◌<◌, ◌≤◌,
 ghost use Rattle.crossbeam_deque.specs.Handles.{view, worker_view, worker_capacity, worker_index};
 ghost use Rattle.node_racks.specs.Bags.{hand, Found};
 ghost use Rattle.node_racks.specs.Racks.{IsPassAt, took_weight};
-ghost use Rattle.search_nodes.specs.declared.nodes.Node.{Node};
+ghost use Rattle.certificate.specs.declared.nodes.Node.{Node};
 
 use crate::deques::{Deque, Thief, Token, put, steal, take};
 use crate::rule::Wanted;
-use search_nodes::Node;
+use certificate::Node;
 
 /// A deque for each worker, as thieves see them. `M` says what each node meets that is put.
 #[derive(Drop)]

@@ -1,13 +1,13 @@
 //! What the passes of a deque know, and the rule of its nodes.
 
+use certificate::Node;
 use crossbeam_deque::protocol::{Join, Lesson, Outcome, Protocol, Split};
-use search_nodes::Node;
 use std::collections::LinkedList;
 use std::marker::{Brand, PhantomData};
 
 /// What each node meets.
 pub trait Wanted {
-    ghost use Rattle.search_nodes.specs.declared.nodes.Node.{Node};
+    ghost use Rattle.certificate.specs.declared.nodes.Node.{Node};
 
     ghost meets: { Node → Type 0 };
 }
@@ -95,8 +95,8 @@ pub struct Total;
 
 impl Lesson<Node, Hand> for Total {
     ghost use Rattle.std.specs.Prelude.{◌≡◌, ◌+◌, ℕ};
-    ghost use Rattle.search_nodes.specs.declared.nodes.Node.{Node};
-    ghost use Rattle.search_machine.specs.Bags.{weigh};
+    ghost use Rattle.certificate.specs.declared.nodes.Node.{Node};
+    ghost use Rattle.search_core.specs.Bags.{weigh};
 
     ghost fact = { λ v items. (h : Node → ℕ) → weigh h v.put ≡ weigh h v.took + weigh h items };
 }

@@ -24,10 +24,10 @@ use Rattle.certificate.specs.declared.tree.End.{End}
 use Rattle.certificate.specs.declared.tree.End.TheVariants.{Leaf, Branch}
 use Rattle.certificate.specs.declared.tree.Record.{Record}
 use Rattle.certificate.specs.Entries.{same_row, raise_of, entry_of, end_of, number_of}
-use Rattle.search_machine.specs.Journals.{NamesRows, EndAllowed, Anything, known, branches, multipliers_after}
-use Rattle.search_machine.specs.Machine.{Divides, is_fixed, fixed_below, breaks_none, is_full, nat_of, price}
-use Rattle.partial_plan.specs.Full.{ones}
-use Rattle.partial_plan.specs.Tightening.{IsQuiet, ForceAll, Tightens}
+use Rattle.search_core.specs.Journals.{NamesRows, EndAllowed, Anything, known, branches, multipliers_after}
+use Rattle.search_core.specs.Machine.{Divides, is_fixed, fixed_below, breaks_none, is_full, nat_of, price}
+use Rattle.base_matrix.specs.Full.{ones}
+use Rattle.base_matrix.specs.Tightening.{IsQuiet, ForceAll, Tightens}
 use Rattle.dual_bound.specs.Raising.{IsRaise, RiseAll, IsStuck, Raises}
 use Rattle.node_work.specs.declared.worked.Worked.{Worked}
 use Rattle.node_work.specs.declared.worked.Worked.TheVariants.{Closed, Branched, Full, NoMemory}

@@ -9,8 +9,8 @@ use Rattle.proof_trees.specs.Boxes.{Box, at, fixed}
 use Rattle.certificate.specs.declared.tree.End.{End}
 use Rattle.certificate.specs.declared.tree.End.TheVariants.{Leaf, Left, Branch}
 use Rattle.certificate.specs.Entries.{end_of, number_of}
-use Rattle.search_machine.specs.Journals.{divided}
-use Rattle.search_machine.specs.Machine.{Divides}
+use Rattle.search_core.specs.Journals.{divided}
+use Rattle.search_core.specs.Machine.{Divides}
 use Rattle.node_work.proofs.Numbered.{number_is, number_none}
 
 module _ (m : Voyage) (b : Box) where

@@ -10,7 +10,7 @@ use Rattle.proof_trees.specs.Multipliers.{Multipliers, raised, raised_all}
 use Rattle.proof_trees.specs.Trees.{begun}
 use Rattle.certificate.specs.declared.tree.Record.{Record}
 use Rattle.certificate.specs.Entries.{same_row, raise_of}
-use Rattle.search_machine.specs.Journals.{known}
+use Rattle.search_core.specs.Journals.{known}
 use Rattle.dual_bound.specs.Raising.{IsRaise}
 use Rattle.node_work.specs.declared.stages.Stage.{Stage}
 use Rattle.node_work.specs.Starts.{priced, prices_along, InRange}

@@ -8,7 +8,7 @@ use Rattle.zero_one_rows.specs.declared.program.Raise.{Raise}
 use Rattle.proof_trees.specs.Multipliers.{Multipliers, amount_of, with_amount, changed_to, raised, raised_all}
 use Rattle.certificate.specs.Entries.{same_row, raise_of}
 use Rattle.certificate.proofs.RowsAlike.{same_itself}
-use Rattle.search_machine.specs.Journals.{known}
+use Rattle.search_core.specs.Journals.{known}
 use Rattle.dual_bound.specs.Gauging.{Gauging}
 use Rattle.node_work.proofs.Leading.{raised_append}
 

@@ -9,10 +9,10 @@ use Rattle.proof_trees.specs.Multipliers.{Multipliers}
 use Rattle.proof_trees.specs.Boxes.{Box}
 use Rattle.proof_trees.specs.Trees.{Pending, root}
 use Rattle.certificate.specs.declared.tree.Record.{Record}
-use Rattle.search_nodes.specs.declared.nodes.Node.{Node}
+use Rattle.certificate.specs.declared.nodes.Node.{Node}
 use Rattle.certificate.specs.Entries.{same_row, entry_of, raise_of}
-use Rattle.search_machine.specs.Journals.{Path, child, after, known}
-use Rattle.search_machine.specs.Machine.{IsTrail}
+use Rattle.search_core.specs.Journals.{Path, child, after, known}
+use Rattle.search_core.specs.Machine.{IsTrail}
 use Rattle.node_work.specs.Scales.{AreNamed}
 use Rattle.node_work.specs.Starts.{InRange, prices_along}
 use Rattle.node_work.specs.Work.{IsNode, begins_at}

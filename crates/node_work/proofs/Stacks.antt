@@ -7,9 +7,9 @@ use Rattle.zero_one_rows.specs.declared.program.Row.{Row}
 use Rattle.proof_trees.specs.Boxes.{Box}
 use Rattle.proof_trees.specs.Trees.{Pending}
 use Rattle.certificate.specs.Entries.{same_row, entry_of}
-use Rattle.search_machine.specs.Journals.{child, after}
-use Rattle.partial_plan.specs.Fixing.{freed, released, Fixes}
-use Rattle.partial_plan.proofs.Freeing.{freed_more}
+use Rattle.search_core.specs.Journals.{child, after}
+use Rattle.base_matrix.specs.Fixing.{freed, released, Fixes}
+use Rattle.base_matrix.proofs.Freeing.{freed_more}
 use Rattle.node_work.specs.declared.stands.Frame.{Frame}
 use Rattle.node_work.specs.Stands.{entry_in, value_in, half_under, box_along, IsFrame, Stacked}
 

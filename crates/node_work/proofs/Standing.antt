@@ -5,10 +5,10 @@ use Rattle.zero_one_rows.specs.Variables.{Voyage}
 use Rattle.zero_one_rows.specs.Rows.{whole}
 use Rattle.proof_trees.specs.Boxes.{Box, free_box, tightened}
 use Rattle.certificate.specs.Entries.{end_of, number_of}
-use Rattle.search_machine.specs.Journals.{divided}
-use Rattle.search_machine.specs.Machine.{Divides}
-use Rattle.partial_plan.specs.Fixing.{freed, released, Fixes}
-use Rattle.partial_plan.proofs.Freeing.{fixes_none}
+use Rattle.search_core.specs.Journals.{divided}
+use Rattle.search_core.specs.Machine.{Divides}
+use Rattle.base_matrix.specs.Fixing.{freed, released, Fixes}
+use Rattle.base_matrix.proofs.Freeing.{fixes_none}
 use Rattle.kept_box.specs.Kept.{Kept}
 use Rattle.node_work.specs.declared.stands.Frame.{Frame}
 use Rattle.node_work.specs.declared.stands.Stand.{Stand}

@@ -9,8 +9,8 @@ use Rattle.proof_trees.specs.Multipliers.{Multipliers}
 use Rattle.proof_trees.specs.Trees.{Entry, Pending}
 use Rattle.certificate.specs.declared.tree.Record.{Record}
 use Rattle.certificate.specs.Entries.{same_row, entry_of}
-use Rattle.search_machine.specs.Journals.{Path, box_after, child}
-use Rattle.search_machine.specs.Machine.{IsEntry, Divides, IsTrail}
+use Rattle.search_core.specs.Journals.{Path, box_after, child}
+use Rattle.search_core.specs.Machine.{IsEntry, Divides, IsTrail}
 use Rattle.node_work.proofs.Folds.{rest_cons, default_any}
 
 abbrev pub pending : Box → Multipliers Row → Pending Row

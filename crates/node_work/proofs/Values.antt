@@ -6,7 +6,7 @@ use Rattle.proof_trees.specs.Program.{Program, sum_to, where_set, cost_of}
 use Rattle.proof_trees.specs.Boxes.{Box, at, greatest, most, violated}
 use Rattle.proof_trees.specs.Multipliers.{least, worth, Closes}
 use Rattle.proof_trees.proofs.Sums.{times_sum, scaled_le}
-use Rattle.search_machine.specs.Machine.{bit_of, is_fixed, fixed_below, bits}
+use Rattle.search_core.specs.Machine.{bit_of, is_fixed, fixed_below, bits}
 
 and_left : (a b : Bool) → (a && b) ≡ true → a ≡ true
 and_left true b e = refl

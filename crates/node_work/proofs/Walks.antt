@@ -9,8 +9,8 @@ use Rattle.proof_trees.specs.Boxes.{Box, free_box, tightened}
 use Rattle.proof_trees.specs.Trees.{Pending, root}
 use Rattle.certificate.specs.declared.tree.Record.{Record}
 use Rattle.certificate.specs.Entries.{same_row, entry_of, end_of, number_of}
-use Rattle.search_machine.specs.Journals.{Path, box_after, child, after}
-use Rattle.search_machine.specs.Machine.{IsEntry, Divides, IsTrail}
+use Rattle.search_core.specs.Journals.{Path, box_after, child, after}
+use Rattle.search_core.specs.Machine.{IsEntry, Divides, IsTrail}
 use Rattle.node_work.specs.declared.stands.Frame.{Frame}
 use Rattle.node_work.specs.Stands.{entry_in, value_in, box_along}
 use Rattle.node_work.proofs.Trails.{entries, turns}

@@ -8,12 +8,12 @@ use Rattle.proof_trees.specs.Boxes.{Box}
 use Rattle.proof_trees.specs.Multipliers.{Multipliers, worth, Closes, raised}
 use Rattle.proof_trees.specs.Trees.{Leaf, Entry, Pending, root, begun}
 use Rattle.certificate.specs.declared.tree.Record.{Record}
-use Rattle.search_nodes.specs.declared.nodes.Node.{Node}
+use Rattle.certificate.specs.declared.nodes.Node.{Node}
 use Rattle.certificate.specs.Entries.{same_row, entry_of}
-use Rattle.search_machine.specs.Journals.{Path, branches, box_after, multipliers_after, known, Anything, Allowed}
-use Rattle.search_machine.specs.Machine.{begins, IsTrail, is_full, price}
-use Rattle.search_machine.specs.Machine as machine
-use Rattle.partial_plan.specs.Tightening.{IsQuiet, ForceAll}
+use Rattle.search_core.specs.Journals.{Path, branches, box_after, multipliers_after, known, Anything, Allowed}
+use Rattle.search_core.specs.Machine.{begins, IsTrail, is_full, price}
+use Rattle.search_core.specs.Machine as machine
+use Rattle.base_matrix.specs.Tightening.{IsQuiet, ForceAll}
 use Rattle.dual_bound.specs.Raising.{IsStuck}
 use Rattle.node_work.specs.declared.worked.Worked.{Worked}
 use Rattle.node_work.specs.declared.worked.Worked.TheVariants.{Closed, Branched, Full, NoMemory}

@@ -4,14 +4,14 @@ ghost use Rattle.proof_trees.specs.Boxes.{tight, tightened};
 ghost use Rattle.zero_one_rows.specs.Rows.{whole};
 ghost use Rattle.program_rows.specs.Counted.{base_rows};
 ghost use Rattle.certificate.specs.Entries.{end_of, number_of};
-ghost use Rattle.search_machine.specs.Journals.{divided};
-ghost use Rattle.search_machine.specs.Machine.{Divides};
-ghost use Rattle.partial_plan.specs.Fixing.{Fixes};
+ghost use Rattle.search_core.specs.Journals.{divided};
+ghost use Rattle.search_core.specs.Machine.{Divides};
+ghost use Rattle.base_matrix.specs.Fixing.{Fixes};
 ghost use Rattle.node_work.specs.Adopting.{adopted};
 
+use base_matrix::{UndoList, tighten_by};
 use certificate::End;
 use kept_box::KeptBox;
-use partial_plan::{UndoList, tighten_by};
 use std::alloc::Global;
 use stow_data::{NoMemory, VarNo};
 use zero_one_model::{Box01, Model};

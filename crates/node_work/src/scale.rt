@@ -12,10 +12,9 @@ ghost use Rattle.node_work.specs.Starts.{priced, prices_along, InRange};
 ghost use Rattle.node_work.specs.Scales.{AreNamed, IsScale};
 
 use crate::stages::{Stage, lengthened, lower_to, stages_in_common};
-use certificate::Record;
+use certificate::{Record, SharedRecord};
 use dual_bound::{AddNo, Gauge, Raised, RowTable};
 use kept_box::BaseMatrix;
-use search_nodes::SharedRecord;
 use std::alloc::Global;
 use stow_data::{NoMemory, VarNo};
 use zero_one_model::{Box01, Model};

@@ -6,9 +6,8 @@ ghost use Rattle.zero_one_rows.specs.Rows.{whole};
 ghost use Rattle.certificate.specs.Entries.{same_row, raise_of};
 ghost use Rattle.node_work.specs.Scales.{Matches, Staged};
 
-use certificate::{KeptRaise, Record};
+use certificate::{KeptRaise, Record, SharedRecord};
 use dual_bound::{Gauge, RowTable};
-use search_nodes::SharedRecord;
 use std::alloc::Global;
 use stow_data::NoMemory;
 use zero_one_model::Model;

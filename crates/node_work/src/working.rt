@@ -6,8 +6,8 @@ ghost use Rattle.node_work.specs.Work.{IsNode, begins_at, most_at, most_rehandle
 use crate::desk::Desk;
 use crate::tables::Tables;
 use crate::worked::Worked;
+use certificate::Node;
 use kept_box::BaseMatrix;
-use search_nodes::Node;
 use std::alloc::Global;
 use stow_data::NoMemory;
 use voyage_guess::Planner;

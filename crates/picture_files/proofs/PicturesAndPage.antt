@@ -3,7 +3,7 @@ use Rattle.std.proofs.Common.{◌≡◌, ℕ, ◌+◌, ◌<◌, ◌≤◌, List,
 use Rattle.std.proofs.lemmas.Bool.Decides.{nat_tests}
 use Rattle.std.proofs.lemmas.List.{append-nil, map-append, map_more}
 use Rattle.picture_files.specs.declared.reading.View.{View}
-use Rattle.program_ends.specs.declared.files.NamedFile.{NamedFile}
+use Rattle.stow_io.specs.declared.files.NamedFile.{NamedFile}
 use Rattle.picture_files.specs.Work.{file_of, pages_for, HasPages}
 
 pub files_more : (ports : List (List ℕ)) (views : List View) (files : List NamedFile) (file : NamedFile) (i : ℕ) (v : View) → i < length views → v ≡ get_or views i v → file ≡ file_of ports v → files ≡ map (file_of ports) (take i views) → files ++ file ∷ [] ≡ map (file_of ports) (take (i + 1) views)

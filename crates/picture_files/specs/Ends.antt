@@ -1,10 +1,10 @@
 -- How a run ends, and what it leaves.
 use Rattle.std.specs.Prelude.{◌≡◌, ◌⊎◌, ℕ, ◌<◌, codes, List, length, map, All, Contains, Option, Some, None, Result, Ok, Err}
 use Rattle.stow_io.specs.Files.{Files}
-use Rattle.program_ends.specs.Ends.{Prints, fault_read, Finishes}
-use Rattle.program_ends.specs.Outside.{Outside, FolderRose}
-use Rattle.program_ends.specs.declared.ending.Ended.TheVariants as ended
-use Rattle.program_ends.specs.declared.files.Work.{Work}
+use Rattle.stow_io.specs.Ends.{Prints, fault_read, Finishes}
+use Rattle.stow_io.specs.Outside.{Outside, FolderRose}
+use Rattle.stow_io.specs.declared.ending.Ended.TheVariants as ended
+use Rattle.stow_io.specs.declared.files.Work.{Work}
 use Rattle.picture_files.specs.declared.reading.View.{View}
 use Rattle.picture_files.specs.declared.reading.Stop.{Stop}
 use Rattle.picture_files.specs.declared.status.Status.{Status}

@@ -5,8 +5,8 @@ use Rattle.bay_views.specs.Ports.{with_ports}
 use Rattle.bay_views.specs.Drawings.{picture}
 use Rattle.picture_files.specs.Asked.{picture_name}
 use Rattle.picture_files.specs.declared.reading.View.{View}
-use Rattle.program_ends.specs.declared.files.NamedFile.{NamedFile}
-use Rattle.program_ends.specs.declared.files.Work.{Work}
+use Rattle.stow_io.specs.declared.files.NamedFile.{NamedFile}
+use Rattle.stow_io.specs.declared.files.Work.{Work}
 
 abbrev pub AreDrawable : List View → Type 0
 AreDrawable views = All (λ v. AreListable v.message.groups) views

@@ -1,11 +1,10 @@
 //! The writes and the report, with the status.
 ghost use Rattle.std.specs.Prelude.{◌≤◌};
-ghost use Rattle.program_ends.specs.Outside.{outside};
+ghost use Rattle.stow_io.specs.Outside.{outside};
 ghost use Rattle.picture_files.specs.Ends.{Completes};
 
 use crate::status::Status;
-use program_ends::{Ended, Work, finish};
-use stow_io::{Folder, Sink};
+use stow_io::{Ended, Folder, Sink, Work, finish};
 
 /// Writes all files, and then prints the report.
 pub fn complete<F: Folder, K: Sink>(work: &Work, folder: &mut F, out: &mut K) -> Status

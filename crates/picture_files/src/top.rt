@@ -1,7 +1,7 @@
 //! The top call.
 ghost use Rattle.std.specs.Prelude.{◌≡◌, ◌≤◌};
 ghost use Rattle.stow_io.specs.Causes.{Rose};
-ghost use Rattle.program_ends.specs.Outside.{outside};
+ghost use Rattle.stow_io.specs.Outside.{outside};
 ghost use Rattle.picture_files.specs.Ends.{IsRun, IsAnswer};
 
 use crate::ending::complete;
@@ -9,10 +9,9 @@ use crate::naming::{are_together, names_in};
 use crate::reading::{Stop, read_views};
 use crate::status::Status;
 use crate::work::work_of;
-use program_ends::{Work, say, say_name};
 use std::alloc::Global;
 use stow_data::{NoMemory, Word, WordList};
-use stow_io::{Folder, Sink};
+use stow_io::{Folder, Sink, Work, say, say_name};
 
 /// What is written and printed for the files of these names, all of which are read first.
 fn answer<'a, F: Folder>(alloc: Global, folder: &mut F, names: &'a [Word]) -> Result<Work, Stop<'a>>

@@ -6,9 +6,9 @@ ghost use Rattle.picture_files.specs.Work.{ports_of, file_of, files_of, line_of,
 use crate::naming::{base_of, page_name, picture_name};
 use crate::reading::{View, ViewList};
 use bay_views::{add_ports, index_page, picture};
-use program_ends::{FileList, Finding, NamedFile, Work};
 use std::alloc::Global;
 use stow_data::{Bytes, NameList, NoMemory, Word, WordList};
+use stow_io::{FileList, Finding, NamedFile, Work};
 
 /// The ports of discharge of all bay plans, so that each has one colour in all pictures.
 fn ports_of(alloc: Global, views: &[View]) -> Result<NameList, NoMemory>

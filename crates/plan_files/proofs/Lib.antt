@@ -8,7 +8,7 @@ pub mod Writable
 pub mod Known
 pub mod Quiet
 pub mod Good
-pub mod Groups
+pub mod GroupParts
 pub mod Moved
 pub mod Arrived
 pub mod Departures
@@ -16,3 +16,10 @@ pub mod Told
 pub mod Planned
 pub mod ShownBy
 pub mod Gathered
+pub mod Tables
+pub mod Steps
+pub mod Spots
+pub mod SoFar
+pub mod Shown
+pub mod Formed
+pub mod Files

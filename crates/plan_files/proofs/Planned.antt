@@ -35,7 +35,7 @@ use Rattle.plan_files.specs.DepartureFile.{AreArrived, no_booking, no_group, por
 use Rattle.plan_files.proofs.Arrived.{few_arrived, long_by_bay, one_out, put_out, put_out_else, read_group, total, total_joined}
 use Rattle.plan_files.proofs.Departures.{IsBookedHead, is_whole}
 use Rattle.plan_files.proofs.Good.{AllGood, IsGood, good-append, joined}
-use Rattle.plan_files.proofs.Groups.{booked_good, few_segments}
+use Rattle.plan_files.proofs.GroupParts.{booked_good, few_segments}
 use Rattle.plan_files.proofs.Moved.{IsNumber, moved_good}
 use Rattle.plan_files.proofs.Quiet.{IsBookedGroup}
 use Rattle.plan_files.proofs.Showing.{id_once}

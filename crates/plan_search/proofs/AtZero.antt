@@ -10,9 +10,9 @@ use Rattle.proof_trees.specs.Boxes.{Box, at, fixed, free_box, forced_to, violate
 use Rattle.proof_trees.specs.Multipliers.{Multipliers, least, weighed, worth, Closes}
 use Rattle.proof_trees.specs.Trees.{End, Leaf, Left, Branch, Entry, Pending, begun, root, EndProves, ProveAll, Proves}
 use Rattle.proof_trees.proofs.Sums.{sum_le}
-use Rattle.search_machine.specs.Journals.{branches, divided, known, box_after, multipliers_after, EndSettles, SettleAll, Anything, Settled}
-use Rattle.search_machine.specs.Machine.{NoneNegative}
-use Rattle.search_machine.specs.Along.{HoldAll, HoldsAlong}
+use Rattle.search_core.specs.Journals.{branches, divided, known, box_after, multipliers_after, EndSettles, SettleAll, Anything, Settled}
+use Rattle.search_core.specs.Machine.{NoneNegative}
+use Rattle.search_core.specs.Along.{HoldAll, HoldsAlong}
 
 -- ## A box that fixes more is worth no less
 

@@ -24,11 +24,11 @@ use Rattle.proof_trees.proofs.Lesser.{proves_lesser}
 use Rattle.certificate.specs.declared.tree.Record.{Record}
 use Rattle.certificate.specs.Entries.{same_row, entry_of}
 use Rattle.bound_checker.specs.Entries.{ProvesBound, IsBestBound}
-use Rattle.search_machine.specs.Journals.{branches}
-use Rattle.search_machine.proofs.Along.{hold_more}
+use Rattle.search_core.specs.Journals.{branches}
+use Rattle.search_core.proofs.Along.{hold_more}
 use Rattle.node_work.specs.Work as node
 use Rattle.model_bridge.specs.Sailed.{AreSailed}
-use Rattle.solution_meaning.specs.Laws.{IsProblem, IsCostBound, IsVoyageBound, HasNoVoyage, most_lifts}
+use Rattle.model_bridge.specs.Laws.{IsProblem, IsCostBound, IsVoyageBound, HasNoVoyage, most_lifts}
 use Rattle.plan_search.specs.declared.loaded.Counted.{Counted}
 use Rattle.plan_search.specs.declared.run.Searched.{Searched}
 use Rattle.plan_search.specs.Loaded.{IsCountOf, ArePlans}

@@ -16,7 +16,7 @@ use Rattle.voyage_meaning.specs.Voyage.{HasCount}
 use Rattle.plan_lifts.specs.Least.{IsClosed, AreClosed, counted, counted_all}
 use Rattle.plan_lifts.proofs.Whole.{closed_voyage, ship_is_divided, cargo_in_order}
 use Rattle.zero_one_rows.specs.Variables.{Voyage, calls}
-use Rattle.solution_meaning.specs.Laws.{IsProblem, most_lifts}
+use Rattle.model_bridge.specs.Laws.{IsProblem, most_lifts}
 use Rattle.plan_search.specs.Loaded.{ArePlans}
 
 -- ## The set of all filled places

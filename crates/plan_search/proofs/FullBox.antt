@@ -5,8 +5,8 @@ use Rattle.std.proofs.lemmas.List.Elements.{All-from_get_or, All-contains}
 use borrow.Author.Differences.{ints}
 use Rattle.proof_trees.specs.Program.{Program, sum_to, where_set, cost_of}
 use Rattle.proof_trees.specs.Boxes.{Box, at, violated}
-use Rattle.search_machine.specs.Bags.{Every}
-use Rattle.search_machine.specs.Machine.{bit_of, is_fixed, fixed_below, nat_of, bits, price, breaks_none, NoneNegative}
+use Rattle.search_core.specs.Bags.{Every}
+use Rattle.search_core.specs.Machine.{bit_of, is_fixed, fixed_below, nat_of, bits, price, breaks_none, NoneNegative}
 
 and_left : (a b : Bool) → (a && b) ≡ true → a ≡ true
 and_left true b e = refl

@@ -6,8 +6,8 @@ use Rattle.zero_one_rows.specs.Variables.{Voyage, is_rehandled, var}
 use Rattle.zero_one_rows.specs.Rows.{whole, bit}
 use Rattle.certificate.specs.Entries.{same_row}
 use Rattle.certificate.proofs.RowsAlike.{same_equal, same_itself}
-use Rattle.search_machine.specs.Machine.{NoneNegative}
-use Rattle.search_machine.specs.Outcomes.{Tells}
+use Rattle.search_core.specs.Machine.{NoneNegative}
+use Rattle.search_core.specs.Outcomes.{Tells}
 
 bit_from : (b : Bool) → pos 0 ≤ℤ bit b
 bit_from true = omega (arith, ints)

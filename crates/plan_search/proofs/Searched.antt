@@ -16,13 +16,13 @@ use Rattle.certificate.specs.declared.tree.End.TheVariants as cert
 use Rattle.certificate.specs.declared.tree.End as ends
 use Rattle.certificate.specs.Entries.{same_row, number_of, end_of, entry_of}
 use Rattle.model_bridge.specs.Pairs.{is_one, ones}
-use Rattle.search_machine.specs.Bags.{weigh}
-use Rattle.search_machine.specs.Journals.{Placed, Tree, preorder, Gathers, all_nodes, branches, is_left, known, nothing_done, Settled}
-use Rattle.search_machine.specs.Machine.{Node, Handled, begins, bit_of, is_full, price}
-use Rattle.search_machine.specs.Outcomes.{path_of, nodes_of}
-use Rattle.search_machine.specs.Along.{is_root, Begins, IsOfNode, HoldsAlong}
-use Rattle.search_machine.proofs.Weights.{every_in}
-use Rattle.search_machine.proofs.Along.{hold_more}
+use Rattle.search_core.specs.Bags.{weigh}
+use Rattle.search_core.specs.Journals.{Placed, Tree, preorder, Gathers, all_nodes, branches, is_left, known, nothing_done, Settled}
+use Rattle.search_core.specs.Machine.{Node, Handled, begins, bit_of, is_full, price}
+use Rattle.search_core.specs.Outcomes.{path_of, nodes_of}
+use Rattle.search_core.specs.Along.{is_root, Begins, IsOfNode, HoldsAlong}
+use Rattle.search_core.proofs.Weights.{every_in}
+use Rattle.search_core.proofs.Along.{hold_more}
 use Rattle.node_ledger.specs.Gathered.{placed_entries, IsGathered}
 use Rattle.node_work.specs.Work as node
 use Rattle.steal_pool.specs.declared.found.Found.{Found}

@@ -2,9 +2,9 @@
 use Rattle.std.proofs.Common.{◌≡◌, ℕ, ◌+◌, ◌*◌, ◌≤◌, Bool, true, false, cond, List, [], ◌∷◌, length, refl, arith, suc}
 use Rattle.proof_trees.specs.Program.{Program}
 use Rattle.proof_trees.specs.Trees.{End, Leaf, Left, Branch, Entry, Pending}
-use Rattle.search_machine.specs.Bags.{weigh}
-use Rattle.search_machine.specs.Journals.{branches, is_left, child}
-use Rattle.search_machine.specs.Along.{HoldAll}
+use Rattle.search_core.specs.Bags.{weigh}
+use Rattle.search_core.specs.Journals.{branches, is_left, child}
+use Rattle.search_core.specs.Along.{HoldAll}
 
 -- 1 for a record that wasn't left open
 abbrev pub counts : End → ℕ

@@ -8,7 +8,7 @@ use Rattle.certificate.specs.declared.tree.Outcome.{Outcome}
 use Rattle.certificate.specs.declared.tree.Outcome.TheVariants.{Optimal, Gap, NoPlan, Undecided}
 use Rattle.certificate.specs.declared.tree.Record.{Record}
 use Rattle.bound_checker.specs.Entries.{ProvesBound}
-use Rattle.solution_meaning.specs.Laws.{IsVoyageBound, HasNoVoyage, most_lifts}
+use Rattle.model_bridge.specs.Laws.{IsVoyageBound, HasNoVoyage, most_lifts}
 use Rattle.plan_search.specs.Loaded.{AreLoaded, IsCountOf, ArePlans}
 use Rattle.plan_search.specs.Trees.{IsSettled, IsLean, IsEarnest, handled}
 

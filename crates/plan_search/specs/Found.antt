@@ -12,7 +12,7 @@ use Rattle.certificate.specs.declared.tree.Outcome.TheVariants.{Optimal, Gap, No
 use Rattle.bound_checker.specs.Entries.{ProvesBound}
 use Rattle.model_bridge.specs.Pairs.{ones}
 use Rattle.model_bridge.specs.Sailed.{IsFull, BreaksNone}
-use Rattle.solution_meaning.specs.Laws.{most_lifts}
+use Rattle.model_bridge.specs.Laws.{most_lifts}
 use Rattle.plan_search.specs.declared.run.Searched.{Searched}
 use Rattle.plan_search.specs.declared.loaded.Counted.{Counted}
 use Rattle.plan_search.specs.Loaded.{AreLoaded, IsCountOf, ArePlans}

@@ -5,7 +5,7 @@ use Rattle.stowage_rules.specs.Departure.{AreDepartures}
 use Rattle.voyage_meaning.specs.Voyage.{HasCount}
 use Rattle.greedy_loader.specs.Calls.{DepartFrom}
 use Rattle.zero_one_rows.specs.Variables.{Voyage}
-use Rattle.solution_meaning.specs.Laws.{most_lifts}
+use Rattle.model_bridge.specs.Laws.{most_lifts}
 
 -- the departures of calls 1 to N-1 that the loader's rule makes of the arrival, or none
 abbrev pub AreLoaded : Voyage → Option (List Plan) → Type 0

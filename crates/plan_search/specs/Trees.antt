@@ -6,8 +6,8 @@ use Rattle.certificate.specs.declared.tree.Record.{Record}
 use Rattle.certificate.specs.declared.tree.End.{End}
 use Rattle.certificate.specs.declared.tree.End.TheVariants.{Leaf, Left, Branch}
 use Rattle.certificate.specs.Entries.{same_row, entry_of}
-use Rattle.search_machine.specs.Journals.{branches, Settled}
-use Rattle.search_machine.specs.Along.{HoldsAlong}
+use Rattle.search_core.specs.Journals.{branches, Settled}
+use Rattle.search_core.specs.Along.{HoldsAlong}
 use Rattle.node_work.specs.Work as node
 
 abbrev pub was_handled : End → Bool

@@ -1,6 +1,6 @@
 //! From the tree of a search to the plans, the bound and the outcome.
 ghost use Rattle.std.specs.Prelude.{◌≡◌, ◌<◌, ◌^◌, IfOk, length};
-ghost use Rattle.solution_meaning.specs.Laws.{IsProblem, IsCostBound};
+ghost use Rattle.model_bridge.specs.Laws.{IsProblem, IsCostBound};
 ghost use Rattle.zero_one_rows.specs.Rows.{CrossingRowsHold};
 ghost use Rattle.bound_checker.specs.Entries.{ProvesBound, IsBestBound};
 ghost use Rattle.model_bridge.specs.Sailed.{IsFull, BreaksNone};

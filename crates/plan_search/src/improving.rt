@@ -1,11 +1,11 @@
 //! Plans to begin a search with: the loader's, or better ones of voyages by chance.
 ghost use Rattle.std.specs.Prelude.{◌≡◌, IfOk, IfSome};
-ghost use Rattle.solution_meaning.specs.Laws.{IsProblem};
+ghost use Rattle.model_bridge.specs.Laws.{IsProblem};
 ghost use Rattle.plan_search.specs.Found.{IsCounted, IsPlanned, IsImproved};
 
 use crate::closing::plans_of;
 use crate::loaded::Counted;
-use partial_plan::breaks_none;
+use base_matrix::breaks_none;
 use std::alloc::Global;
 use stow_data::{Cargo, NoMemory, Ship};
 use voyage_guess::{Planner, Wanted};

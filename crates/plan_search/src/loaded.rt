@@ -1,7 +1,7 @@
 //! Plans with their rehandle count, and the loader's first.
 ghost use Rattle.std.specs.Prelude.{◌≡◌, IfOk};
 ghost use Rattle.voyage_meaning.specs.Voyage.{HasCount};
-ghost use Rattle.solution_meaning.specs.Laws.{IsProblem};
+ghost use Rattle.model_bridge.specs.Laws.{IsProblem};
 ghost use Rattle.plan_search.specs.Loaded.{ArePlans};
 ghost use Rattle.plan_search.specs.Found.{IsLoaded};
 

@@ -1,6 +1,6 @@
 //! Plans and their certificate.
 ghost use Rattle.std.specs.Prelude.{◌≡◌, ◌≤◌, IfOk};
-ghost use Rattle.solution_meaning.specs.Laws.{IsProblem};
+ghost use Rattle.model_bridge.specs.Laws.{IsProblem};
 ghost use Rattle.plan_search.specs.Certified.{Certifies, HasPlans};
 
 use crate::closing::{bound_of, chosen_plans, head_of};
@@ -8,7 +8,7 @@ use crate::improving::improved;
 use crate::loaded::loaded;
 use crate::run::search_tree;
 use certificate::{Head, Tree};
-use solution_meaning::bounds_are_of_voyages;
+use model_bridge::bounds_are_of_voyages;
 use std::alloc::Global;
 use std::sync::Wait;
 use std::thread::Threads;

@@ -1,13 +1,13 @@
 //! The search, and its tree.
 ghost use Rattle.std.specs.Prelude.{◌≡◌, ◌+◌, ◌≤◌, IfOk};
-ghost use Rattle.solution_meaning.specs.Laws.{IsProblem, most_lifts};
+ghost use Rattle.model_bridge.specs.Laws.{IsProblem, most_lifts};
 ghost use Rattle.plan_search.specs.Found.{IsSearched, one_leaf};
 
 use certificate::{End, Few, Record, Tree};
 use node_ledger::gather;
 use program_rows::rows_are_listed;
+use search_core::records_are_of_nodes;
 use search_crew::search;
-use search_machine::records_are_of_nodes;
 use std::alloc::Global;
 use std::sync::Wait;
 use std::thread::Threads;

@@ -4,16 +4,16 @@ ghost use Rattle.stowage_rules.specs.Departure.{HasArrival};
 ghost use Rattle.voyage_meaning.specs.Voyage.{HasCount};
 ghost use Rattle.plan_lifts.specs.Lifted.{IsLifted};
 ghost use Rattle.zero_one_rows.specs.Variables.{variables};
-ghost use Rattle.solution_meaning.specs.Laws.{IsProblem};
+ghost use Rattle.model_bridge.specs.Laws.{IsProblem};
 ghost use Rattle.program_probe.specs.Legal.{ArePlans};
 ghost use Rattle.model_bridge.specs.Sailed.{IsFull, BreaksNone};
 
 use crate::berth::write_voyage;
 use crate::words::{write_count, write_number, write_var};
+use base_matrix::{breaks_none, cost_of};
 use certificate::{End, Tree};
 use greedy_loader::load;
 use model_bridge::{assignment_of, plan_of};
-use partial_plan::{breaks_none, cost_of};
 use plan_lifts::{LiftLists, Lifted, LiftsFault, lifts, moves_of};
 use std::alloc::Global;
 use stow_data::{Bytes, Cargo, NoMemory, PlaceNo, Plan, PlanList, Ship, VarNo};

@@ -13,12 +13,11 @@ mod sums;
 mod words;
 
 use orders::write_orders;
-use program_ends::given_words;
 use std::alloc::Global;
 use std::process::ExitCode;
 use std::rt::Files;
 use stow_data::{Bytes, Word};
-use stow_io::{Folder, RealFolder, RealOut, Sink};
+use stow_io::{Folder, RealFolder, RealOut, Sink, given_words};
 
 /// Makes the text of some orders and prints it. The status is told.
 fn put_orders<F: Folder, K: Sink>(

@@ -1,7 +1,7 @@
 //! Orders: what is to be printed of which voyage.
 ghost use Rattle.std.specs.Prelude.{◌≡◌};
 ghost use Rattle.stowage_rules.specs.Departure.{HasArrival};
-ghost use Rattle.solution_meaning.specs.Laws.{IsProblem};
+ghost use Rattle.model_bridge.specs.Laws.{IsProblem};
 
 use crate::bridge::{write_asked, write_loaded};
 use crate::inputs::{Named, Voyage, records_in, voyage_of};

@@ -3,9 +3,9 @@ use Rattle.std.proofs.Common.{◌≡◌, ℕ, zero, suc, ◌<◌, ◌≤◌, ◌
 use Rattle.std.specs.Prelude.{nat_lt, nat_le}
 use Rattle.std.proofs.lemmas.Bool.{lt-ltb, ltb-true, le-leb, leb-true, false≢true}
 use Rattle.std.proofs.Math.Pow.{pow_mono}
-use Rattle.chain_rows.specs.Chains.{Rises, IsChain, EachOnce, IsBefore, rises, is_chain, is_length}
-use Rattle.chain_rows.specs.ToCome.{chains_of, row_at}
-use Rattle.chain_rows.proofs.EachOnce.{each_once}
+use Rattle.zero_one_rows.specs.Chains.{Rises, IsChain, EachOnce, IsBefore, rises, is_chain, is_length}
+use Rattle.zero_one_rows.specs.ToCome.{chains_of, row_at}
+use Rattle.zero_one_rows.proofs.EachOnce.{each_once}
 use Rattle.stow_data.proofs.Members.{Member}
 use Rattle.stow_data.proofs.Distinct.{each_at}
 use Rattle.zero_one_rows.proofs.Listing.{get_member, member_get}

@@ -16,7 +16,7 @@ use Rattle.zero_one_rows.specs.Variables.{Voyage, calls, all_kinds}
 use Rattle.zero_one_rows.specs.Crossing.{columns, columns_in, tallest, tiers_for, length_of, is_crossing, is_length}
 use Rattle.zero_one_rows.specs.Rows.{has, is_base, is_call, is_half, is_place, is_filled}
 use Rattle.zero_one_rows.proofs.Listing.{filter_at, filter_from, get_member, member_get}
-use Rattle.chain_rows.specs.Chains.{is_chain}
+use Rattle.zero_one_rows.specs.Chains.{is_chain}
 use Rattle.program_rows.specs.Counted.{runs, has_below, has_above, stands_at, is_hatch, is_near_by, pairs_at, hatches_of, near_to, near_by, all_chains, row_lists, per_call, flow_of, hatch_of, apart_of, flow_rows, start_rows, cell_rows, support_rows, twenty_rows, block_rows, hatch_rows, weight_rows, apart_rows, cross_rows, from_weights, from_hatches, from_blocks, from_twenties, from_supports, from_cells, from_starts, base_in, rows_in, base_rows, all_rows}
 use Rattle.program_rows.specs.declared.row_lists.Pair.{Pair}
 use Rattle.program_rows.specs.declared.row_lists.HatchPair.{HatchPair}

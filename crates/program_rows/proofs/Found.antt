@@ -7,7 +7,7 @@ use Rattle.std.proofs.lemmas.Cmp.{same_from_slice_cmp_tested}
 use Rattle.std.proofs.lemmas.Bool.Decides.{nat_tests}
 use Rattle.std.proofs.lemmas.Bool.{cases_lt, cases_eq, eq-eqb, ne_eqb, lt-ltb, ltb-true, false≢true}
 use Rattle.std.proofs.lemmas.Option.{get_or_from_slice_get, slice_get_within, slice_get-get_or, same_Some}
-use Rattle.chain_rows.specs.Chains.{IsBefore}
+use Rattle.zero_one_rows.specs.Chains.{IsBefore}
 use Rattle.zero_one_rows.specs.declared.program.Row.{Row}
 use Rattle.program_rows.specs.Ordered.{family, numbers, Precedes}
 use Rattle.program_rows.proofs.EveryChain.{not_both}

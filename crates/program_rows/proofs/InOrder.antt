@@ -3,7 +3,7 @@ use Rattle.std.proofs.Common.{◌≡◌, ℕ, suc, ◌<◌, ◌≤◌, ◌-◌, 
 use Rattle.std.specs.Prelude.{filter, map}
 use Rattle.std.specs.List.{range_with_len}
 use Rattle.std.proofs.lemmas.Bool.{false≢true}
-use Rattle.chain_rows.specs.Chains.{IsBefore}
+use Rattle.zero_one_rows.specs.Chains.{IsBefore}
 use Rattle.stow_data.specs.Ship.{halves, places}
 use Rattle.stow_data.proofs.Members.{Member, flat_at, map_at}
 use Rattle.stow_data.proofs.Distinct.{Each, each_at, each_from}

@@ -1,7 +1,7 @@
 -- The rows of the program in their order, family by family: for what each family has a row, and the rows.
 use Rattle.std.specs.Prelude.{◌≡◌, ℕ, ◌+◌, ◌-◌, ◌^◌, ◌<◌, Bool, ◌⊎◌, ◌&&◌, ◌==◌, nat_lt, nat_le, List, ◌++◌, length, map, flat_map, filter, slice_index_or, Option, None, Some, false}
 use Rattle.std.specs.List.{range_with_len}
-use Rattle.chain_rows.specs.ToCome.{chains_of}
+use Rattle.zero_one_rows.specs.ToCome.{chains_of}
 use Rattle.stow_data.specs.declared.geometry.Length.TheVariants.{Twenty as Short, Forty}
 use Rattle.stow_data.specs.Ship.{halves, places}
 use Rattle.stowage_rules.specs.Departure.{near}

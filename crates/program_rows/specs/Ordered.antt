@@ -1,7 +1,7 @@
 -- The order of rows, and that the list of rows has every row of the program, once, in that order.
 use Rattle.std.specs.Prelude.{◌≡◌, ℕ, ◌<◌, true, List, [], ◌∷◌, Contains, ◌⊎◌, ◌↔◌}
 use Rattle.std.specs.List.{AllPairs}
-use Rattle.chain_rows.specs.Chains.{IsBefore}
+use Rattle.zero_one_rows.specs.Chains.{IsBefore}
 use Rattle.zero_one_rows.specs.declared.program.Row.{Row}
 use Rattle.zero_one_rows.specs.declared.program.Row.TheVariants.{Flow, Start, Cell, Support, Twenty, Block, Hatch, Weight, Apart, Cross}
 use Rattle.zero_one_rows.specs.Variables.{Voyage}

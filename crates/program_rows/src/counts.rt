@@ -8,9 +8,8 @@ ghost use Rattle.program_rows.specs.Counted.{pairs_at, has_below, has_above, sta
 
 use crate::levels::LevelCounts;
 use crate::row_tests::{is_lower, is_running, is_taken, is_under_hatch, is_upper, level_of};
-use chain_rows::{Chain, Chains};
 use stow_data::{CallNo, Cargo, HalfNo, KindNo, Kinds, Length, PlaceNo, Ship};
-use zero_one_rows::tallest;
+use zero_one_rows::{Chain, Chains, tallest};
 
 /// How many rows a program has.
 #[derive(Clone, Copy, Debug, PartialEq, Eq)]

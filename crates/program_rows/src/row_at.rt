@@ -4,9 +4,8 @@ ghost use Rattle.zero_one_rows.specs.declared.program.Row.TheVariants.{Cross};
 ghost use Rattle.program_rows.specs.Counted.{IsOfTwo, per_call, flow_rows, start_rows, cell_rows, support_rows, twenty_rows, block_rows, hatch_rows, weight_rows, apart_rows, cross_rows, from_weights, from_hatches, from_blocks, from_twenties, from_supports, from_cells, from_starts, base_in, rows_in};
 
 use crate::row_lists::RowLists;
-use chain_rows::Chain;
 use stow_data::{CallNo, HalfNo, PlaceNo, StackNo};
-use zero_one_rows::Row;
+use zero_one_rows::{Chain, Row};
 
 /// Of two lists of so many items, one behind the other, which one has item k, and where.
 fn of_two(count: u64, k: u64) -> (u32, u64)

@@ -8,12 +8,11 @@ ghost use Rattle.program_rows.specs.Counted.{pairs_at, has_below, has_above, sta
 
 use crate::levels::{LevelPairs, PlacePair};
 use crate::row_tests::{is_lower, is_running, is_taken, is_under_hatch, is_upper, level_of};
-use chain_rows::{Chain, Chains};
 use std::alloc::Global;
 use stow_data::{
     CallNo, Cargo, HalfNo, KindNo, Kinds, Length, NoMemory, NumberList, PlaceNo, Seq, Ship,
 };
-use zero_one_rows::tallest;
+use zero_one_rows::{Chain, Chains, tallest};
 
 /// A call, and a kind whose containers are on their way after it.
 #[derive(Clone, Copy, Debug, PartialEq, Eq)]

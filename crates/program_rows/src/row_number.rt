@@ -1,14 +1,13 @@
 //! The number of a row, found in the order of rows: the inverse of the row by its number.
 ghost use Rattle.std.specs.Prelude.{◌≡◌, ◌≢◌, ◌↔◌, ◌<◌, ◌≤◌, ℕ, IsTrue, AllPairs, MatchOption, Some, ◌∷◌, length, slice_get};
-ghost use Rattle.chain_rows.specs.Chains.{IsBefore};
+ghost use Rattle.zero_one_rows.specs.Chains.{IsBefore};
 ghost use Rattle.program_rows.specs.Counted.{base_in, rows_in};
 ghost use Rattle.program_rows.specs.Ordered.{family, numbers, Precedes};
 ghost use Rattle.zero_one_rows.specs.declared.program.Row.{Row};
 
 use crate::row_lists::RowLists;
 use arrayvec::ArrayVec;
-use chain_rows::Chain;
-use zero_one_rows::Row;
+use zero_one_rows::{Chain, Row};
 
 /// The numbers of a row: at most a length, a price and twelve calls.
 type Numbers = ArrayVec<u32, 14>;

@@ -13,8 +13,8 @@ use Rattle.proof_trees.proofs.Duality.{length_tightened}
 use Rattle.certificate.specs.declared.tree.End.{End}
 use Rattle.certificate.specs.declared.tree.End.TheVariants.{Leaf, Left, Branch}
 use Rattle.certificate.specs.Entries.{end_of, number_of}
-use Rattle.search_machine.specs.Journals.{divided, branches}
-use Rattle.search_machine.specs.Machine.{Divides}
+use Rattle.search_core.specs.Journals.{divided, branches}
+use Rattle.search_core.specs.Machine.{Divides}
 use Rattle.bound_checker.proofs.Numbered.{number_is, number_none}
 use Rattle.dual_bound.proofs.Summing.{same_or_other}
 

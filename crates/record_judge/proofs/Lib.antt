@@ -1,3 +1,8 @@
+mod Premises
+mod Keeping
+mod JudgedKeys
+mod Answering
+pub mod Ways
 mod Listed
 mod Halves
 mod Standing
@@ -5,4 +10,4 @@ mod Rounds
 mod Totals
 mod Raising
 mod Fixed
-mod Judged
+mod JudgedRecords

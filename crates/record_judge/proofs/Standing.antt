@@ -8,14 +8,14 @@ use Rattle.proof_trees.specs.Multipliers.{Multipliers}
 use Rattle.proof_trees.specs.Trees.{Entry, Pending, begun, root}
 use Rattle.certificate.specs.declared.tree.Record.{Record}
 use Rattle.certificate.specs.Entries.{same_row, entry_of, raise_of, end_of, number_of}
-use Rattle.search_machine.specs.Journals.{box_after, child, after, divided, known}
-use Rattle.search_machine.specs.Machine.{Handled, IsEntry, Divides, IsTrail}
-use Rattle.search_machine.proofs.Trails.{begins_sound}
+use Rattle.search_core.specs.Journals.{box_after, child, after, divided, known}
+use Rattle.search_core.specs.Machine.{Handled, IsEntry, Divides, IsTrail}
+use Rattle.search_core.proofs.Trails.{begins_sound}
 use Rattle.search_core.specs.declared.records.Done.{Done}
 use Rattle.search_core.specs.Told.{told}
-use Rattle.search_events.specs.declared.nodes.Step.{Step}
-use Rattle.search_events.specs.Nodes.{value_of, entry_in, along}
-use Rattle.search_events.proofs.Ways.{entry_on, taken}
+use Rattle.record_judge.specs.declared.event_nodes.Step.{Step}
+use Rattle.record_judge.specs.Nodes.{value_of, entry_in, along}
+use Rattle.record_judge.proofs.Ways.{entry_on, taken}
 use Rattle.program_rows.specs.Counted.{base_rows}
 use Rattle.record_judge.specs.declared.tally.Tally.{Tally}
 use Rattle.record_judge.specs.Counting.{AreNamed, Leads, Tallies}

@@ -5,9 +5,9 @@ use Rattle.certificate.specs.declared.tree.Record.{Record}
 use Rattle.search_core.specs.declared.records.Done.{Done}
 use Rattle.search_core.specs.declared.node_keys.NodeKey.{NodeKey}
 use Rattle.search_core.specs.Told.{InTable, NameEarlier}
-use Rattle.search_events.specs.declared.nodes.Step.{Step}
-use Rattle.search_events.specs.Cores.{node_at}
-use Rattle.search_events.specs.Judging.{HasTrail}
+use Rattle.record_judge.specs.declared.event_nodes.Step.{Step}
+use Rattle.record_judge.specs.Cores.{node_at}
+use Rattle.record_judge.specs.JudgingEvents.{HasTrail}
 use Rattle.zero_one_rows.specs.declared.program.Row.{Row}
 use Rattle.proof_trees.specs.Multipliers.{Multipliers}
 use Rattle.record_judge.specs.Counting.{IsSized, Tallies, Leads}

@@ -1,3 +1,8 @@
+pub mod JudgingEvents
+pub mod Events
+pub mod Cores
+pub mod Answered
+pub mod Nodes
 pub mod Standing
 pub mod Rounds
 pub mod Counting

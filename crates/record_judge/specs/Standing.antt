@@ -7,12 +7,12 @@ use Rattle.proof_trees.specs.Multipliers.{Multipliers}
 use Rattle.proof_trees.specs.Trees.{Pending, begun}
 use Rattle.certificate.specs.declared.tree.Record.{Record}
 use Rattle.certificate.specs.Entries.{same_row}
-use Rattle.search_machine.specs.Machine.{begins}
+use Rattle.search_core.specs.Machine.{begins}
 use Rattle.search_core.specs.declared.records.Done.{Done}
 use Rattle.search_core.specs.Told.{NameEarlier}
-use Rattle.search_events.specs.declared.nodes.Step.{Step}
-use Rattle.search_events.specs.Judging.{HasTrail}
-use Rattle.search_events.specs.Nodes.{along}
+use Rattle.record_judge.specs.declared.event_nodes.Step.{Step}
+use Rattle.record_judge.specs.JudgingEvents.{HasTrail}
+use Rattle.record_judge.specs.Nodes.{along}
 
 module _ (m : Voyage) (ended : List (Done Record)) (way : List Step) where
   -- the box and the multipliers with which the node at the end of the way begins

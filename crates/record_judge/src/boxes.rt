@@ -4,15 +4,16 @@ ghost use Rattle.proof_trees.specs.Boxes.{free_box, tight, tightened};
 ghost use Rattle.zero_one_rows.specs.Variables.{variables};
 ghost use Rattle.zero_one_rows.specs.Rows.{whole};
 ghost use Rattle.certificate.specs.Entries.{entry_of, end_of, number_of};
-ghost use Rattle.search_machine.specs.Journals.{divided};
-ghost use Rattle.search_machine.specs.Machine.{Divides};
-ghost use Rattle.search_events.specs.Judging.{box_there};
-ghost use Rattle.search_events.specs.Nodes.{along};
+ghost use Rattle.search_core.specs.Journals.{divided};
+ghost use Rattle.search_core.specs.Machine.{Divides};
+ghost use Rattle.record_judge.specs.JudgingEvents.{box_there};
+ghost use Rattle.record_judge.specs.Nodes.{along};
 ghost use Rattle.record_judge.specs.Standing.{standing, IsWay};
 
+use crate::event_nodes::Step;
+use base_matrix::force;
 use certificate::{End, KeptRow, Record};
-use partial_plan::force;
-use search_events::{Done, Step};
+use search_core::Done;
 use stow_data::VarNo;
 use zero_one_model::{Box01, Model};
 

@@ -2,9 +2,11 @@
 ghost use Rattle.std.specs.Prelude.{◌≡◌, IfOk};
 
 use crate::desk::Desk;
+use crate::event_nodes::Step;
+use crate::judging::Judge;
 use crate::nodes::{branch_at, close_at, offer_at};
 use certificate::Record;
-use search_events::{Done, Judge, NodeKey, Refused, Step};
+use search_core::{Done, NodeKey, Refused};
 use std::alloc::Global;
 use stow_data::NoMemory;
 use zero_one_model::Model;

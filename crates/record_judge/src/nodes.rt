@@ -1,14 +1,15 @@
 //! Records judged at nodes, which are told by their keys and the ended nodes.
 ghost use Rattle.std.specs.Prelude.{vec_capacity};
 ghost use Rattle.certificate.specs.Entries.{entry_of};
-ghost use Rattle.search_events.specs.Cores.{node_at};
-ghost use Rattle.search_events.specs.Judging.{JudgesClose, JudgesBranch, JudgesOffer};
+ghost use Rattle.record_judge.specs.Cores.{node_at};
+ghost use Rattle.record_judge.specs.JudgingEvents.{JudgesClose, JudgesBranch, JudgesOffer};
 ghost use Rattle.record_judge.specs.Desks.{IsTold, Stays};
 
 use crate::desk::Desk;
+use crate::event_nodes::{Step, lead_to};
 use crate::verdicts::{branch, close, offer};
 use certificate::Record;
-use search_events::{Done, NodeKey, Refused, Step, lead_to};
+use search_core::{Done, NodeKey, Refused};
 use zero_one_model::Model;
 
 /// Whether a record is a leaf that closes its node at a value.

@@ -13,8 +13,9 @@ ghost use Rattle.record_judge.specs.Counting.{AreNamed, IsSized, Tallies, Tallie
 ghost use Rattle.record_judge.specs.Standing.{standing, IsWay};
 
 use crate::amounts::Amounts;
+use crate::event_nodes::Step;
 use certificate::{KeptRaise, Record};
-use search_events::{Done, Step};
+use search_core::Done;
 use std::alloc::Global;
 use stow_data::{NoMemory, VarNo};
 use zero_one_model::Model;

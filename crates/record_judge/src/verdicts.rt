@@ -3,18 +3,19 @@ ghost use Rattle.std.specs.Prelude.{◌≡◌, ◌<◌, ◌↔◌, IsTrue, None,
 ghost use Rattle.zero_one_rows.specs.Variables.{variables};
 ghost use Rattle.zero_one_rows.specs.Rows.{whole};
 ghost use Rattle.certificate.specs.Entries.{entry_of, end_of, number_of};
-ghost use Rattle.search_machine.specs.Machine.{Divides};
-ghost use Rattle.search_events.specs.Judging.{IsRecord, IsLeaf, IsBranch, JudgesClose, JudgesBranch, JudgesOffer};
-ghost use Rattle.search_events.specs.Nodes.{along};
+ghost use Rattle.search_core.specs.Machine.{Divides};
+ghost use Rattle.record_judge.specs.JudgingEvents.{IsRecord, IsLeaf, IsBranch, JudgesClose, JudgesBranch, JudgesOffer};
+ghost use Rattle.record_judge.specs.Nodes.{along};
 ghost use Rattle.record_judge.specs.Desks.{IsReady, IsAt, TalliesAfter};
 
 use crate::boxes::stand_after;
 use crate::desk::Desk;
+use crate::event_nodes::Step;
 use crate::full::{is_full, price};
 use crate::naming::names_rows;
 use crate::worth::dual_value;
 use certificate::{End, Record};
-use search_events::{Done, Refused, Step};
+use search_core::{Done, Refused};
 use stow_data::VarNo;
 use zero_one_model::{Box01, Model};
 

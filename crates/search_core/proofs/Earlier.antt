@@ -1,8 +1,8 @@
 -- Ended keys that name earlier ended nodes, and how they are told.
 use Rattle.std.proofs.Common.{◌≡◌, ℕ, zero, suc, ◌+◌, ◌<◌, ◌≤◌, List, [], ◌∷◌, ◌++◌, map, length, append_assoc, append-nil, slice_get, Option, Some, refl, sym, subst, ap, ◌∙◌, arith}
 use Rattle.proof_trees.specs.Trees.{Entry}
-use Rattle.search_machine.specs.Journals.{nothing_done}
-use Rattle.search_machine.specs.Machine.{Node, StateOver, Handled, root_node, half_node, handled, worker}
+use Rattle.search_core.specs.Journals.{nothing_done}
+use Rattle.search_core.specs.Machine.{Node, StateOver, Handled, root_node, half_node, handled, worker}
 use Rattle.search_core.specs.declared.node_keys.NodeKey.{NodeKey}
 use Rattle.search_core.specs.declared.node_keys.NodeKey.TheVariants.{Root, Half}
 use Rattle.search_core.specs.declared.records.Done.{Done}

@@ -1,9 +1,9 @@
 -- One more ended node leaves what keys stand for.
 use Rattle.std.proofs.Common.{◌≡◌, ℕ, zero, suc, ◌+◌, ◌<◌, Bool, true, false, List, [], ◌∷◌, ◌++◌, map, length, slice_index_or, slice_set, Option, Some, None, option_map, refl, sym, subst, ap, ◌∙◌, arith}
 use Rattle.proof_trees.specs.Trees.{Entry}
-use Rattle.search_machine.specs.Bags.{Every}
-use Rattle.search_machine.specs.Journals.{nothing_done}
-use Rattle.search_machine.specs.Machine.{Node, Worker, StateOver, Handled, root_node, half_node, handled, idle, worker, with_worker}
+use Rattle.search_core.specs.Bags.{Every}
+use Rattle.search_core.specs.Journals.{nothing_done}
+use Rattle.search_core.specs.Machine.{Node, Worker, StateOver, Handled, root_node, half_node, handled, idle, worker, with_worker}
 use Rattle.search_core.specs.declared.node_keys.NodeKey.{NodeKey}
 use Rattle.search_core.specs.declared.node_keys.NodeKey.TheVariants.{Root, Half}
 use Rattle.search_core.specs.declared.records.Done.{Done}

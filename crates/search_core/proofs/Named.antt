@@ -1,7 +1,7 @@
 -- Keys name nodes.
 use Rattle.std.proofs.Common.{◌≡◌, inl, inr, ℕ, zero, suc, ◌+◌, ◌<◌, true, false, List, [], ◌∷◌, ◌++◌, length, replicate, slice_index_or, slice_set, Option, Some, None, refl, sym, subst, arith}
-use Rattle.search_machine.specs.Bags.{Every}
-use Rattle.search_machine.specs.Machine.{Worker, StateOver, idle, worker, with_worker, begin_with, Pushes, Pops, Steals, Loads, Draws}
+use Rattle.search_core.specs.Bags.{Every}
+use Rattle.search_core.specs.Machine.{Worker, StateOver, idle, worker, with_worker, begin_with, Pushes, Pops, Steals, Loads, Draws}
 use Rattle.search_core.specs.declared.node_keys.NodeKey.{NodeKey}
 use Rattle.search_core.specs.declared.node_keys.NodeKey.TheVariants.{Root, Half}
 use Rattle.search_core.specs.Rooms.{EndsHand, HalvesHand}

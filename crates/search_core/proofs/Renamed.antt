@@ -1,9 +1,9 @@
 -- Events keep to other nodes in place of those that they speak of.
 use Rattle.std.proofs.Common.{◌≡◌, inl, inr, ℕ, zero, suc, ◌+◌, ◌<◌, ◌≤◌, true, false, List, [], ◌∷◌, ◌++◌, map, length, slice_index_or, slice_set, Option, Some, None, option_map, refl, sym, ap, ◌∙◌, arith}
-use Rattle.search_machine.specs.Machine.{Worker, StateOver, idle, worker, with_worker, takes, IsWorker, HandFree, Pushes, Pops, Steals, Loads, Draws}
-use Rattle.search_machine.specs.Refusals.{NoSuchWorker, RefusesPush, RefusesPop, RefusesSteal, RefusesLoad, RefusesDraw}
-use Rattle.search_machine.specs.declared.refused.Refused.{Refused}
-use Rattle.search_machine.specs.declared.refused.Refused.TheVariants.{NoWorker, HandFull, HandEmpty, DequeEmpty, HasTicket, NoTicket, NotSeen, BadEntry, NotFull, Short, NotFree, NoChild}
+use Rattle.search_core.specs.Machine.{Worker, StateOver, idle, worker, with_worker, takes, IsWorker, HandFree, Pushes, Pops, Steals, Loads, Draws}
+use Rattle.search_core.specs.Refusals.{NoSuchWorker, RefusesPush, RefusesPop, RefusesSteal, RefusesLoad, RefusesDraw}
+use Rattle.search_core.specs.declared.refused.Refused.{Refused}
+use Rattle.search_core.specs.declared.refused.Refused.TheVariants.{NoWorker, HandFull, HandEmpty, DequeEmpty, HasTicket, NoTicket, NotSeen, BadEntry, NotFull, Short, NotFree, NoChild}
 use Rattle.search_core.specs.Told.{worker_as, state_as}
 
 pub map_append : {A B : Type 0} (f : A → B) (xs ys : List A) → map f (xs ++ ys) ≡ map f xs ++ map f ys

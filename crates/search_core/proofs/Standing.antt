@@ -1,7 +1,7 @@
 -- What events do to keys, they do to the nodes that keys stand for.
 use Rattle.std.proofs.Common.{◌≡◌, inl, inr, ℕ, zero, suc, false, List, [], ◌∷◌, map, replicate, None, refl, sym, subst, ap}
 use Rattle.proof_trees.specs.Trees.{Entry}
-use Rattle.search_machine.specs.Machine.{Worker, StateOver, Node, root_node, idle, begin, begin_with, Pushes, Pops, Steals, Loads, Draws}
+use Rattle.search_core.specs.Machine.{Worker, StateOver, Node, root_node, idle, begin, begin_with, Pushes, Pops, Steals, Loads, Draws}
 use Rattle.search_core.specs.declared.node_keys.NodeKey.{NodeKey}
 use Rattle.search_core.specs.declared.node_keys.NodeKey.TheVariants.{Root}
 use Rattle.search_core.specs.declared.records.Done.{Done}

@@ -1,7 +1,7 @@
 -- Lists of workers with room, where one changes.
 use Rattle.std.proofs.Common.{◌≡◌, inl, inr, true, false, ℕ, zero, suc, ◌+◌, ◌<◌, ◌≤◌, List, [], ◌∷◌, ◌++◌, map, take, length, slice_index_or, slice_set, Some, None, refl, sym, subst, ap, ◌∙◌, length-set, arith}
-use Rattle.search_machine.specs.Bags.{Every}
-use Rattle.search_machine.specs.Machine.{Worker, StateOver, idle, worker, with_worker, IsWorker, Pushes, Pops, Steals, Loads, Draws}
+use Rattle.search_core.specs.Bags.{Every}
+use Rattle.search_core.specs.Machine.{Worker, StateOver, idle, worker, with_worker, IsWorker, Pushes, Pops, Steals, Loads, Draws}
 use Rattle.search_core.specs.declared.node_keys.NodeKey.{NodeKey}
 use Rattle.search_core.specs.declared.node_keys.NodeKey.TheVariants.{Half}
 use Rattle.search_core.specs.Rooms.{Roomy, worker_of, EndsHand, HalvesHand}

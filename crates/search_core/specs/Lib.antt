@@ -1,2 +1,11 @@
+pub mod Bags
+pub mod Journals
+pub mod Machine
+pub mod Replays
+pub mod Outcomes
+pub mod Along
+pub mod Searching
+pub mod Refusals
+pub mod Samples
 pub mod Rooms
 pub mod Told

@@ -2,11 +2,11 @@
 use Rattle.std.specs.Prelude.{◌≡◌, ℕ, ◌-◌, ◌<◌, ◌≤◌, true, false, List, [], ◌∷◌, ◌++◌, length, Option, Some, None, Vec}
 use Rattle.std.specs.Vec.{vec_len, vec_capacity}
 use Rattle.std.specs.Global.{Global}
-use Rattle.search_machine.specs.Bags.{Every}
-use Rattle.search_machine.specs.Machine.{Worker, StateOver, worker, with_worker, IsWorker}
-use Rattle.search_machine.specs.Refusals.{NoSuchWorker, HandIsEmpty, Holding}
-use Rattle.search_machine.specs.declared.refused.Refused.{Refused}
-use Rattle.search_machine.specs.declared.refused.Refused.TheVariants.{NoWorker, HandEmpty, NoTicket}
+use Rattle.search_core.specs.Bags.{Every}
+use Rattle.search_core.specs.Machine.{Worker, StateOver, worker, with_worker, IsWorker}
+use Rattle.search_core.specs.Refusals.{NoSuchWorker, HandIsEmpty, Holding}
+use Rattle.search_core.specs.declared.refused.Refused.{Refused}
+use Rattle.search_core.specs.declared.refused.Refused.TheVariants.{NoWorker, HandEmpty, NoTicket}
 use Rattle.search_core.specs.declared.node_keys.NodeKey.{NodeKey}
 use Rattle.search_core.specs.declared.node_keys.NodeKey.TheVariants.{Half}
 

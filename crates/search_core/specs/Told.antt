@@ -1,9 +1,9 @@
 -- The machine's nodes and records, as they stand behind the keys of nodes.
 use Rattle.std.specs.Prelude.{ℕ, suc, ◌<◌, List, [], ◌∷◌, ◌++◌, map, length, slice_index_or, Option, Some, None, option_map}
 use Rattle.proof_trees.specs.Trees.{Entry}
-use Rattle.search_machine.specs.Bags.{Every}
-use Rattle.search_machine.specs.Journals.{nothing_done}
-use Rattle.search_machine.specs.Machine.{Node, Worker, State, StateOver, Handled, root_node, half_node, handled}
+use Rattle.search_core.specs.Bags.{Every}
+use Rattle.search_core.specs.Journals.{nothing_done}
+use Rattle.search_core.specs.Machine.{Node, Worker, State, StateOver, Handled, root_node, half_node, handled}
 use Rattle.search_core.specs.declared.node_keys.NodeKey.{NodeKey}
 use Rattle.search_core.specs.declared.node_keys.NodeKey.TheVariants.{Root, Half}
 use Rattle.search_core.specs.declared.records.Done.{Done}

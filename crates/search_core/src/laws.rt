@@ -1,9 +1,9 @@
 //! What keys of nodes stand for.
 ghost use Rattle.std.specs.Prelude.{◌≡◌, ℕ, Bool, true, false, List, [], length, Some, slice_get};
 ghost use Rattle.proof_trees.specs.Trees.{Entry};
-ghost use Rattle.search_machine.specs.Machine.{StateOver, State, Event, Push, Pop, Steal, Load, Draw, Accepts, worker, Pushes, Pops, Steals, Loads, Draws, begin, begin_with, half_node, handled};
-ghost use Rattle.search_machine.specs.Refusals.{Refuses, NoSuchWorker, HandIsEmpty, Holding, RefusesPush, RefusesPop, RefusesSteal, RefusesLoad, RefusesDraw};
-ghost use Rattle.search_machine.specs.declared.refused.Refused.{Refused as Cause};
+ghost use Rattle.search_core.specs.Machine.{StateOver, State, Event, Push, Pop, Steal, Load, Draw, Accepts, worker, Pushes, Pops, Steals, Loads, Draws, begin, begin_with, half_node, handled};
+ghost use Rattle.search_core.specs.Refusals.{Refuses, NoSuchWorker, HandIsEmpty, Holding, RefusesPush, RefusesPop, RefusesSteal, RefusesLoad, RefusesDraw};
+ghost use Rattle.search_core.specs.declared.refused.Refused.{Refused as Cause};
 ghost use Rattle.search_core.specs.declared.node_keys.NodeKey.{NodeKey as Key};
 ghost use Rattle.search_core.specs.declared.node_keys.NodeKey.TheVariants.{Root};
 ghost use Rattle.search_core.specs.declared.records.Done.{Done as Ended};

@@ -1,6 +1,6 @@
 //! One worker.
 ghost use Rattle.std.specs.Prelude.{◌≡◌, ℕ, ◌+◌, ◌<◌, ◌≤◌, ◌↔◌, false, true, IsTrue, IfOk, IfSome, OnOk, OnErr, List, [], ◌∷◌, ◌++◌, Some, None, length};
-ghost use Rattle.search_machine.specs.Machine.{idle, Worker};
+ghost use Rattle.search_core.specs.Machine.{idle, Worker};
 ghost use Rattle.search_core.specs.declared.node_keys.NodeKey.{NodeKey};
 ghost use Rattle.search_core.specs.declared.node_keys.NodeKey.TheVariants.{Root};
 ghost use Rattle.search_core.specs.Rooms.{Roomy};

@@ -1,16 +1,16 @@
 //! All workers, and what they share.
 ghost use Rattle.std.specs.Prelude.{◌≡◌, ℕ, ◌+◌, ◌<◌, ◌≤◌, IfOk, OnOk, OnErr, IfErr, length, replicate, map, Some, None, true, false, [], ◌∷◌, ◌++◌, IfSome};
-ghost use Rattle.search_machine.specs.Machine.{idle, begin_with, worker as holder, with_worker, IsWorker, Pushes, Pops, Steals, Loads, Draws, lesser};
-ghost use Rattle.search_machine.specs.Refusals.{Holding, RefusesPush, RefusesPop, RefusesSteal, RefusesLoad, RefusesDraw};
+ghost use Rattle.search_core.specs.Machine.{idle, begin_with, worker as holder, with_worker, IsWorker, Pushes, Pops, Steals, Loads, Draws, lesser};
+ghost use Rattle.search_core.specs.Refusals.{Holding, RefusesPush, RefusesPop, RefusesSteal, RefusesLoad, RefusesDraw};
 ghost use Rattle.search_core.specs.declared.node_keys.NodeKey.{NodeKey as Key};
 ghost use Rattle.search_core.specs.declared.node_keys.NodeKey.TheVariants.{Root, Half};
-ghost use Rattle.search_machine.specs.Bags.{Every};
+ghost use Rattle.search_core.specs.Bags.{Every};
 ghost use Rattle.search_core.specs.Rooms.{worker_of, EndsHand, HalvesHand, LacksTicket};
 
 use crate::node_keys::NodeKey;
 use crate::records::Done;
+use crate::refused::Refused;
 use crate::seat::Seat;
-use search_machine::Refused;
 use std::alloc::Global;
 use std::marker::Model;
 use stow_data::NoMemory;

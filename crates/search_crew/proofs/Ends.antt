@@ -3,14 +3,14 @@ use Rattle.std.proofs.Common.{◌≡◌, ◌⊎◌, inl, inr, ℕ, zero, suc, �
 use Rattle.std.proofs.lemmas.Bool.Decides.{nat_tests}
 use Rattle.std.proofs.lemmas.List.{map-append}
 use Rattle.zero_one_rows.specs.Variables.{Voyage}
-use Rattle.search_nodes.specs.declared.nodes.Node.{Node}
-use Rattle.search_machine.specs.Bags.{weigh, Every}
-use Rattle.search_machine.specs.Machine.{root_node}
-use Rattle.search_machine.specs.Outcomes.{path_of}
-use Rattle.search_machine.proofs.Weights.{weigh_append, weigh_map, every_append, every_more}
-use Rattle.incumbent_word.specs.declared.view.View.{View}
-use Rattle.incumbent_word.specs.Rule.{none_yet, fresh, seen_at, after_split, new_seat, joined}
-use Rattle.incumbent_word.specs.Tokens.{BoardToken, SeatToken}
+use Rattle.certificate.specs.declared.nodes.Node.{Node}
+use Rattle.search_core.specs.Bags.{weigh, Every}
+use Rattle.search_core.specs.Machine.{root_node}
+use Rattle.search_core.specs.Outcomes.{path_of}
+use Rattle.search_core.proofs.Weights.{weigh_append, weigh_map, every_append, every_more}
+use Rattle.node_racks.specs.declared.view.View.{View}
+use Rattle.node_racks.specs.Rule.{none_yet, fresh, seen_at, after_split, new_seat, joined}
+use Rattle.node_racks.specs.Tokens.{BoardToken, SeatToken}
 use Rattle.node_racks.specs.declared.racks.Rack.{Rack}
 use Rattle.node_racks.specs.declared.racks.Pass.{Pass}
 use Rattle.node_racks.specs.Racks.{IsPassAt, IsFresh, AreAll, number_of, count_from, took_weight, put_weight, all_took, all_put}

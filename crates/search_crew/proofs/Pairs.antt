@@ -1,8 +1,8 @@
 -- What holds at each place of two lists.
 use Rattle.std.proofs.Common.{◌≡◌, ℕ, zero, suc, ◌<◌, List, [], ◌∷◌, length, map, slice_index_or, subst, arith}
 use Rattle.zero_one_rows.specs.Variables.{Voyage}
-use Rattle.incumbent_word.specs.Tokens.{BoardToken}
-use Rattle.search_nodes.specs.declared.nodes.Node.{Node}
+use Rattle.node_racks.specs.Tokens.{BoardToken}
+use Rattle.certificate.specs.declared.nodes.Node.{Node}
 use Rattle.node_racks.specs.declared.racks.Rack.{Rack}
 use Rattle.node_racks.specs.Rounds.{Each}
 use Rattle.search_crew.specs.declared.places.Back.{Back}

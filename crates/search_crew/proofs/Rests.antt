@@ -2,11 +2,11 @@
 use Rattle.std.proofs.Common.{◌≡◌, ℕ, ◌+◌, ◌<◌, true, List, [], ◌∷◌, ◌++◌, length, Option, Some, None, refl, sym, subst, ap, arith}
 use Rattle.std.specs.Prelude.{is_some, IfSome}
 use Rattle.zero_one_rows.specs.Variables.{Voyage}
-use Rattle.search_nodes.specs.declared.nodes.Node.{Node}
-use Rattle.search_machine.specs.Bags.{weigh, Every}
-use Rattle.search_machine.proofs.Weights.{weigh_append, every_append, every_left, every_right}
-use Rattle.incumbent_word.specs.declared.view.View.{View}
-use Rattle.incumbent_word.specs.Rule.{with_ticket, one_over}
+use Rattle.certificate.specs.declared.nodes.Node.{Node}
+use Rattle.search_core.specs.Bags.{weigh, Every}
+use Rattle.search_core.proofs.Weights.{weigh_append, every_append, every_left, every_right}
+use Rattle.node_racks.specs.declared.view.View.{View}
+use Rattle.node_racks.specs.Rule.{with_ticket, one_over}
 use Rattle.node_work.specs.Work.{node_of, IsNode}
 use Rattle.crew_turns.specs.declared.deeds.Deeds.{Deeds}
 use Rattle.crew_turns.specs.declared.deeds.Halves.{Halves}

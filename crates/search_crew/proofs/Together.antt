@@ -7,14 +7,14 @@ use Rattle.zero_one_rows.specs.Variables.{Voyage}
 use Rattle.zero_one_rows.specs.Rows.{whole}
 use Rattle.program_rows.specs.Counted.{base_rows}
 use Rattle.certificate.specs.Entries.{same_row, number_of}
-use Rattle.search_machine.specs.Bags.{In}
-use Rattle.search_machine.specs.Journals.{Path, Placed}
-use Rattle.search_machine.specs.Machine.{Handled, at_its_path}
-use Rattle.search_machine.specs.Outcomes.{path_of, children}
-use Rattle.search_machine.specs.Searching.{IsPaid}
-use Rattle.search_machine.proofs.Weights.{weigh_append, every_append, every_more}
-use Rattle.incumbent_word.specs.declared.view.View.{View}
-use Rattle.incumbent_word.specs.Rule.{none_yet, joined}
+use Rattle.search_core.specs.Bags.{In}
+use Rattle.search_core.specs.Journals.{Path, Placed}
+use Rattle.search_core.specs.Machine.{Handled, at_its_path}
+use Rattle.search_core.specs.Outcomes.{path_of, children}
+use Rattle.search_core.specs.Searching.{IsPaid}
+use Rattle.search_core.proofs.Weights.{weigh_append, every_append, every_more}
+use Rattle.node_racks.specs.declared.view.View.{View}
+use Rattle.node_racks.specs.Rule.{none_yet, joined}
 use Rattle.node_ledger.specs.Gathered.{placed}
 use Rattle.steal_pool.specs.UnderWay.{HasOffered, AllowedFrom}
 use Rattle.crew_turns.specs.declared.deeds.Deeds.{Deeds}

@@ -2,10 +2,10 @@
 use Rattle.std.specs.Prelude.{◌≡◌, ℕ, ◌+◌, ◌<◌, ◌≤◌, ◌==◌, cond, []}
 use Rattle.stow_data.specs.Shipment.{IsCargo}
 use Rattle.zero_one_rows.specs.Variables.{Voyage}
-use Rattle.search_nodes.specs.declared.nodes.Node.{Node}
-use Rattle.incumbent_word.specs.declared.view.View.{View}
-use Rattle.incumbent_word.specs.Rule.{none_yet}
-use Rattle.incumbent_word.specs.Tokens.{BoardToken, SeatToken}
+use Rattle.certificate.specs.declared.nodes.Node.{Node}
+use Rattle.node_racks.specs.declared.view.View.{View}
+use Rattle.node_racks.specs.Rule.{none_yet}
+use Rattle.node_racks.specs.Tokens.{BoardToken, SeatToken}
 use Rattle.node_work.specs.Work.{most_rehandles}
 use Rattle.crew_turns.specs.Jobs.{Means}
 

@@ -1,18 +1,16 @@
 //! What workers are given, before any node is handled.
 ghost use Rattle.std.specs.Prelude.{◌≡◌, ◌+◌, ◌<◌, ◌≤◌, ℕ, IfOk, OnOk, length, map};
-ghost use Rattle.search_nodes.specs.declared.nodes.Node.{Node};
+ghost use Rattle.certificate.specs.declared.nodes.Node.{Node};
 ghost use Rattle.node_racks.specs.Racks.{IsPassAt, IsFresh, number_of, took_weight, put_weight};
-ghost use Rattle.search_machine.specs.Bags.{weigh, Every};
+ghost use Rattle.search_core.specs.Bags.{weigh, Every};
 ghost use Rattle.search_crew.specs.Ends.{IsPosted, post_number};
 ghost use Rattle.search_crew.specs.Starts.{IsMaker, first_node, seed_at};
 
 use crate::places::Post;
-use certificate::Path;
+use certificate::{Node, Path, Trail};
 use crew_turns::lay;
-use incumbent_word::{Board, Owner};
-use node_racks::{Pass, Rack, Wanted};
+use node_racks::{Board, Owner, Pass, Rack, Wanted};
 use node_work::Tables;
-use search_nodes::{Node, Trail};
 use std::alloc::Global;
 use stow_data::NoMemory;
 use voyage_guess::Planner;

@@ -8,8 +8,7 @@ ghost use Rattle.search_crew.specs.Ends.{IsPosted, IsBack, IsReturned, IsGiven, 
 
 use crate::places::{Back, Place, Post};
 use crew_turns::{Deeds, Job, Signs, serve};
-use incumbent_word::Board;
-use node_racks::{Rack, Wanted};
+use node_racks::{Board, Rack, Wanted};
 use node_work::{Desk, Tables};
 use std::alloc::Global;
 use std::sync::Wait;

@@ -2,16 +2,16 @@
 ghost use Rattle.std.specs.Prelude.{◌≡◌, ◌<◌, ◌≤◌, ◌+◌, true, false, ◌++◌, ◌∷◌, [], IfOk, OnOk};
 ghost use Rattle.stow_data.specs.Shipment.{IsCargo};
 ghost use Rattle.node_work.specs.Work.{IsNode, most_rehandles};
-ghost use Rattle.search_machine.specs.Bags.{weigh, Every};
+ghost use Rattle.search_core.specs.Bags.{weigh, Every};
 ghost use Rattle.crew_turns.specs.Deeds.{Flow, IsDone, on_nodes};
 ghost use Rattle.search_crew.specs.Ends.{IsRest, IsLive, halves_in};
 ghost use Rattle.search_crew.specs.Starts.{IsUnused};
 
 use crate::crew::put_away;
+use certificate::Node;
 use crew_turns::{Deeds, Halves, handle};
-use incumbent_word::{Board, Seat};
+use node_racks::{Board, Seat};
 use node_work::{Desk, Tables};
-use search_nodes::Node;
 use std::alloc::Global;
 use std::sync::Wait;
 use stow_data::NoMemory;

@@ -1,19 +1,17 @@
 //! What the workers brought back, taken in.
 ghost use Rattle.std.specs.Prelude.{◌≡◌, ◌+◌, ◌++◌, ◌∷◌, [], ◌≤◌, IfOk, OnOk, length, map};
 ghost use Rattle.zero_one_rows.specs.Variables.{Voyage};
-ghost use Rattle.search_machine.specs.Bags.{Every};
-ghost use Rattle.incumbent_word.specs.Rule.{joined, none_yet};
+ghost use Rattle.search_core.specs.Bags.{Every};
+ghost use Rattle.node_racks.specs.Rule.{joined, none_yet};
 ghost use Rattle.crew_turns.specs.Deeds.{no_deeds};
 ghost use Rattle.search_crew.specs.Ends.{IsBack, IsEnd, deeds_of, pass_of};
 ghost use Rattle.search_crew.specs.Starts.{IsUnused};
 ghost use Rattle.search_crew.specs.Together.{both, cheaper_of};
 
 use crate::places::Back;
-use certificate::{JournalList, PathList};
+use certificate::{JournalList, Node, PathList};
 use crew_turns::{Deeds, Solution};
-use incumbent_word::{Board, Owner};
-use node_racks::{Pass, Wanted};
-use search_nodes::Node;
+use node_racks::{Board, Owner, Pass, Wanted};
 use std::alloc::Global;
 use stow_data::NoMemory;
 

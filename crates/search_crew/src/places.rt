@@ -1,9 +1,8 @@
 //! What a worker is given, and what it brings back. Neither has a desk, which is made where the worker runs.
 
+use certificate::Node;
 use crew_turns::Deeds;
-use incumbent_word::Seat;
-use node_racks::{Pass, Wanted};
-use search_nodes::Node;
+use node_racks::{Pass, Seat, Wanted};
 use voyage_guess::Planner;
 
 /// What a worker is given: its pass to the rack, its seat at the board, a planner for its desk, and the nodes that its deque refused.

@@ -11,11 +11,11 @@ use Rattle.proof_trees.specs.Boxes.{Box}
 use Rattle.proof_trees.specs.Multipliers.{Multipliers}
 use Rattle.proof_trees.specs.Trees.{End, Leaf, Left, Branch, Entry, root}
 use Rattle.certificate.specs.declared.tree.Record.{Record}
-use Rattle.search_nodes.specs.declared.nodes.Node.{Node}
+use Rattle.certificate.specs.declared.nodes.Node.{Node}
 use Rattle.certificate.specs.Entries.{same_row, entry_of}
-use Rattle.search_machine.specs.Journals.{Anything, EndAllowed, branches, box_after, multipliers_after}
-use Rattle.search_machine.specs.Machine.{Divides, IsTrail}
-use Rattle.search_machine.proofs.Trails.{trail_more}
+use Rattle.search_core.specs.Journals.{Anything, EndAllowed, branches, box_after, multipliers_after}
+use Rattle.search_core.specs.Machine.{Divides, IsTrail}
+use Rattle.search_core.proofs.Trails.{trail_more}
 use Rattle.node_work.specs.Work.{IsNode, begins_at, EndsBranched}
 
 module _ (m : Voyage) where

@@ -20,10 +20,9 @@ mod nodes;
 mod orders;
 
 use orders::write_orders;
-use program_ends::given_words;
 use std::process::ExitCode;
 use stow_data::Bytes;
-use stow_io::{RealFolder, RealOut, Sink};
+use stow_io::{RealFolder, RealOut, Sink, given_words};
 
 fn main(rt: HostRuntime) -> ExitCode {
     let alloc = rt.alloc();

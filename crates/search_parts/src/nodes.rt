@@ -5,9 +5,8 @@ ghost use Rattle.node_work.specs.Work.{IsNode, EndsBranched, begins_at, most_reh
 ghost use Rattle.zero_one_rows.specs.Variables.{Voyage};
 
 use box_parts::write_count;
-use certificate::{Path, Record};
+use certificate::{Node, Path, Record, SharedRecord, Trail};
 use node_work::{BaseMatrix, Desk, Tables, Worked, work};
-use search_nodes::{Node, SharedRecord, Trail};
 use std::alloc::Global;
 use stow_data::{Bytes, NoMemory};
 use voyage_guess::Planner;

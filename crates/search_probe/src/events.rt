@@ -1,7 +1,7 @@
 //! Events, as lines name them.
 use crate::stop::Stop;
 use certificate::{Record, Tree};
-use search_events::Event;
+use record_judge::Event;
 use std::alloc::Global;
 use stow_data::{Word, WordList};
 

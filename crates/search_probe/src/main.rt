@@ -10,11 +10,10 @@ mod search;
 mod stop;
 
 use lines::probe;
-use program_ends::{given_words, say_name};
 use std::process::ExitCode;
 use stop::Stop;
 use stow_data::Bytes;
-use stow_io::{RealFolder, RealOut, Sink};
+use stow_io::{RealFolder, RealOut, Sink, given_words, say_name};
 
 fn main(rt: HostRuntime) -> ExitCode {
     let alloc = rt.alloc();

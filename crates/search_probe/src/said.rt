@@ -1,7 +1,7 @@
 //! What is printed of answers.
 use certificate::{End, Entry, Path};
 use itoa::Buffer;
-use search_events::Refused;
+use search_core::Refused;
 use stow_data::{Bytes, NoMemory};
 
 /// Appends a text.

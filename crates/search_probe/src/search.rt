@@ -1,20 +1,19 @@
 //! One search: its events in order, and what they are answered.
 ghost use Rattle.std.specs.Prelude.{◌≡◌, ◌<◌};
 ghost use Rattle.stowage_rules.specs.Departure.{HasArrival};
-ghost use Rattle.search_machine.specs.Machine.{IsWorker};
+ghost use Rattle.search_core.specs.Machine.{IsWorker};
 
 use crate::events::{event_of, number_of, words_of};
 use crate::inputs::{Voyage, records_of, voyage_of};
 use crate::said::{say, say_cause, say_entry, say_number, say_path};
 use crate::stop::Stop;
 use certificate::Tree;
-use crossing_law::crossing_rows_hold;
-use record_judge::RecordJudge;
-use search_events::{Core, Ended, Event};
+use record_judge::{Core, Ended, Event, RecordJudge};
 use std::alloc::Global;
 use stow_data::{Bytes, NoMemory, Word};
 use stow_io::Folder;
 use zero_one_model::{Model, ModelNo};
+use zero_one_rows::crossing_rows_hold;
 
 /// With what a search begins.
 #[derive(Clone, Copy)]

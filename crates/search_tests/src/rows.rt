@@ -1,7 +1,6 @@
 //! The order of rows, by hand.
-use chain_rows::Chain;
 use stow_data::{CallNo, HalfNo, KindNo, PlaceNo, StackNo};
-use zero_one_rows::Row;
+use zero_one_rows::{Chain, Row};
 
 /// A row's text comes first by its family, then by its numbers, chains with a prefix first.
 fn rises(a: &Row, b: &Row) -> bool {

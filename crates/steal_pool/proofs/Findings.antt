@@ -6,23 +6,23 @@ use Rattle.zero_one_rows.specs.Rows.{whole}
 use Rattle.program_rows.specs.Counted.{base_rows}
 use Rattle.proof_trees.specs.Boxes.{Box}
 use Rattle.proof_trees.specs.Trees.{Entry, Pending, root}
-use Rattle.search_nodes.specs.declared.nodes.Node.{Node}
+use Rattle.certificate.specs.declared.nodes.Node.{Node}
 use Rattle.certificate.specs.declared.journals.Entry.{Entry as Line}
 use Rattle.certificate.specs.Entries.{same_row, number_of}
-use Rattle.search_machine.specs.Journals.{Path, Placed, all_nodes, nothing_done, Whole, EachAllowed, Gathers, Tree, preorder}
-use Rattle.search_machine.specs.Machine.{Handled, at_its_path, begins}
-use Rattle.search_machine.specs.Outcomes as outcomes
-use Rattle.search_machine.specs.Outcomes.{path_of, EachHandled, Searched}
-use Rattle.search_machine.specs.Searching.{IsPaid, Searching}
-use Rattle.search_machine.specs.Along.{is_root, HoldsAlong, Begins, IsOfNode}
-use Rattle.search_machine.proofs.Weights.{every_more, every_in}
-use Rattle.search_machine.proofs.EndedEntries.{allowed_lesser}
-use Rattle.search_machine.proofs.Along.{hold_more}
+use Rattle.search_core.specs.Journals.{Path, Placed, all_nodes, nothing_done, Whole, EachAllowed, Gathers, Tree, preorder}
+use Rattle.search_core.specs.Machine.{Handled, at_its_path, begins}
+use Rattle.search_core.specs.Outcomes as outcomes
+use Rattle.search_core.specs.Outcomes.{path_of, EachHandled, Searched}
+use Rattle.search_core.specs.Searching.{IsPaid, Searching}
+use Rattle.search_core.specs.Along.{is_root, HoldsAlong, Begins, IsOfNode}
+use Rattle.search_core.proofs.Weights.{every_more, every_in}
+use Rattle.search_core.proofs.EndedEntries.{allowed_lesser}
+use Rattle.search_core.proofs.Along.{hold_more}
 use Rattle.node_ledger.specs.Gathered.{placed, placed_entries, nodes_of, AreWhole}
 use Rattle.node_work.specs.Work.{node_of}
 use Rattle.steal_pool.specs.declared.found.Found.{Found}
-use Rattle.incumbent_word.specs.declared.view.View.{View}
-use Rattle.incumbent_word.specs.Rule.{none_yet, fresh, seen_at, after_split, joined}
+use Rattle.node_racks.specs.declared.view.View.{View}
+use Rattle.node_racks.specs.Rule.{none_yet, fresh, seen_at, after_split, joined}
 use Rattle.steal_pool.specs.Found.{IsWorked, EachWorked, HasBest, IsFound}
 use Rattle.steal_pool.specs.declared.opens.Open.{Open}
 use Rattle.steal_pool.specs.Opens.{path_at, node_at}

@@ -9,11 +9,11 @@ use Rattle.program_rows.specs.Counted.{base_rows}
 use Rattle.program_rows.specs.Ordered.{ListsBaseRows}
 use Rattle.proof_trees.specs.Program.{Meets}
 use Rattle.certificate.specs.Entries.{same_row, number_of}
-use Rattle.search_machine.specs.Bags.{Every}
-use Rattle.search_machine.specs.Journals.{Path, Placed}
-use Rattle.search_machine.specs.Machine.{at_its_path, BaseSolves, NoneNegative}
-use Rattle.search_machine.specs.Outcomes.{path_of}
-use Rattle.search_machine.specs.Replays.{Replays}
+use Rattle.search_core.specs.Bags.{Every}
+use Rattle.search_core.specs.Journals.{Path, Placed}
+use Rattle.search_core.specs.Machine.{at_its_path, BaseSolves, NoneNegative}
+use Rattle.search_core.specs.Outcomes.{path_of}
+use Rattle.search_core.specs.Replays.{Replays}
 use Rattle.node_ledger.specs.Gathered.{placed_entries}
 use Rattle.steal_pool.specs.declared.found.Found.{Found}
 use Rattle.steal_pool.specs.Found.{IsFound}

@@ -11,21 +11,21 @@ use Rattle.proof_trees.specs.Multipliers.{Multipliers, Closes}
 use Rattle.proof_trees.proofs.Duality.{length_tightened}
 use Rattle.proof_trees.specs.Trees.{End, Leaf, Entry, Pending, root}
 use Rattle.certificate.specs.declared.tree.Record.{Record}
-use Rattle.search_nodes.specs.declared.nodes.Node.{Node}
+use Rattle.certificate.specs.declared.nodes.Node.{Node}
 use Rattle.certificate.specs.declared.journals.Entry.{Entry as Line}
 use Rattle.certificate.specs.Entries.{same_row, number_of, entry_of}
-use Rattle.search_machine.specs.Journals.{Path, Placed, branches, child}
-use Rattle.search_machine.specs.Machine as machine
-use Rattle.search_machine.specs.Machine.{Handled, handled, at_its_path, half_node, begins, IsTrail, is_full, price}
-use Rattle.search_machine.specs.Along.{is_root}
-use Rattle.search_machine.specs.Bags.{In}
-use Rattle.search_machine.specs.Journals.{Anything, Allowed}
-use Rattle.search_machine.specs.Searching.{IsPaid, Searching}
-use Rattle.search_machine.proofs.Weights.{every_append, every_more, every_right}
-use Rattle.search_machine.proofs.Trails.{begins_sound}
-use Rattle.search_machine.proofs.Searching.{searching_begins, searching_closes, searching_divides}
-use Rattle.incumbent_word.specs.declared.view.View.{View}
-use Rattle.incumbent_word.specs.Rule.{none_yet, seen_at, offered_at, with_ticket, one_over}
+use Rattle.search_core.specs.Journals.{Path, Placed, branches, child}
+use Rattle.search_core.specs.Machine as machine
+use Rattle.search_core.specs.Machine.{Handled, handled, at_its_path, half_node, begins, IsTrail, is_full, price}
+use Rattle.search_core.specs.Along.{is_root}
+use Rattle.search_core.specs.Bags.{In}
+use Rattle.search_core.specs.Journals.{Anything, Allowed}
+use Rattle.search_core.specs.Searching.{IsPaid, Searching}
+use Rattle.search_core.proofs.Weights.{every_append, every_more, every_right}
+use Rattle.search_core.proofs.Trails.{begins_sound}
+use Rattle.search_core.proofs.Searching.{searching_begins, searching_closes, searching_divides}
+use Rattle.node_racks.specs.declared.view.View.{View}
+use Rattle.node_racks.specs.Rule.{none_yet, seen_at, offered_at, with_ticket, one_over}
 use Rattle.node_ledger.specs.Gathered.{placed}
 use Rattle.node_work.specs.Work as work
 use Rattle.node_work.specs.Work.{node_of, IsNode, begins_at, most_at, most_raises, box_at, IsLean, IsEarnest, EndsClosed, EndsBranched, EndsFull, Works}

@@ -7,11 +7,11 @@ use Rattle.program_rows.specs.Counted.{base_rows}
 use Rattle.proof_trees.specs.Boxes.{Box}
 use Rattle.proof_trees.specs.Trees.{Entry, Pending}
 use Rattle.certificate.specs.Entries.{same_row, number_of}
-use Rattle.search_machine.specs.Bags.{Every}
-use Rattle.search_machine.specs.Journals.{branches}
-use Rattle.search_machine.specs.Machine.{Node, Handled, at_its_path, begins, is_full, price}
-use Rattle.search_machine.specs.Outcomes.{path_of, Searched}
-use Rattle.search_machine.specs.Along.{is_root}
+use Rattle.search_core.specs.Bags.{Every}
+use Rattle.search_core.specs.Journals.{branches}
+use Rattle.search_core.specs.Machine.{Node, Handled, at_its_path, begins, is_full, price}
+use Rattle.search_core.specs.Outcomes.{path_of, Searched}
+use Rattle.search_core.specs.Along.{is_root}
 use Rattle.node_ledger.specs.Gathered.{placed_entries}
 use Rattle.node_work.specs.Work.{most_raises, IsLean, IsEarnest}
 use Rattle.steal_pool.specs.declared.found.Found.{Found}

@@ -6,15 +6,15 @@ use Rattle.zero_one_rows.specs.Rows.{whole}
 use Rattle.program_rows.specs.Counted.{base_rows}
 use Rattle.proof_trees.specs.Boxes.{Box}
 use Rattle.certificate.specs.declared.tree.Record.{Record}
-use Rattle.search_nodes.specs.declared.nodes.Node.{Node}
+use Rattle.certificate.specs.declared.nodes.Node.{Node}
 use Rattle.certificate.specs.declared.journals.Entry.{Entry}
 use Rattle.certificate.specs.Entries.{same_row, number_of}
-use Rattle.search_machine.specs.Bags.{Every}
-use Rattle.search_machine.specs.Journals.{Anything, Allowed}
-use Rattle.search_machine.specs.Machine.{Handled, at_its_path, begins}
-use Rattle.search_machine.specs.Searching.{IsPaid, Searching}
-use Rattle.incumbent_word.specs.declared.view.View.{View}
-use Rattle.incumbent_word.specs.Rule.{none_yet, offered_at}
+use Rattle.search_core.specs.Bags.{Every}
+use Rattle.search_core.specs.Journals.{Anything, Allowed}
+use Rattle.search_core.specs.Machine.{Handled, at_its_path, begins}
+use Rattle.search_core.specs.Searching.{IsPaid, Searching}
+use Rattle.node_racks.specs.declared.view.View.{View}
+use Rattle.node_racks.specs.Rule.{none_yet, offered_at}
 use Rattle.node_ledger.specs.Gathered.{placed}
 use Rattle.node_work.specs.Work.{node_of}
 use Rattle.node_work.specs.declared.worked.Worked.{Worked}

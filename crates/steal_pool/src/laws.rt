@@ -7,22 +7,21 @@ ghost use Rattle.zero_one_rows.specs.Rows.{whole};
 ghost use Rattle.proof_trees.specs.Trees.{Proves};
 ghost use Rattle.certificate.specs.declared.tree.Record.{Record};
 ghost use Rattle.certificate.specs.Entries.{same_row, number_of, entry_of};
-ghost use Rattle.search_machine.specs.Bags.{weigh};
-ghost use Rattle.search_machine.specs.Journals.{is_left, Settled};
-ghost use Rattle.search_machine.specs.Replays.{Replays};
-ghost use Rattle.search_machine.specs.Along.{HoldsAlong};
+ghost use Rattle.search_core.specs.Bags.{weigh};
+ghost use Rattle.search_core.specs.Journals.{is_left, Settled};
+ghost use Rattle.search_core.specs.Replays.{Replays};
+ghost use Rattle.search_core.specs.Along.{HoldsAlong};
 ghost use Rattle.node_ledger.specs.Gathered.{placed_entries, AreWhole, IsGathered};
 ghost use Rattle.steal_pool.specs.declared.found.Found.{Found as Findings};
 ghost use Rattle.steal_pool.specs.Found.{IsFound, IsWorked};
 
-use crossing_law::crossing_rows_hold;
 use node_ledger::gathered_journals_prove;
 use program_rows::rows_are_listed;
-use search_machine::{
+use search_core::{
     events_leave_a_tree, handed_nodes_are_whole, journals_are_a_tree, records_are_of_nodes,
     searched_is_founded,
 };
-use zero_one_rows::Row;
+use zero_one_rows::{Row, crossing_rows_hold};
 
 /// What a search found is one tree: its journals, with the paths of nodes that were left, are whole. The gathered tree is settled at the best value, and proves it where no node was left. Along it each record is lean, and earnest where it divides its box; and as many records aren't left open as nodes were handled.
 pub fn found_journals_prove()

@@ -2,8 +2,7 @@
 ghost use Rattle.std.specs.Prelude.{◌≡◌, ◌≤◌, ◌∷◌, [], ◌++◌, IfOk, length, take};
 ghost use Rattle.steal_pool.specs.Opens.{path_at, trail_at, HasRecord, IsOnWay};
 
-use certificate::Path;
-use search_nodes::Trail;
+use certificate::{Path, Trail};
 use std::alloc::Global;
 use stow_data::NoMemory;
 

@@ -3,18 +3,17 @@ ghost use Rattle.std.specs.Prelude.{◌≡◌, ◌≤◌, ◌<◌, ◌+◌, ◌�
 ghost use Rattle.stow_data.specs.Shipment.{IsCargo};
 ghost use Rattle.zero_one_rows.specs.Variables.{Voyage};
 ghost use Rattle.node_work.specs.Work.{most_rehandles};
-ghost use Rattle.search_machine.specs.Bags.{Every};
+ghost use Rattle.search_core.specs.Bags.{Every};
 ghost use Rattle.steal_pool.specs.Opens.{path_at, AreBeside, IsOnWay};
 ghost use Rattle.steal_pool.specs.UnderWay.{IsUnderWay, Goes, Keeps, Tells, divided_by, entry_at, found_of, halves_of};
-ghost use Rattle.incumbent_word.specs.declared.view.View.{View as Views};
-ghost use Rattle.incumbent_word.specs.Rule.{none_yet};
+ghost use Rattle.node_racks.specs.declared.view.View.{View as Views};
+ghost use Rattle.node_racks.specs.Rule.{none_yet};
 
 use crate::found::Found;
 use crate::opens::Open;
-use certificate::{Entry, Journal, JournalList, Path, PathList, Record};
-use incumbent_word::{Board, Seat};
+use certificate::{Entry, Journal, JournalList, Node, Path, PathList, Record, SharedRecord, Trail};
+use node_racks::{Board, Seat};
 use node_work::{Desk, Worked};
-use search_nodes::{Node, SharedRecord, Trail};
 use std::alloc::Global;
 use std::mem;
 use stow_data::NoMemory;

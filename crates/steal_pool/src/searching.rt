@@ -7,7 +7,7 @@ ghost use Rattle.steal_pool.specs.UnderWay.{IsUnderWay};
 
 use crate::found::Found;
 use crate::run::Run;
-use incumbent_word::{Board, Seat};
+use node_racks::{Board, Seat};
 use node_work::{BaseMatrix, Desk, Tables};
 use std::alloc::Global;
 use stow_data::NoMemory;

@@ -8,13 +8,13 @@ use Rattle.certificate.specs.declared.tree.Head.{Head}
 use Rattle.certificate.specs.declared.tree.Outcome.{Outcome}
 use Rattle.certificate.specs.declared.tree.Outcome.TheVariants as outcome
 use Rattle.certificate.specs.declared.tree.Record.{Record}
-use Rattle.solution_meaning.specs.Laws.{HasNoVoyage}
+use Rattle.model_bridge.specs.Laws.{HasNoVoyage}
 use Rattle.plan_search.specs.Certified.{OutcomeHolds, CountsVoyage, Certifies}
-use Rattle.program_ends.specs.declared.files.Finding.{Finding}
-use Rattle.program_ends.specs.declared.files.Finding.TheVariants as finding
-use Rattle.program_ends.specs.Writing.{with_files}
-use Rattle.program_ends.specs.declared.files.NamedFile.{NamedFile}
-use Rattle.program_ends.specs.declared.files.Work.{Work}
+use Rattle.stow_io.specs.declared.files.Finding.{Finding}
+use Rattle.stow_io.specs.declared.files.Finding.TheVariants as finding
+use Rattle.stow_io.specs.Writing.{with_files}
+use Rattle.stow_io.specs.declared.files.NamedFile.{NamedFile}
+use Rattle.stow_io.specs.declared.files.Work.{Work}
 use Rattle.voyage_inputs.specs.declared.answer.Answer.{Answer}
 use Rattle.voyage_inputs.specs.declared.answer.Answer.TheVariants as answer
 use Rattle.voyage_inputs.specs.declared.voyage.BookedVoyage.{BookedVoyage}

@@ -15,7 +15,7 @@ use Rattle.stow_report.specs.Verdicts.{file_line}
 use Rattle.voyage_inputs.specs.declared.answer.Answer.{Answer}
 use Rattle.voyage_inputs.specs.declared.answer.Answer.TheVariants as answer
 use Rattle.voyage_inputs.specs.declared.voyage.BookedVoyage.{BookedVoyage}
-use Rattle.program_ends.specs.declared.files.Work.{Work}
+use Rattle.stow_io.specs.declared.files.Work.{Work}
 use Rattle.stow_words.specs.declared.order.Order.{Order}
 use Rattle.stow_words.specs.declared.order.Order.TheVariants.{Check, Show}
 use Rattle.voyage_inputs.specs.Names.{Names, names_from}

@@ -8,7 +8,7 @@ use Rattle.certificate.specs.declared.tree.Head.{Head}
 use Rattle.certificate.specs.declared.tree.Record.{Record}
 use Rattle.certificate.specs.Grammar.{IsCert}
 use Rattle.certificate.proofs.Determined.{one_tree, one_fault, no_fault}
-use Rattle.solution_meaning.specs.Laws.{IsProblem}
+use Rattle.model_bridge.specs.Laws.{IsProblem}
 use Rattle.file_judge.specs.declared.refusals.JudgeNo.{JudgeNo}
 use Rattle.file_judge.specs.Lines.{line_of}
 use Rattle.file_judge.proofs.OneNo.{one_no, yes_or_no}
@@ -20,9 +20,9 @@ use Rattle.voyage_inputs.specs.declared.answer.Answer.TheVariants as answer
 use Rattle.voyage_inputs.specs.declared.voyage.BookedVoyage.{BookedVoyage}
 use Rattle.voyage_inputs.specs.Inputs.{IsContent}
 use Rattle.voyage_inputs.proofs.OneInput.{one_content}
-use Rattle.program_ends.specs.declared.files.Finding.{Finding}
-use Rattle.program_ends.specs.declared.files.NamedFile.{NamedFile}
-use Rattle.program_ends.specs.declared.files.Work.{Work}
+use Rattle.stow_io.specs.declared.files.Finding.{Finding}
+use Rattle.stow_io.specs.declared.files.NamedFile.{NamedFile}
+use Rattle.stow_io.specs.declared.files.Work.{Work}
 use Rattle.stow_answers.specs.Checks.{AreBeside, AreTexts, Confirms, IsCertOf, JudgedAs, ReadsCert, ReadsFiles, RefusesPart, RefusesText}
 use Rattle.stow_answers.specs.Voyages.{voyage_of}
 use Rattle.stow_answers.specs.Work.{cert_name, file_name}

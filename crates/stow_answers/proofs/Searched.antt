@@ -7,8 +7,8 @@ use Rattle.stow_report.specs.declared.lines.Group.{Group}
 use Rattle.stow_report.specs.declared.lines.Group.TheVariants as group
 use Rattle.stow_report.specs.declared.lines.Line.{Line}
 use Rattle.stow_report.specs.Refusals.{refusal_text}
-use Rattle.program_ends.specs.declared.files.Finding.TheVariants.{Fine}
-use Rattle.program_ends.specs.declared.files.Work.{Work}
+use Rattle.stow_io.specs.declared.files.Finding.TheVariants.{Fine}
+use Rattle.stow_io.specs.declared.files.Work.{Work}
 use Rattle.voyage_inputs.specs.declared.answer.Answer.{Answer}
 use Rattle.voyage_inputs.specs.declared.answer.Answer.TheVariants as answer
 use Rattle.voyage_inputs.specs.declared.voyage.BookedVoyage.{BookedVoyage}

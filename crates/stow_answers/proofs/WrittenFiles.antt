@@ -19,7 +19,7 @@ use Rattle.stow_answers.specs.Checks.{AreBeside, AreTexts, IsCertOf, IsCertText,
 use Rattle.stow_answers.specs.Voyages.{voyage_of}
 use Rattle.stow_answers.specs.Work.{cert_name, file_name}
 use Rattle.zero_one_model.specs.Building.{IsWithin}
-use Rattle.solution_meaning.specs.Laws.{IsProblem}
+use Rattle.model_bridge.specs.Laws.{IsProblem}
 use Rattle.stow_answers.specs.Answers.{CheckOf}
 use Rattle.stow_answers.proofs.Judging.{IsStopOf, rose_before}
 

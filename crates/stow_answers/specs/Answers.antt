@@ -14,15 +14,15 @@ use Rattle.stow_report.specs.Inputs.{limit_line}
 use Rattle.stow_report.specs.Listings.{listing_text}
 use Rattle.voyage_inputs.specs.declared.answer.Answer.{Answer}
 use Rattle.voyage_inputs.specs.declared.answer.Answer.TheVariants as answer
-use Rattle.program_ends.specs.declared.files.Work.{Work}
-use Rattle.program_ends.specs.declared.files.Finding.TheVariants.{Fine}
+use Rattle.stow_io.specs.declared.files.Work.{Work}
+use Rattle.stow_io.specs.declared.files.Finding.TheVariants.{Fine}
 use Rattle.stow_words.specs.declared.order.Order.{Order}
 use Rattle.stow_words.specs.declared.order.Order.TheVariants.{Plan, Check, Show, Make}
 use Rattle.voyage_inputs.specs.Names.{Names, names_from}
 use Rattle.voyage_inputs.specs.declared.voyage.BookedVoyage.{BookedVoyage}
 use Rattle.voyage_inputs.specs.Inputs.{IsContent, AreInputs, TurnsDown, IsReadBy}
 use Rattle.stow_report.specs.Verdicts.{file_line}
-use Rattle.solution_meaning.specs.Laws.{IsProblem}
+use Rattle.model_bridge.specs.Laws.{IsProblem}
 use Rattle.stow_answers.specs.Voyages.{Sails, Overflows, voyage_of}
 use Rattle.stow_answers.specs.Checks.{ReadsCert, IsWrittenRead}
 use Rattle.stow_answers.specs.Made.{made_files, made_names, only_made, behind}

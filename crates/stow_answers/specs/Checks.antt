@@ -18,8 +18,8 @@ use Rattle.voyage_inputs.specs.declared.answer.Answer.{Answer}
 use Rattle.voyage_inputs.specs.declared.answer.Answer.TheVariants as answer
 use Rattle.voyage_inputs.specs.declared.voyage.BookedVoyage.{BookedVoyage}
 use Rattle.voyage_inputs.specs.Inputs.{IsContent}
-use Rattle.program_ends.specs.declared.files.Finding.TheVariants.{Fine}
-use Rattle.program_ends.specs.declared.files.Work.{Work}
+use Rattle.stow_io.specs.declared.files.Finding.TheVariants.{Fine}
+use Rattle.stow_io.specs.declared.files.Work.{Work}
 use Rattle.stow_answers.specs.declared.verdict.CertText.{CertText}
 use Rattle.stow_answers.specs.declared.verdict.CertText.TheVariants.{Certificate, Refused}
 use Rattle.stow_answers.specs.Voyages.{voyage_of}

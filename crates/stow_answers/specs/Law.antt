@@ -1,8 +1,8 @@
 -- The answers to one order agree.
 use Rattle.std.specs.Prelude.{◌≡◌, ◌⊎◌, Some}
 use Rattle.stow_io.specs.Files.{Files}
-use Rattle.program_ends.specs.declared.files.Finding.{Finding}
-use Rattle.program_ends.specs.declared.files.Finding.TheVariants.{Fine, Gap, NoPlan, Undecided}
+use Rattle.stow_io.specs.declared.files.Finding.{Finding}
+use Rattle.stow_io.specs.declared.files.Finding.TheVariants.{Fine, Gap, NoPlan, Undecided}
 use Rattle.voyage_inputs.specs.declared.answer.Answer.{Answer}
 use Rattle.voyage_inputs.specs.declared.answer.Answer.TheVariants as answer
 use Rattle.stow_words.specs.declared.order.Order.{Order}

@@ -3,8 +3,8 @@ use Rattle.std.specs.Prelude.{ℕ, codes, List, [], ◌∷◌, ◌++◌, Option,
 use Rattle.stow_io.specs.Files.{Files}
 use Rattle.stow_gen.specs.Profile.{profile_text}
 use Rattle.stow_gen.specs.Bookings.{bookings_text}
-use Rattle.program_ends.specs.Writing.{with_files}
-use Rattle.program_ends.specs.declared.files.NamedFile.{NamedFile}
+use Rattle.stow_io.specs.Writing.{with_files}
+use Rattle.stow_io.specs.declared.files.NamedFile.{NamedFile}
 use Rattle.voyage_inputs.specs.Names.{Names, names_from}
 use Rattle.voyage_inputs.specs.declared.answer.Answer.{Answer}
 use Rattle.voyage_inputs.specs.declared.answer.Answer.TheVariants as answer

@@ -4,8 +4,8 @@ use Rattle.stow_data.specs.Plans.{Plan}
 use Rattle.plan_files.specs.Shown.{IsLegalFileSet, shown_by}
 use Rattle.baplie.specs.declared.parts.Message.{Message}
 use Rattle.baplie.specs.Messages.{IsMessageOf}
-use Rattle.program_ends.specs.declared.files.NamedFile.{NamedFile}
-use Rattle.program_ends.specs.declared.files.Work.{Work}
+use Rattle.stow_io.specs.declared.files.NamedFile.{NamedFile}
+use Rattle.stow_io.specs.declared.files.Work.{Work}
 use Rattle.stow_report.specs.Reports.{report_text}
 use Rattle.voyage_meaning.specs.Voyage.{HasCount}
 use Rattle.zero_one_rows.specs.Variables.{Voyage}

@@ -12,10 +12,10 @@ use Rattle.certificate.specs.declared.tree.Outcome.TheVariants as outcome
 use Rattle.certificate.specs.declared.tree.Record.{Record}
 use Rattle.certificate.specs.Text.{cert_text}
 use Rattle.plan_search.specs.declared.planning.Planned.{Planned}
-use Rattle.program_ends.specs.declared.files.Finding.{Finding}
-use Rattle.program_ends.specs.declared.files.Finding.TheVariants as finding
-use Rattle.program_ends.specs.declared.files.NamedFile.{NamedFile}
-use Rattle.program_ends.specs.declared.files.Work.{Work}
+use Rattle.stow_io.specs.declared.files.Finding.{Finding}
+use Rattle.stow_io.specs.declared.files.Finding.TheVariants as finding
+use Rattle.stow_io.specs.declared.files.NamedFile.{NamedFile}
+use Rattle.stow_io.specs.declared.files.Work.{Work}
 use Rattle.stow_report.specs.Refusals.{refusal_text}
 use Rattle.stow_report.specs.Inputs.{limit_line}
 use Rattle.stow_report.specs.Reports.{report_text}

@@ -2,7 +2,7 @@
 ghost use Rattle.std.specs.Prelude.{◌≡◌, ◌<◌, ◌≤◌, ◌^◌, IfOk, IfErr, length};
 ghost use Rattle.stow_io.specs.Causes.{Rose};
 ghost use Rattle.zero_one_model.specs.Building.{IsWithin};
-ghost use Rattle.solution_meaning.specs.Laws.{IsProblem};
+ghost use Rattle.model_bridge.specs.Laws.{IsProblem};
 ghost use Rattle.stow_answers.specs.Answers.{Judges, CheckOf, IsCheckRead};
 ghost use Rattle.stow_answers.specs.Checks.{IsFileName, IsWrittenRead, ReadsCert, ReadsFiles, files_beside};
 ghost use Rattle.voyage_inputs.specs.Booked.{IsBooked};

@@ -1,18 +1,17 @@
 //! `stow make`: a made ship with its bookings, and the plans of their voyage.
 ghost use Rattle.std.specs.Prelude.{◌≡◌, ◌≤◌, ◌∷◌, [], IfOk, None};
-ghost use Rattle.program_ends.specs.Writing.{with_files};
+ghost use Rattle.stow_io.specs.Writing.{with_files};
 ghost use Rattle.stow_answers.specs.Answers.{IsMade, IsPlanTo};
 ghost use Rattle.stow_answers.specs.Made.{behind, bookings_name, made_files, no_files, profile_name};
 ghost use Rattle.voyage_inputs.specs.Names.{names_from};
 
 use crate::planning::plan;
-use program_ends::{FileList, NamedFile, Work};
 use std::alloc::Global;
 use std::sync::Wait;
 use std::thread::Threads;
 use stow_data::{NoMemory, Word};
 use stow_gen::{make_bookings, make_profile};
-use stow_io::{Folder, Gate, SureFolder};
+use stow_io::{FileList, Folder, Gate, NamedFile, SureFolder, Work};
 use voyage_inputs::{Answer, Inputs};
 
 /// How many nodes a search for the plans of a made ship may have.
@@ -77,7 +76,7 @@ fn bookings_name(alloc: Global, base: &str) -> Result<Word, NoMemory>
 }
 
 /// A folder that holds the two files alone.
-#[tactic(auto, unfolding(program_ends::specs::Writing::with_files))]
+#[tactic(auto, unfolding(stow_io::specs::Writing::with_files))]
 fn folder_of(alloc: Global, made: &Made) -> Result<SureFolder, NoMemory>
     ensures { IfOk result (λ folder. ⟦<SureFolder as Folder>⟧.files folder ≡ with_files (made.now.profile ∷ made.now.bookings ∷ []) no_files) }
 {

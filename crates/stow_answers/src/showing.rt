@@ -7,10 +7,9 @@ ghost use Rattle.voyage_inputs.specs.Named.{IsStop, IsQuiet};
 
 use crate::refusing::file_text;
 use baplie::{BaplieFault, Message, read_baplie};
-use program_ends::{FileList, Finding, Work};
 use std::alloc::Global;
 use stow_data::NoMemory;
-use stow_io::Folder;
+use stow_io::{FileList, Finding, Folder, Work};
 use stow_report::listing;
 use voyage_inputs::{Answer, ReadStop, read};
 

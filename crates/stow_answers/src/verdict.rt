@@ -1,6 +1,6 @@
 //! What the texts of a certificate and of departure files are answered.
 ghost use Rattle.std.specs.Prelude.{◌≡◌, ◌<◌, ◌≤◌, ◌^◌, [], All, IfOk, length};
-ghost use Rattle.solution_meaning.specs.Laws.{IsProblem};
+ghost use Rattle.model_bridge.specs.Laws.{IsProblem};
 ghost use Rattle.stow_report.specs.Numbers.{yes_text};
 ghost use Rattle.stow_answers.specs.Checks.{IsCertText, JudgedAs, files_beside};
 ghost use Rattle.stow_answers.specs.Voyages.{voyage_of};
@@ -8,9 +8,9 @@ ghost use Rattle.stow_answers.specs.Voyages.{voyage_of};
 use crate::refusing::cert_text as refused_cert;
 use certificate::{CertFault, Head, Tree, read_cert};
 use file_judge::{JudgeNo, judge, line_of};
-use program_ends::{FileList, Finding, Work};
 use std::alloc::Global;
 use stow_data::{Bytes, NoMemory};
+use stow_io::{FileList, Finding, Work};
 use stow_report::{confirmed, refusal};
 use voyage_inputs::{Answer, BookedVoyage};
 use zero_one_model::Model;

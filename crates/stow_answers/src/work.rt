@@ -10,9 +10,9 @@ use baplie::CellGroup;
 use certificate::{Outcome, write_cert};
 use plan_files::departure_text;
 use plan_search::Planned;
-use program_ends::{FileList, Finding, NamedFile, Work};
 use std::alloc::Global;
 use stow_data::{Limit, NoMemory, Plan, PlanList, Word};
+use stow_io::{FileList, Finding, NamedFile, Work};
 use stow_report::report;
 use voyage_inputs::{Answer, BookedVoyage};
 

@@ -2,10 +2,10 @@
 use Rattle.std.proofs.Common.{◌≡◌, ℕ, List, Option, Some, refl, sym, ap, subst, ◌∙◌, inl, inr}
 use Rattle.std.specs.Prelude.{◌⊎◌, Result, Ok, Err}
 use Rattle.stow_io.specs.Files.{Files}
-use Rattle.program_ends.specs.Outside.{Outside, HasRisen}
-use Rattle.program_ends.specs.declared.files.NamedFile.{NamedFile}
-use Rattle.program_ends.specs.declared.files.Finding.TheVariants as finding
-use Rattle.program_ends.specs.declared.files.Work.{Work}
+use Rattle.stow_io.specs.Outside.{Outside, HasRisen}
+use Rattle.stow_io.specs.declared.files.NamedFile.{NamedFile}
+use Rattle.stow_io.specs.declared.files.Finding.TheVariants as finding
+use Rattle.stow_io.specs.declared.files.Work.{Work}
 use Rattle.stow_words.specs.declared.order.Order.{Order}
 use Rattle.stow_words.specs.declared.order.Order.TheVariants.{Plan, Check, Show, Make}
 use Rattle.stow_words.specs.declared.order.WordsNo.{WordsNo}

@@ -2,11 +2,11 @@
 use Rattle.std.proofs.Common.{◌≡◌, Option, Some, refl, sym, ap, subst, ◌∙◌, inl, inr}
 use Rattle.std.specs.Prelude.{Result, Ok, Err}
 use Rattle.stow_io.specs.Files.{Files}
-use Rattle.program_ends.specs.Outside.{Outside, HasRisen}
+use Rattle.stow_io.specs.Outside.{Outside, HasRisen}
 use Rattle.stow_words.specs.declared.order.Order.{Order}
 use Rattle.stow_words.specs.declared.order.WordsNo.{WordsNo}
-use Rattle.program_ends.specs.declared.files.Finding.{Finding}
-use Rattle.program_ends.specs.declared.files.Finding.TheVariants as finding
+use Rattle.stow_io.specs.declared.files.Finding.{Finding}
+use Rattle.stow_io.specs.declared.files.Finding.TheVariants as finding
 use Rattle.voyage_inputs.specs.declared.answer.Answer.{Answer}
 use Rattle.voyage_inputs.specs.declared.answer.Answer.TheVariants as answer
 use Rattle.stow_answers.specs.Answers.{IsAnswerTo}

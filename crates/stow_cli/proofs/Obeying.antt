@@ -1,7 +1,7 @@
 -- What the words order, from what was read of them.
 use Rattle.std.proofs.Common.{◌≡◌, List, sym, ap, subst, ◌∙◌, inl, inr, ℕ}
 use Rattle.std.specs.Prelude.{◌⊎◌, codes, Result, Ok, Err}
-use Rattle.program_ends.specs.Outside.{Outside}
+use Rattle.stow_io.specs.Outside.{Outside}
 use Rattle.stow_words.specs.declared.order.Order.{Order}
 use Rattle.stow_words.specs.declared.order.WordsNo.{WordsNo}
 use Rattle.stow_words.specs.declared.order.WordsNo.TheVariants.{NotTaken, Workers, Budget, Number, NoMemory}

@@ -2,9 +2,9 @@
 use Rattle.std.specs.Prelude.{◌≡◌, ◌⊎◌, ℕ, List, Option, Some, Result, Ok, Err}
 use Rattle.stow_io.specs.Files.{Files}
 use Rattle.zero_one_model.specs.Building.{IsWithin}
-use Rattle.program_ends.specs.Ends.{Prints}
-use Rattle.program_ends.specs.Outside.{Outside, HasRisen}
-use Rattle.program_ends.specs.declared.files.Work.{Work}
+use Rattle.stow_io.specs.Ends.{Prints}
+use Rattle.stow_io.specs.Outside.{Outside, HasRisen}
+use Rattle.stow_io.specs.declared.files.Work.{Work}
 use Rattle.stow_words.specs.declared.order.Order.{Order}
 use Rattle.stow_words.specs.declared.order.Order.TheVariants.{Plan, Check, Show, Make}
 use Rattle.stow_words.specs.declared.order.WordsNo.{WordsNo}

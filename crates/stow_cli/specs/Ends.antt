@@ -1,12 +1,12 @@
 -- How a run ends, and what it leaves.
 use Rattle.std.specs.Prelude.{◌≡◌, ◌⊎◌, ℕ, codes, List, Option, Some, Result, Ok, Err}
 use Rattle.stow_io.specs.Files.{Files, append, AppendsPart}
-use Rattle.program_ends.specs.Ends.{Prints, IsCut, fault_read, Finishes}
-use Rattle.program_ends.specs.Outside.{Outside, FolderRose, HasRisen}
-use Rattle.program_ends.specs.declared.ending.Ended.TheVariants as ended
-use Rattle.program_ends.specs.declared.files.Finding.{Finding}
-use Rattle.program_ends.specs.declared.files.Finding.TheVariants as finding
-use Rattle.program_ends.specs.declared.files.Work.{Work}
+use Rattle.stow_io.specs.Ends.{Prints, IsCut, fault_read, Finishes}
+use Rattle.stow_io.specs.Outside.{Outside, FolderRose, HasRisen}
+use Rattle.stow_io.specs.declared.ending.Ended.TheVariants as ended
+use Rattle.stow_io.specs.declared.files.Finding.{Finding}
+use Rattle.stow_io.specs.declared.files.Finding.TheVariants as finding
+use Rattle.stow_io.specs.declared.files.Work.{Work}
 use Rattle.stow_words.specs.declared.order.Order.{Order}
 use Rattle.stow_words.specs.declared.order.WordsNo.{WordsNo}
 use Rattle.stow_words.specs.declared.order.WordsNo.TheVariants.{NotTaken, Workers, Budget, Number, NoMemory}

@@ -1,6 +1,6 @@
 -- All that is promised of a run, whatever its words, its folder and its sink.
 use Rattle.std.specs.Prelude.{◌≡◌, ◌≤◌, ℕ, List}
-use Rattle.program_ends.specs.Outside.{Outside, HasRisen}
+use Rattle.stow_io.specs.Outside.{Outside, HasRisen}
 use Rattle.stow_words.specs.Orders.{ordered}
 use Rattle.stow_cli.specs.declared.status.Status.{Status}
 use Rattle.stow_cli.specs.declared.status.Status.TheVariants.{Fault}

@@ -1,13 +1,12 @@
 //! The writes, the report and the last line, with the status.
 ghost use Rattle.std.specs.Prelude.{◌≡◌, ◌≤◌};
 ghost use Rattle.stow_io.specs.Causes.{Rose};
-ghost use Rattle.program_ends.specs.Ends.{Says};
-ghost use Rattle.program_ends.specs.Outside.{outside, HasRisen};
+ghost use Rattle.stow_io.specs.Ends.{Says};
+ghost use Rattle.stow_io.specs.Outside.{outside, HasRisen};
 ghost use Rattle.stow_cli.specs.Ends.{SaysNo, Completes, words_line, words_status};
 
 use crate::status::Status;
-use program_ends::{Ended, Finding, Work, finish, say};
-use stow_io::{Folder, Sink};
+use stow_io::{Ended, Finding, Folder, Sink, Work, finish, say};
 use stow_words::WordsNo;
 
 /// Writes all files, and then prints the report. The status tells what was found.

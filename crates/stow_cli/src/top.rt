@@ -1,6 +1,6 @@
 //! The top call.
 ghost use Rattle.std.specs.Prelude.{◌≡◌, ◌⊎◌, ◌≤◌};
-ghost use Rattle.program_ends.specs.Outside.{outside, HasRisen};
+ghost use Rattle.stow_io.specs.Outside.{outside, HasRisen};
 ghost use Rattle.stow_words.specs.Orders.{ordered, IsInRange};
 ghost use Rattle.stow_cli.specs.Ends.{Follows, IsRun};
 ghost use Rattle.stow_cli.specs.Obeyed.{Obeys};
@@ -8,13 +8,12 @@ ghost use Rattle.stow_cli.specs.Taken.{HasClapFault, OrdersOwn};
 
 use crate::ending::{complete, refuse, say_no};
 use crate::status::Status;
-use program_ends::{say, say_name};
 use std::alloc::Global;
 use std::sync::Wait;
 use std::thread::Threads;
 use stow_answers::answer_to;
 use stow_data::WordList;
-use stow_io::{Folder, Gate, Sink};
+use stow_io::{Folder, Gate, Sink, say, say_name};
 use stow_words::{Order, read_words};
 use voyage_inputs::{Answer, ReadStop};
 

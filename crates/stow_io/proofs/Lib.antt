@@ -1,1 +1,3 @@
 mod Written
+pub mod Steps
+pub mod Texts

@@ -44,7 +44,7 @@ impl<'a, R: Files> RealFolder<'a, R> {
 }
 
 /// All bytes of a file, which has at most `most` of them.
-pub(crate) fn read_file<R: Files>(
+pub fn read_file<R: Files>(
     rt: &R,
     alloc: Global,
     name: &str,

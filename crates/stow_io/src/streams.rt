@@ -8,7 +8,7 @@ use std::io::{Read, Write};
 use stow_data::Bytes;
 
 /// All that a reader still gives, read by pieces. More than `most` bytes are refused as a fault, and never cut.
-pub(crate) fn read_whole<F: Read>(
+pub fn read_whole<F: Read>(
     alloc: Global,
     file: &mut F,
     piece: &mut [u8],
@@ -35,7 +35,7 @@ pub(crate) fn read_whole<F: Read>(
 }
 
 /// Writes all the bytes. Where a turn fails or takes none, those before stay written.
-pub(crate) fn write_whole<W: Write>(file: &mut W, bytes: &[u8]) -> Result<(), Failed>
+pub fn write_whole<W: Write>(file: &mut W, bytes: &[u8]) -> Result<(), Failed>
     ensures whole { OnOk result (Appends (W.contents file.old) (W.contents file.new) bytes.now) }
     ensures part { (j : ℕ) × Appends (W.contents file.old) (W.contents file.new) (take j bytes.now) }
 {

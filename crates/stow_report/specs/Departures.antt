@@ -2,10 +2,10 @@
 use Rattle.std.specs.Prelude.{ℕ, ℤ, pos, true, List, [], ◌∷◌, ◌++◌}
 use Rattle.stowage_rules.specs.declared.faults.RuleBroken.{RuleBroken}
 use Rattle.baplie.specs.declared.faults.BaplieFault.{BaplieFault}
-use Rattle.shown_plans.specs.declared.faults.FileNo.{FileNo}
-use Rattle.shown_plans.specs.declared.faults.FileNo.TheVariants as file
-use Rattle.plan_checker.specs.declared.faults.PlanNo.{PlanNo}
-use Rattle.plan_checker.specs.declared.faults.PlanNo.TheVariants as plan
+use Rattle.plan_files.specs.declared.file_faults.FileNo.{FileNo}
+use Rattle.plan_files.specs.declared.file_faults.FileNo.TheVariants as file
+use Rattle.plan_files.specs.declared.plan_faults.PlanNo.{PlanNo}
+use Rattle.plan_files.specs.declared.plan_faults.PlanNo.TheVariants as plan
 use Rattle.stow_report.specs.declared.lines.Group.TheVariants as group
 use Rattle.stow_report.specs.declared.lines.Field.{Field}
 use Rattle.stow_report.specs.declared.lines.Field.TheVariants.{Number, Named}

@@ -6,8 +6,7 @@ ghost use Rattle.stow_report.specs.Departures.{departure_line, of_plan, plan_lin
 use crate::lines::{Field, Group, Line, numbered};
 use crate::verdicts::file_line;
 use baplie::BaplieFault;
-use plan_checker::PlanNo;
-use shown_plans::FileNo;
+use plan_files::{FileNo, PlanNo};
 use std::alloc::Global;
 use stow_data::{CallNo, Name, NoMemory};
 use stowage_rules::RuleBroken;

@@ -8,7 +8,6 @@ mod meeting;
 mod stage;
 mod table;
 
-use program_ends::{NoWords, given_words, say};
 use std::alloc::Global;
 use std::process::ExitCode;
 use std::rt::Files;
@@ -16,7 +15,7 @@ use std::str;
 use std::sync::Wait;
 use std::thread::Threads;
 use stow_data::{NoMemory, WordList};
-use stow_io::{Folder, FolderNo, RealFolder, RealOut, Sink};
+use stow_io::{Folder, FolderNo, NoWords, RealFolder, RealOut, Sink, given_words, say};
 use table::{Counts, gone_through};
 
 /// Goes through the table of this name, prints what differs and how much was looked at, and answers how its

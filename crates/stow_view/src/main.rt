@@ -3,9 +3,8 @@
 #![tactic(auto)]
 
 use picture_files::{Status, view};
-use program_ends::{NoWords, given_words};
 use std::process::ExitCode;
-use stow_io::{RealFolder, RealOut};
+use stow_io::{NoWords, RealFolder, RealOut, given_words};
 
 fn main(rt: HostRuntime) -> ExitCode {
     let alloc = rt.alloc();

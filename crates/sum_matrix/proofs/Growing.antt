@@ -5,8 +5,8 @@ use Rattle.std.proofs.lemmas.Bool.{both_ways, eqb-true, cases_lt}
 use Rattle.std.proofs.lemmas.List.Folds.{list_any-append}
 use Rattle.zero_one_rows.specs.declared.program.Var.{Var}
 use Rattle.zero_one_rows.specs.Variables.{Voyage}
-use Rattle.row_sums.specs.declared.sums.Sum.{Sum}
-use Rattle.row_sums.specs.Sums.{holds}
+use Rattle.sum_matrix.specs.declared.sums.Sum.{Sum}
+use Rattle.sum_matrix.specs.Sums.{holds}
 use Rattle.sum_matrix.specs.declared.numbering.Numbering.{Numbering}
 use Rattle.sum_matrix.specs.Numbers.{number, IsThere}
 use Rattle.sum_matrix.specs.Held.{stands, IsHeldBy, AreSumsOf}

@@ -14,11 +14,11 @@ use Rattle.stow_data.proofs.Listed.{place_from}
 use Rattle.zero_one_rows.specs.declared.program.Var.{Var}
 use Rattle.zero_one_rows.specs.Variables.{Voyage, kind, place}
 use Rattle.zero_one_rows.specs.Rows.{covers, takes, active, stays, ends, is_twenty}
-use Rattle.row_sums.specs.declared.sums.Sum.{Sum}
-use Rattle.row_sums.specs.declared.sums.Sum.TheVariants.{Put, Lifted, Start, Occupied, OccupiedByTwenty, OccupiedByClass, Staying, LiftedFrom, PutInto, Weight}
-use Rattle.row_sums.specs.Sums.{holds, class_named, class_number}
-use Rattle.row_sums.proofs.Names.{same_bytes}
-use Rattle.row_sums.proofs.Excluding.{left_true, right_true}
+use Rattle.sum_matrix.specs.declared.sums.Sum.{Sum}
+use Rattle.sum_matrix.specs.declared.sums.Sum.TheVariants.{Put, Lifted, Start, Occupied, OccupiedByTwenty, OccupiedByClass, Staying, LiftedFrom, PutInto, Weight}
+use Rattle.sum_matrix.specs.Sums.{holds, class_named, class_number}
+use Rattle.sum_matrix.proofs.Names.{same_bytes}
+use Rattle.sum_matrix.proofs.Excluding.{left_true, right_true}
 use Rattle.sum_matrix.specs.declared.numbering.Numbering.{Numbering}
 use Rattle.sum_matrix.specs.Numbers.{number, IsCell, IsThere}
 use Rattle.sum_matrix.specs.Classes.{class_or_past}

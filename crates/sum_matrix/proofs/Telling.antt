@@ -5,8 +5,8 @@ use Rattle.std.proofs.lemmas.Nat.{div-mul-add, mod-mul-add, mul-add-lt}
 use Rattle.std.proofs.Math.Nat.{mul_comm}
 use Rattle.stow_data.specs.declared.geometry.Half.{Half}
 use Rattle.zero_one_rows.specs.Variables.{Voyage}
-use Rattle.row_sums.specs.declared.sums.Sum.{Sum}
-use Rattle.row_sums.specs.declared.sums.Sum.TheVariants.{Put, Lifted, Start, Occupied, OccupiedByTwenty, OccupiedByClass, Staying, LiftedFrom, PutInto, Weight}
+use Rattle.sum_matrix.specs.declared.sums.Sum.{Sum}
+use Rattle.sum_matrix.specs.declared.sums.Sum.TheVariants.{Put, Lifted, Start, Occupied, OccupiedByTwenty, OccupiedByClass, Staying, LiftedFrom, PutInto, Weight}
 use Rattle.sum_matrix.specs.declared.numbering.Numbering.{Numbering}
 use Rattle.sum_matrix.specs.Numbers.{family, call_of, item, half_item, number, numbers, IsNumbering, IsCell, IsThere, HasRoom, NumbersTellSums}
 

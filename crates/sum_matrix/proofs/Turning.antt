@@ -7,11 +7,11 @@ use Rattle.std.proofs.lemmas.List.{get_or_past}
 use Rattle.std.proofs.lemmas.List.Elements.{All-filter, All-nil}
 use Rattle.std.proofs.lemmas.List.Kept.{AllPairs-filter}
 use Rattle.std.proofs.lemmas.List.FromFn.{get_or-range_with_len, length-range_with_len}
-use Rattle.flat_lists.specs.Transposed.{IsTransposed}
+use Rattle.sum_matrix.specs.Transposed.{IsTransposed}
 use Rattle.zero_one_rows.specs.declared.program.Var.{Var}
 use Rattle.zero_one_rows.specs.Variables.{Voyage, variables, var}
-use Rattle.row_sums.specs.declared.sums.Sum.{Sum}
-use Rattle.row_sums.specs.Sums.{holds}
+use Rattle.sum_matrix.specs.declared.sums.Sum.{Sum}
+use Rattle.sum_matrix.specs.Sums.{holds}
 use Rattle.sum_matrix.specs.declared.numbering.Numbering.{Numbering}
 use Rattle.sum_matrix.specs.Numbers.{number, numbers, IsNumbering, IsThere}
 use Rattle.sum_matrix.specs.Held.{stands, variables_of, AreSumsOf, IsRising}

@@ -1,7 +1,7 @@
 -- What the lists of a matrix hold.
 use Rattle.std.specs.Prelude.{◌≡◌, ℕ, ◌<◌, [], All, length, slice_index_or}
 use Rattle.zero_one_rows.specs.Variables.{variables, var}
-use Rattle.row_sums.specs.declared.sums.Sum.{Sum}
+use Rattle.sum_matrix.specs.declared.sums.Sum.{Sum}
 use Rattle.sum_matrix.specs.declared.matrix.SumMatrix.TheInside.{Inside}
 use Rattle.sum_matrix.specs.Matrix.{Matrix}
 use Rattle.sum_matrix.specs.Numbers.{number, IsNumbering, IsThere}

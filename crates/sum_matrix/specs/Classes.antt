@@ -3,7 +3,7 @@ use Rattle.std.specs.Prelude.{ℕ, ◌*◌, List, Option, Some, None, length, ma
 use Rattle.stow_data.specs.declared.kind_list.Kind.{Kind}
 use Rattle.stow_data.specs.Ship.{Ship}
 use Rattle.zero_one_rows.specs.Variables.{Voyage, all_kinds}
-use Rattle.row_sums.specs.Sums.{class_number}
+use Rattle.sum_matrix.specs.Sums.{class_number}
 
 -- past the numbers of classes for none
 abbrev pub class_or_past : Ship → Option (List ℕ) → ℕ

@@ -1,11 +1,11 @@
 -- The sums that hold a variable, by number.
 use Rattle.std.specs.Prelude.{◌≡◌, ℕ, ◌<◌, Bool, true, List, [], AllPairs, filter, length, nat_eq, slice_index_or}
 use Rattle.std.specs.List.{list_any, range_with_len}
-use Rattle.flat_lists.specs.Transposed.{IsTransposed}
+use Rattle.sum_matrix.specs.Transposed.{IsTransposed}
 use Rattle.zero_one_rows.specs.declared.program.Var.{Var}
 use Rattle.zero_one_rows.specs.Variables.{Voyage, variables, var}
-use Rattle.row_sums.specs.declared.sums.Sum.{Sum}
-use Rattle.row_sums.specs.Sums.{holds}
+use Rattle.sum_matrix.specs.declared.sums.Sum.{Sum}
+use Rattle.sum_matrix.specs.Sums.{holds}
 use Rattle.sum_matrix.specs.declared.numbering.Numbering.{Numbering}
 use Rattle.sum_matrix.specs.Numbers.{number, numbers, IsThere}
 

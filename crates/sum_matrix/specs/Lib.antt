@@ -1,3 +1,10 @@
+pub mod Cut
+pub mod Transposed
+pub mod Sums
+pub mod RowClasses
+pub mod RowsBuilt
+pub mod Values
+pub mod Laws
 pub mod Numbers
 pub mod Classes
 pub mod Held

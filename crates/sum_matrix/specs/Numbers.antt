@@ -4,9 +4,9 @@ use Rattle.stow_data.specs.declared.geometry.Half.{Half}
 use Rattle.stow_data.specs.Ship.{places}
 use Rattle.zero_one_rows.specs.Variables.{Voyage, calls, all_kinds}
 use Rattle.zero_one_rows.specs.Rows.{stack}
-use Rattle.row_sums.specs.declared.sums.Sum.{Sum}
-use Rattle.row_sums.specs.declared.sums.Sum.TheVariants.{Put, Lifted, Start, Occupied, OccupiedByTwenty, OccupiedByClass, Staying, LiftedFrom, PutInto, Weight}
-use Rattle.row_sums.specs.Sums.{class_named, class_number}
+use Rattle.sum_matrix.specs.declared.sums.Sum.{Sum}
+use Rattle.sum_matrix.specs.declared.sums.Sum.TheVariants.{Put, Lifted, Start, Occupied, OccupiedByTwenty, OccupiedByClass, Staying, LiftedFrom, PutInto, Weight}
+use Rattle.sum_matrix.specs.Sums.{class_named, class_number}
 use Rattle.sum_matrix.specs.declared.numbering.Numbering.{Numbering}
 
 -- nine families, and one more for each class

@@ -3,15 +3,16 @@ ghost use Rattle.std.specs.Prelude.{◌≡◌, ℕ, ◌+◌, ◌*◌, ◌<◌, �
 ghost use Rattle.stow_data.specs.Ship.{places, half_at};
 ghost use Rattle.zero_one_rows.specs.Variables.{place, kind, calls, all_kinds};
 ghost use Rattle.zero_one_rows.specs.Listed.{IsNamed};
-ghost use Rattle.row_sums.specs.Sums.{holds};
-ghost use Rattle.row_sums.specs.declared.sums.Sum.TheVariants.{Put, Lifted, OccupiedByClass};
+ghost use Rattle.sum_matrix.specs.Sums.{holds};
+ghost use Rattle.sum_matrix.specs.declared.sums.Sum.TheVariants.{Put, Lifted, OccupiedByClass};
 ghost use Rattle.sum_matrix.specs.Numbers.{IsNumbering, IsThere, IsCell, IsClass};
 ghost use Rattle.sum_matrix.specs.Classes.{class_or_past};
 ghost use Rattle.sum_matrix.specs.Held.{AreSumsOf};
 ghost use Rattle.sum_matrix.specs.Noted.{Grows, Has, HasEnds, HasMoves, HasSide, HasWhole, HasCall};
 
 use crate::numbering::Numbering;
-use row_sums::{ClassNo, RowSums, Sum};
+use crate::rows::RowSums;
+use crate::sums::{ClassNo, Sum};
 use std::alloc::Global;
 use stow_data::{CallNo, Half, NoMemory, Place, Seq};
 use zero_one_rows::{Var, place_at};

@@ -6,10 +6,12 @@ ghost use Rattle.sum_matrix.specs.Numbers.{IsNumbering};
 ghost use Rattle.sum_matrix.specs.Classes.{class_or_past, classes_of};
 ghost use Rattle.sum_matrix.specs.Held.{AreSumsOf};
 
+use crate::classes::number_of as number_of_class;
 use crate::finding::sums_of;
+use crate::lists::FlatLists;
 use crate::numbering::Numbering;
-use flat_lists::FlatLists;
-use row_sums::{ClassNo, RowSums, number_of_class};
+use crate::rows::RowSums;
+use crate::sums::ClassNo;
 use std::alloc::Global;
 use stow_data::{Kind, KindNo, NoMemory, Seq, Ship};
 use zero_one_rows::{Var, kind_at, variables_stand_once};

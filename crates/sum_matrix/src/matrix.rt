@@ -2,14 +2,15 @@
 ghost use Rattle.std.specs.Prelude.{◌≡◌, ℕ, ◌<◌, ◌^◌, All, length, IfOk};
 ghost use Rattle.zero_one_rows.specs.Variables.{variables, var};
 ghost use Rattle.sum_matrix.specs.Numbers.{number as number_of, IsNumbering, IsThere};
-ghost use Rattle.row_sums.specs.declared.sums.Sum.{Sum};
+ghost use Rattle.sum_matrix.specs.declared.sums.Sum.{Sum};
 ghost use Rattle.sum_matrix.specs.Held.{variables_of, AreSumsOf, AreTurned, IsRising};
-ghost use Rattle.flat_lists.specs.Transposed.{IsTransposed};
+ghost use Rattle.sum_matrix.specs.Transposed.{IsTransposed};
 
 use crate::listing::list_sums;
+use crate::lists::FlatLists;
 use crate::numbering::Numbering;
-use flat_lists::FlatLists;
-use row_sums::{RowSums, Sum};
+use crate::rows::RowSums;
+use crate::sums::Sum;
 use std::alloc::Global;
 use std::marker::Model;
 use stow_data::{Cargo, NoMemory, Ship};

@@ -4,7 +4,7 @@ ghost use Rattle.stow_data.specs.Kinds.{AreKinds};
 ghost use Rattle.stow_data.specs.Plans.{no_stack};
 ghost use Rattle.sum_matrix.specs.Numbers.{family, call_of, item, half_item, number, numbers, IsNumbering, IsLow};
 
-use row_sums::Sum;
+use crate::sums::Sum;
 use stow_data::{Cargo, Half, Kinds, Ship, StackNo};
 use zero_one_rows::stack_at;
 

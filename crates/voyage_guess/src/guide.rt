@@ -1,9 +1,10 @@
 //! Stays of an earlier voyage that a run takes over.
 
 use crate::chance::Chance;
+use crate::facts::{Facts, bit_of};
+use crate::yard::Planned;
 use std::alloc::Global;
 use stow_data::NoMemory;
-use voyage_yard::{Facts, Planned, bit_of};
 
 /// Stays of an earlier voyage that a run takes over: those in some stacks, and those that begin before a call.
 #[derive(Drop)]

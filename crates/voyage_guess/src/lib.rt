@@ -1,11 +1,17 @@
 //! Which variable the search divides by: random greedy voyages that respect a box, and a stay of the cheapest.
+//!
+//! A voyage in the making is what is the same in every voyage of a ship and cargo, what a box of the 0-1 program allows, and what stands where, waits on the quay and has ended.
 #![tactic(auto)]
 
 mod chance;
+mod facts;
+mod gathering;
 mod guide;
+mod leave;
 mod lifting;
 mod placing;
 mod planner;
 mod sailing;
+mod yard;
 
 pub use planner::{Planner, Wanted};

@@ -1,8 +1,9 @@
 //! Which containers are lifted at a call.
 
 use crate::chance::Chance;
+use crate::facts::{Facts, StackFacts, TIERS, bit_of};
+use crate::yard::{Column, Pile, Yard};
 use stow_data::{Lengths, NoMemory};
-use voyage_yard::{Column, Facts, Pile, StackFacts, TIERS, Yard, bit_of};
 
 /// The lifts of a call.
 #[derive(Clone, Copy)]

@@ -1,9 +1,11 @@
 //! Where a container goes: the open place with the least score.
 
 use crate::chance::Chance;
+use crate::facts::{Facts, Spot, StackFacts, bit_of};
 use crate::guide::Guide;
+use crate::leave::Leave;
+use crate::yard::{Classed, Hatch, Stay, Yard};
 use stow_data::{Length, Span};
-use voyage_yard::{Classed, Facts, Hatch, Leave, Spot, StackFacts, Stay, Yard, bit_of};
 
 /// One in the fixed point of scores.
 pub const ONE: i64 = 256;

@@ -2,11 +2,12 @@
 ghost use Rattle.std.specs.Prelude.{◌≡◌, ◌<◌, All, IfOk, IfSome, IsSome, None, Some, length, slice_get};
 ghost use Rattle.zero_one_rows.specs.Variables.{variables};
 
+use crate::gathering::gather_facts;
 use crate::sailing::Sailor;
+use crate::yard::Planned;
 use std::alloc::Global;
 use std::mem;
 use stow_data::{NoMemory, VarNo};
-use voyage_yard::{Planned, gather_facts};
 use zero_one_model::{Box01, Model};
 
 /// What is asked of a planner at a node.

@@ -1,12 +1,14 @@
 //! One voyage by chance, from the arrival to the last call.
 
 use crate::chance::Chance;
+use crate::facts::{Arrived, Facts, Spot, TIERS};
 use crate::guide::Guide;
+use crate::leave::Leave;
 use crate::lifting::{Lifting, lift_all};
 use crate::placing::{ONE, Offer, Scene, Taste, Wish};
+use crate::yard::{Planned, Stay, Yard};
 use std::alloc::Global;
 use stow_data::NoMemory;
-use voyage_yard::{Arrived, Facts, Leave, Planned, Spot, Stay, TIERS, Yard};
 
 /// What a run likes, by chance.
 fn draw_taste(chance: &mut Chance) -> Taste {

@@ -1,6 +1,6 @@
 //! What an order comes to before anything is written or printed.
-use program_ends::Work;
 use stow_data::Bytes;
+use stow_io::Work;
 
 /// The answer to an order.
 #[derive(Drop)]

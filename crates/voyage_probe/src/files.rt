@@ -8,9 +8,7 @@ use crate::said::{say, say_call, say_count, say_line, say_number, say_plan, say_
 use crate::stop::Stop;
 use arrival_plan::{read_can_be_settled, settle};
 use baplie::{BaplieFault, CellGroup, Message, read_baplie};
-use plan_checker::{PlanNo, check_plan};
-use plan_files::departure_text;
-use shown_plans::{FileNo, plan_of_message};
+use plan_files::{FileNo, PlanNo, check_plan, departure_text, plan_of_message};
 use std::alloc::Global;
 use stow_data::{Bytes, CallNo, Cargo, ContainerNo, NoMemory, Plan, PlanList, Seq, Ship, Word};
 use stow_io::{Folder, MOST_READ, SureFolder};

@@ -12,13 +12,12 @@ mod said;
 mod stop;
 
 use lines::probe;
-use program_ends::{given_words, say_name};
 use std::alloc::Global;
 use std::process::ExitCode;
 use std::rt::Files;
 use stop::Stop;
 use stow_data::Word;
-use stow_io::{Folder, RealFolder, RealOut, Sink};
+use stow_io::{Folder, RealFolder, RealOut, Sink, given_words, say_name};
 
 /// Answers the questions of the file of this name, and tells the status.
 fn status_of<F: Folder, K: Sink>(alloc: Global, name: &str, folder: &mut F, out: &mut K) -> u8 {

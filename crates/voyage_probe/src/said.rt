@@ -1,6 +1,6 @@
 //! What is printed of an answer.
 use itoa::Buffer;
-use plan_checker::PlanNo;
+use plan_files::PlanNo;
 use std::alloc::Global;
 use stow_data::{Bytes, CallNo, NoMemory, PlaceNo, Plan, Ship};
 use stow_report::{Line, plan_line, refusal};

@@ -9,7 +9,7 @@ use Rattle.stow_data.specs.declared.geometry.Half.{Half}
 use Rattle.stow_data.specs.Profile.{IsShip}
 use Rattle.stow_data.proofs.Members.{Member, member_left, member_right, member_split, map_at, map_from, flat_from, range_from}
 use Rattle.stow_data.proofs.Distinct.{each_at, each_from}
-use Rattle.chain_rows.specs.Chains.{IsBefore, is_chain}
+use Rattle.zero_one_rows.specs.Chains.{IsBefore, is_chain}
 use Rattle.zero_one_rows.specs.declared.program.Row.{Row}
 use Rattle.zero_one_rows.specs.declared.program.Row.TheVariants.{Flow, Start, Cell, Support, Twenty, Block, Hatch, Weight, Apart, Cross}
 use Rattle.zero_one_rows.specs.declared.program.Var.{Var}

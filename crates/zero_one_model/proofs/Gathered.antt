@@ -8,7 +8,7 @@ use Rattle.std.proofs.lemmas.List.Elements.{filter-append}
 use Rattle.std.proofs.lemmas.Grind.{flat_map-append}
 use Rattle.stow_data.specs.Ship.{same_length}
 use Rattle.stow_data.proofs.Members.{Member, map_at, range-more}
-use Rattle.chain_rows.specs.Chains.{is_pair}
+use Rattle.zero_one_rows.specs.Chains.{is_pair}
 use Rattle.zero_one_rows.specs.declared.program.Row.{Row}
 use Rattle.zero_one_rows.specs.declared.program.Row.TheVariants.{Cross}
 use Rattle.zero_one_rows.specs.Variables.{Voyage, var, kind, is_rehandled}

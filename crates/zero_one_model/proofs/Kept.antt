@@ -7,7 +7,7 @@ use Rattle.zero_one_rows.specs.Variables.{Voyage}
 use Rattle.zero_one_rows.specs.Rows.{whole}
 use Rattle.zero_one_rows.proofs.Listing.{member_get}
 use Rattle.program_rows.specs.Counted.{all_rows}
-use Rattle.chain_rows.specs.Chains.{IsBefore}
+use Rattle.zero_one_rows.specs.Chains.{IsBefore}
 use Rattle.program_rows.specs.Ordered.{Precedes, family, numbers}
 use Rattle.program_rows.proofs.EveryRow.{row_listed}
 use Rattle.program_rows.proofs.EveryChain.{not_both}

@@ -13,7 +13,7 @@ use Rattle.zero_one_rows.specs.declared.program.Row.{Row}
 use Rattle.zero_one_rows.specs.declared.program.Row.TheVariants.{Cross}
 use Rattle.zero_one_rows.specs.Variables.{Voyage, calls, all_kinds, kind, variables, var, no_var}
 use Rattle.stow_data.specs.Ship.{same_length}
-use Rattle.chain_rows.specs.Chains.{is_pair}
+use Rattle.zero_one_rows.specs.Chains.{is_pair}
 use Rattle.zero_one_rows.specs.Crossing.{crosses, length_of}
 use Rattle.zero_one_rows.specs.Rows.{bit, coef}
 use Rattle.zero_one_rows.proofs.Listing.{filter_at, filter_from, var_listed, get_member}

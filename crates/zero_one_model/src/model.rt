@@ -8,11 +8,10 @@ use crate::index::{Index, has_keys, key_of_place};
 use crate::lots::{may_cross, may_touch};
 use crate::refusals::ModelNo;
 use crate::runs::at_call;
-use chain_rows::Chain;
 use program_rows::RowLists;
 use std::alloc::Global;
 use stow_data::{CallNo, Cargo, KindNo, Kinds, NoMemory, Place, Seq, Ship, VarNo, kinds};
-use zero_one_rows::{Row, RowList, Var, VarList, is_crossing_variable, place_at};
+use zero_one_rows::{Chain, Row, RowList, Var, VarList, is_crossing_variable, place_at};
 
 /// Appends a variable's number where it is wanted.
 fn push_var(list: &mut VarList, x: VarNo, wanted: bool) -> Result<(), NoMemory>

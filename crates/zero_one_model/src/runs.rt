@@ -2,9 +2,8 @@
 ghost use Rattle.std.specs.Prelude.{◌≡◌};
 ghost use Rattle.zero_one_model.specs.Runs.{at_call as row_at_call};
 
-use chain_rows::Chain;
 use stow_data::CallNo;
-use zero_one_rows::Row;
+use zero_one_rows::{Chain, Row};
 
 /// A row at another call, or price. An arrival row has neither, and stays.
 pub fn at_call(row: &Row, n: u32) -> Row

@@ -8,11 +8,11 @@ use Rattle.std.proofs.lemmas.List.Sums.{count_by-le-length, sum_by-cons, sum_by-
 use Rattle.std.proofs.Math.IntN.{+ℤ_idl}
 use Rattle.std.proofs.Math.Nat.{mul-div-le, mul-le-mul}
 use borrow.Author.Differences.{ints}
-use Rattle.chain_rows.specs.Chains.{rises, is_length, is_chain, pairs_of}
-use Rattle.chain_rows.specs.Gains.{gain, greatest_to, best_gain}
-use Rattle.chain_rows.specs.RightSide.{right_side}
-use Rattle.chain_rows.proofs.Signed.{unsigned_side}
-use Rattle.chain_rows.proofs.Pairs.{pairs_long}
+use Rattle.zero_one_rows.specs.Chains.{rises, is_length, is_chain, pairs_of}
+use Rattle.zero_one_rows.specs.Gains.{gain, greatest_to, best_gain}
+use Rattle.zero_one_rows.specs.RightSide.{right_side}
+use Rattle.zero_one_rows.proofs.Signed.{unsigned_side}
+use Rattle.zero_one_rows.proofs.Pairs.{pairs_long}
 use Rattle.proof_trees.specs.Program.{where_set}
 use Rattle.stow_data.specs.declared.geometry.Length.{Length}
 use Rattle.stow_data.specs.declared.geometry.Stack.{Stack}

@@ -1,8 +1,8 @@
 -- Crossing rows: what loads for the pairs of a chain, and the columns that can keep it from being lifted on the way.
 use Rattle.std.specs.Prelude.{ℕ, ◌==◌, ◌&&◌, ◌||◌, Bool, cond, max, List, map, nat_lt, nat_le, ℤ}
 use Rattle.std.specs.List.{count_by, sum_by, fold}
-use Rattle.chain_rows.specs.Chains.{pairs_of, is_pair, is_chain}
-use Rattle.chain_rows.specs.RightSide.{right_side}
+use Rattle.zero_one_rows.specs.Chains.{pairs_of, is_pair, is_chain}
+use Rattle.zero_one_rows.specs.RightSide.{right_side}
 use Rattle.stow_data.specs.declared.geometry.Length.{Length}
 use Rattle.stow_data.specs.declared.geometry.Length.TheVariants.{Twenty, Forty}
 use Rattle.stow_data.specs.declared.geometry.Lengths.{Lengths}

@@ -1,3 +1,7 @@
+pub mod Chains
+pub mod ToCome
+pub mod RightSide
+pub mod Gains
 pub mod Variables
 pub mod Crossing
 pub mod Rows

@@ -1,15 +1,17 @@
 //! Crossing rows: the columns of a ship, the loads of pairs, coefficients and right sides.
 ghost use Rattle.std.specs.Prelude.{◌≡◌, ℕ, ◌^◌, ◌≤◌, ◌<◌, ◌&&◌, Bool, map, length, unsigned_abs};
 ghost use Rattle.std.specs.List.{count_by};
-ghost use Rattle.chain_rows.specs.Chains.{pairs_of};
+ghost use Rattle.zero_one_rows.specs.Chains.{pairs_of};
 ghost use Rattle.stow_data.specs.Ship.{same_length as same_length_of};
 ghost use Rattle.zero_one_rows.specs.Variables.{Voyage, all_kinds};
 ghost use Rattle.zero_one_rows.specs.Crossing.{is_length as is_length_of, length_of, columns_in as columns_in_of, columns as columns_of, tiers_for as tiers_for_of, tallest as tallest_of, is_of_load as is_of_load_of, load_of, crosses, crossing_side, is_crossing as is_crossing_of};
 
+use crate::all_chains::Chain;
+use crate::chain_sides::chain_rhs;
 use crate::coefficients::{kind_at, stack_at};
+use crate::membership::{has_pair, is_chain_of, pair_at, pair_count};
 use crate::program::Var;
 use arrayvec::ArrayVec;
-use chain_rows::{Chain, chain_rhs, has_pair, is_chain_of, pair_at, pair_count};
 use stow_data::{
     CallNo, Cargo, Container, ContainerNo, Kinds, Length, Lengths, Ship, Stack, StackNo,
 };

@@ -1,5 +1,5 @@
 //! Variables, rows and raises.
-use chain_rows::Chain;
+use crate::all_chains::Chain;
 use stow_data::{CallNo, HalfNo, KindNo, PlaceNo, Seq, StackNo, VarNo};
 
 /// A variable: a container of this kind is put at this place at one call, and lifted at another. Variables are ordered by put, kind, lifted, place.

@@ -1,5 +1,5 @@
 use Rattle.std.proofs.Common.{ℕ, ◌∙◌, ap, subst}
-use Rattle.flat_lists.specs.Transposed.{IsTransposed}
+use Rattle.sum_matrix.specs.Transposed.{IsTransposed}
 use Rattle.sum_matrix.specs.Numbers.{numbers}
 use Rattle.base_matrix.proofs.building.turned_rows.Goals as goal
 

@@ -1,6 +1,6 @@
 use Rattle.std.proofs.Common.{arith, ◌≡◌, ℕ, ◌<◌, List, [], map, refl, sym, ◌∙◌, ap, subst}
 use Rattle.std.specs.Prelude.{slice_index_or}
-use Rattle.row_sums.specs.declared.sums.Sum.{Sum}
+use Rattle.sum_matrix.specs.declared.sums.Sum.{Sum}
 use Rattle.sum_matrix.specs.declared.numbering.Numbering.{Numbering}
 use Rattle.sum_matrix.specs.Numbers.{number, numbers, IsThere}
 use Rattle.sum_matrix.specs.Held.{variables_of}

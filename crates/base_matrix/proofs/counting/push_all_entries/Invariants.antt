@@ -1,6 +1,6 @@
 use Rattle.std.proofs.Common.{◌≡◌, ℕ, ◌<◌, [], length, map}
 use Rattle.std.specs.Prelude.{slice_index_or}
-use Rattle.row_sums.specs.declared.sums.Sum.{Sum}
+use Rattle.sum_matrix.specs.declared.sums.Sum.{Sum}
 use Rattle.sum_matrix.specs.Numbers.{number, IsThere}
 use Rattle.sum_matrix.specs.Held.{variables_of}
 use Rattle.base_matrix.specs.Counted.{entry_of}

@@ -1,6 +1,6 @@
 use Rattle.std.proofs.Common.{arith, ◌≡◌, ℕ, ◌<◌, List, [], ◌∷◌, ◌++◌, map, length, sym, ◌∙◌, ap, subst}
 use Rattle.std.specs.Prelude.{slice_index_or}
-use Rattle.partial_plan.proofs.Summing.{get_or_any}
+use Rattle.base_matrix.proofs.Summing.{get_or_any}
 use Rattle.zero_one_rows.specs.Variables.{variables, var}
 use Rattle.sum_matrix.specs.declared.numbering.Numbering.{Numbering}
 use Rattle.sum_matrix.specs.Held.{AreSumsOf}

@@ -2,7 +2,7 @@ use Rattle.std.proofs.Common.{rules, ◌≡◌, Some, List, ◌++◌, ℕ, sym, 
 use Rattle.stow_data.specs.Ship.{Ship}
 use Rattle.stow_data.specs.Profile.{IsShip}
 use Rattle.zero_one_rows.specs.Variables.{Voyage}
-use Rattle.row_sums.specs.Sums.{parts}
+use Rattle.sum_matrix.specs.Sums.{parts}
 use Rattle.sum_matrix.specs.declared.numbering.Numbering.{Numbering}
 use Rattle.base_matrix.specs.Parted.{NamesPlace, AreSumsOf, numbers_of}
 use Rattle.base_matrix.proofs.PartNumbers.{parts_low, misplaced_numbered, part_numbers}

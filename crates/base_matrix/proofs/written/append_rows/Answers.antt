@@ -1,6 +1,6 @@
 use Rattle.std.proofs.Common.{arith, get_or}
 use borrow.Author.Differences.{ints}
-use Rattle.partial_plan.proofs.Summing.{get_or_any}
+use Rattle.base_matrix.proofs.Summing.{get_or_any}
 use Rattle.base_matrix.proofs.Stepping.{by_next, by_over}
 use Rattle.base_matrix.proofs.written.append_rows.Goals as goal
 

@@ -1,6 +1,6 @@
 use Rattle.std.proofs.Common.{arith, ℕ, List, get_or, ◌+ℤ◌, ◌∙◌, ap}
 use borrow.Author.Differences.{ints}
-use Rattle.partial_plan.proofs.Summing.{get_or_any}
+use Rattle.base_matrix.proofs.Summing.{get_or_any}
 use Rattle.base_matrix.specs.Terms.{loses, lost_by}
 use Rattle.base_matrix.proofs.Stepping.{no_share, lost_next}
 use Rattle.base_matrix.proofs.written.append_shares.Goals as goal

@@ -1,6 +1,6 @@
 use Rattle.std.proofs.Common.{ap, subst, ◌∙◌, arith}
-use Rattle.incumbent_word.specs.declared.view.View.{View}
-use Rattle.incumbent_word.specs.Rule.{seen_at}
+use Rattle.node_racks.specs.declared.view.View.{View}
+use Rattle.node_racks.specs.Rule.{seen_at}
 use Rattle.steal_pool.specs.UnderWay.{Tells}
 use Rattle.steal_pool.proofs.Steps.{if_ok, tells_over}
 use Rattle.crew_turns.proofs.Handled.{goes_on, halves_there}

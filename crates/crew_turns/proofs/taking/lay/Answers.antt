@@ -1,5 +1,5 @@
 use Rattle.std.proofs.Common.{ap, arith}
-use Rattle.search_machine.specs.Bags.{weigh}
+use Rattle.search_core.specs.Bags.{weigh}
 use Rattle.crew_turns.proofs.Weights.{weigh_snoc}
 use Rattle.crew_turns.proofs.taking.lay.Goals as goal
 

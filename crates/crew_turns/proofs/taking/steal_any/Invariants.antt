@@ -1,5 +1,5 @@
 use Rattle.std.proofs.Common.{◌≡◌, ℕ}
-use Rattle.search_nodes.specs.declared.nodes.Node.{Node}
+use Rattle.certificate.specs.declared.nodes.Node.{Node}
 use Rattle.node_racks.specs.Racks.{IsPassAt, took_weight, put_weight}
 use Rattle.crew_turns.proofs.taking.steal_any.Given as goal
 

@@ -1,5 +1,5 @@
 use Rattle.std.proofs.Common.{◌≡◌, ◌++◌, ◌∷◌, [], refl, ap, rules}
-use Rattle.incumbent_word.specs.Rule.{one_over}
+use Rattle.node_racks.specs.Rule.{one_over}
 use Rattle.crew_turns.specs.declared.job.Job.{Job}
 use Rattle.crew_turns.proofs.Jobs.{got, left_it}
 use Rattle.crew_turns.proofs.turning.turn.Goals as goal

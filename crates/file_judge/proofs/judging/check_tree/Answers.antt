@@ -1,6 +1,6 @@
 use Rattle.std.proofs.Common.{◌≡◌, ℕ, ◌+◌, subst}
 use Rattle.zero_one_rows.specs.Rows.{CrossingRowsHold}
-use Rattle.solution_meaning.specs.Laws.{IsCostBound, most_lifts}
+use Rattle.model_bridge.specs.Laws.{IsCostBound, most_lifts}
 use Rattle.file_judge.proofs.judging.check_tree.Goals as goal
 
 pub returns-in-Ok-clause-bounds : goal.returns-in-Ok-clause-bounds

@@ -1,6 +1,6 @@
 use Rattle.plan_files.specs.DepartureFile.{groups, message_of}
 use Rattle.plan_files.proofs.ShownBy.{plan_shown}
-use Rattle.shown_plans.proofs.Shown.{shows_told}
+use Rattle.plan_files.proofs.Shown.{shows_told}
 use Rattle.file_judge.proofs.law.written_is_read.Goals as goal
 
 pub returns : goal.returns

@@ -2,7 +2,7 @@ use Rattle.std.proofs.Common.{◌≡◌, length, set, None, Some, refl, sym, ap,
 use Rattle.std.proofs.lemmas.Option.{get_or_from_slice_get}
 use Rattle.std.proofs.lemmas.List.{length-set}
 use Rattle.proof_trees.specs.Boxes.{Box, at}
-use Rattle.partial_plan.proofs.Freeing.{set_itself}
+use Rattle.base_matrix.proofs.Freeing.{set_itself}
 use Rattle.base_matrix.specs.Terms.{slack_in}
 use Rattle.kept_box.proofs.Moving.{holds_of, room, slack_freed, slack_small}
 use Rattle.kept_box.proofs.desk.lift_by.Goals as goal

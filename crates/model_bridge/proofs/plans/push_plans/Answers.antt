@@ -4,7 +4,7 @@ use Rattle.stow_data.specs.Plans.{Plan}
 use Rattle.stow_data.specs.Shipment.{Cargo}
 use Rattle.zero_one_rows.specs.Variables.{variables}
 use Rattle.zero_one_rows.specs.Rows.{IsSolution}
-use Rattle.solution_meaning.proofs.Calls.{IsPair}
+use Rattle.model_bridge.proofs.Calls.{IsPair}
 use Rattle.model_bridge.specs.Pairs.{ones, listed_ones, IsNextHeld, plan_of_pairs}
 use Rattle.model_bridge.proofs.Bags.{all_from, each_listed}
 use Rattle.model_bridge.proofs.Steps.{solves}

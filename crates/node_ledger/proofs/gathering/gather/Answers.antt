@@ -6,7 +6,7 @@ use Rattle.zero_one_rows.specs.declared.program.Var.{Var}
 use Rattle.zero_one_rows.specs.declared.program.Row.{Row}
 use Rattle.certificate.specs.declared.tree.Record.{Record}
 use Rattle.certificate.specs.declared.journals.Entry.{Entry}
-use Rattle.search_machine.specs.Journals.{Placed, Path, Gathers, Tree}
+use Rattle.search_core.specs.Journals.{Placed, Path, Gathers, Tree}
 use Rattle.node_ledger.specs.Gathered.{entries, placed, placed_entries, nodes_of, IsGathered}
 use Rattle.node_ledger.specs.Preorder.{InPreorder, left_node}
 use Rattle.node_ledger.proofs.Numbering.{whole_by_any, as_nodes, same_records}

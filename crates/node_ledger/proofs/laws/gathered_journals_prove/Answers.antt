@@ -1,7 +1,7 @@
 use Rattle.std.proofs.Common.{◌∙◌, sym, subst, ap, List}
 use Rattle.zero_one_rows.specs.declared.program.Row.{Row}
 use Rattle.proof_trees.specs.Trees.{Entry, Proves}
-use Rattle.search_machine.specs.Journals.{Tree, preorder, Settled}
+use Rattle.search_core.specs.Journals.{Tree, preorder, Settled}
 use Rattle.node_ledger.specs.Gathered.{nodes_of, placed_entries}
 use Rattle.node_ledger.proofs.laws.gathered_journals_prove.Goals as goal
 

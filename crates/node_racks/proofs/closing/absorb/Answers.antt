@@ -1,5 +1,5 @@
 use Rattle.std.proofs.Common.{◌≡◌, ◌+◌, ◌∷◌, ◌++◌, List, length, None, ap, sym, subst, ◌∙◌, arith, rules}
-use Rattle.search_machine.specs.Bags.{Every}
+use Rattle.search_core.specs.Bags.{Every}
 use Rattle.node_racks.specs.Rounds.{Each, IsHeld, Fits, deques, own_put, own_took}
 use Rattle.crossbeam_deque.specs.Handles.{worker_deque}
 use Rattle.node_racks.proofs.Backs.{fit_next, stolen_next, not_empty, deques_snoc, puts_snoc}

@@ -1,6 +1,6 @@
 use Rattle.std.proofs.Common.{◌≡◌, ◌-◌, [], ◌∷◌, ◌++◌, List, ap, sym, subst, ◌∙◌, rules}
 use Rattle.crossbeam_deque.specs.Handles.{worker_deque}
-use Rattle.search_machine.specs.Bags.{Every}
+use Rattle.search_core.specs.Bags.{Every}
 use Rattle.node_racks.specs.Rounds.{Each, FitsNew, IsUnused, deques}
 use Rattle.node_racks.proofs.Backs.{deques_snoc, every_snoc, snoc_shift}
 use Rattle.node_racks.proofs.Dealing.{each_snoc}

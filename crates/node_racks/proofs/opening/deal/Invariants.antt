@@ -1,5 +1,5 @@
 use Rattle.std.proofs.Common.{◌≡◌, ◌++◌, ◌-◌}
-use Rattle.search_machine.specs.Bags.{Every}
+use Rattle.search_core.specs.Bags.{Every}
 use Rattle.node_racks.specs.Rounds.{Each, FitsNew, IsUnused, deques}
 use Rattle.node_racks.proofs.opening.deal.Given as goal
 

@@ -1,6 +1,6 @@
 use Rattle.std.proofs.Common.{◌≡◌, ◌-◌, ◌∷◌, ◌++◌, [], ap, sym, subst, ◌∙◌, rules, arith, ℕ}
-use Rattle.search_machine.specs.Bags.{Every}
-use Rattle.search_machine.proofs.Weights.{every_append}
+use Rattle.search_core.specs.Bags.{Every}
+use Rattle.search_core.proofs.Weights.{every_append}
 use Rattle.node_racks.specs.Rounds.{Each, FitsNew, IsUnused, deques}
 use Rattle.node_racks.proofs.Backs.{every_snoc}
 use Rattle.node_racks.proofs.opening.deal_all.Goals as goal

@@ -4,8 +4,8 @@ use Rattle.zero_one_rows.specs.Rows.{whole}
 use Rattle.proof_trees.specs.Boxes.{Box, tightened}
 use Rattle.proof_trees.proofs.Duality.{length_tightened}
 use Rattle.certificate.specs.Entries.{end_of, number_of}
-use Rattle.search_machine.specs.Journals.{divided}
-use Rattle.search_machine.specs.Machine.{Divides}
+use Rattle.search_core.specs.Journals.{divided}
+use Rattle.search_core.specs.Machine.{Divides}
 use Rattle.record_judge.proofs.boxes.follow.Goals as goal
 
 pub halve-requires-clause-whole : goal.halve-requires-clause-whole

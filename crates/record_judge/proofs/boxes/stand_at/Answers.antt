@@ -6,7 +6,7 @@ use Rattle.proof_trees.specs.Trees.{Pending}
 use Rattle.certificate.specs.declared.tree.Record.{Record}
 use Rattle.certificate.specs.Entries.{end_of, number_of}
 use Rattle.search_core.specs.declared.records.Done.{Done}
-use Rattle.search_events.specs.declared.nodes.Step.{Step}
+use Rattle.record_judge.specs.declared.event_nodes.Step.{Step}
 use Rattle.record_judge.proofs.Halves.{length_followed}
 use Rattle.record_judge.proofs.Standing.{step_at, done_at, step_is, inside_at, done_is}
 use Rattle.record_judge.proofs.Standing as along

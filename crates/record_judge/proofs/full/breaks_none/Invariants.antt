@@ -1,7 +1,7 @@
 use Rattle.std.proofs.Common.{◌≡◌, drop}
 use Rattle.zero_one_rows.specs.Rows.{whole}
 use Rattle.program_rows.specs.Counted.{base_rows}
-use Rattle.search_machine.specs.Machine.{breaks_none}
+use Rattle.search_core.specs.Machine.{breaks_none}
 use Rattle.record_judge.proofs.full.breaks_none.Given as goal
 
 abbrev pub invariant-loop-k : goal.invariant-loop-k

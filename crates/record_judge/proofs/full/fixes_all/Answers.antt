@@ -1,7 +1,7 @@
 use Rattle.std.proofs.Common.{arith, ◌≡◌, ◌<◌, ℕ, true, None, Some, Option, Bool, sym, subst, ◌∙◌, ap, length}
 use Rattle.std.proofs.lemmas.Option.{get_or_from_slice_get}
 use Rattle.zero_one_rows.specs.Variables.{variables}
-use Rattle.search_machine.specs.Machine.{fixed_below}
+use Rattle.search_core.specs.Machine.{fixed_below}
 use Rattle.record_judge.proofs.Fixed.{fixed_more, one_free}
 use Rattle.record_judge.proofs.full.fixes_all.Goals as goal
 

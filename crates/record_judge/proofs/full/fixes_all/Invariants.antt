@@ -1,5 +1,5 @@
 use Rattle.std.proofs.Common.{◌≡◌, true}
-use Rattle.search_machine.specs.Machine.{fixed_below}
+use Rattle.search_core.specs.Machine.{fixed_below}
 use Rattle.record_judge.proofs.full.fixes_all.Given as goal
 
 abbrev pub invariant-loop-v : goal.invariant-loop-v

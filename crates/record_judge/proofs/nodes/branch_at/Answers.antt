@@ -1,10 +1,10 @@
 use Rattle.std.proofs.Common.{subst}
 use Rattle.zero_one_rows.specs.declared.program.Row.{Row}
 use Rattle.certificate.specs.Entries.{entry_of}
-use Rattle.search_machine.specs.Machine.{Node}
-use Rattle.search_events.specs.Cores.{node_at}
-use Rattle.search_events.specs.Judging.{JudgesBranch}
-use Rattle.record_judge.proofs.Judged.{is_way, at_end}
+use Rattle.search_core.specs.Machine.{Node}
+use Rattle.record_judge.specs.Cores.{node_at}
+use Rattle.record_judge.specs.JudgingEvents.{JudgesBranch}
+use Rattle.record_judge.proofs.JudgedRecords.{is_way, at_end}
 use Rattle.record_judge.proofs.nodes.branch_at.Goals as goal
 
 pub branch-model-requires : goal.branch-model-requires

@@ -1,5 +1,5 @@
 use Rattle.record_judge.proofs.Listed.{never}
-use Rattle.record_judge.proofs.Judged.{divides_here, not_free}
+use Rattle.record_judge.proofs.JudgedRecords.{divides_here, not_free}
 use Rattle.record_judge.proofs.verdicts.branch.Goals as goal
 
 pub returns-then-not-is_branch-clause-judged : goal.returns-then-not-is_branch-clause-judged

@@ -3,7 +3,7 @@ use Rattle.std.specs.Int.{w128}
 use Rattle.std.proofs.lemmas.Int.{to_z-of_z}
 use Rattle.record_judge.proofs.Listed.{never}
 use Rattle.record_judge.proofs.Totals.{lt_is, not_under}
-use Rattle.record_judge.proofs.Judged.{closes, falls_short}
+use Rattle.record_judge.proofs.JudgedRecords.{closes, falls_short}
 use Rattle.record_judge.proofs.verdicts.close.Goals as goal
 
 pub returns-then-not-is_leaf-clause-judged : goal.returns-then-not-is_leaf-clause-judged

@@ -1,7 +1,7 @@
 use Rattle.std.proofs.Common.{refl, false, ap}
 use Rattle.certificate.specs.Entries.{end_of, number_of}
 use Rattle.certificate.specs.declared.tree.End.{End}
-use Rattle.search_machine.specs.Journals.{branches}
+use Rattle.search_core.specs.Journals.{branches}
 use Rattle.record_judge.proofs.Listed.{never}
 use Rattle.record_judge.proofs.Halves.{no_branch}
 use Rattle.record_judge.proofs.verdicts.is_branch.Goals as goal

@@ -4,7 +4,7 @@ use Rattle.proof_trees.specs.Multipliers.{Multipliers, raised_all}
 use Rattle.certificate.specs.Entries.{same_row, raise_of}
 use Rattle.record_judge.specs.Standing.{standing, begun_there}
 use Rattle.record_judge.proofs.Listed.{never}
-use Rattle.record_judge.proofs.Judged.{names, named_raises}
+use Rattle.record_judge.proofs.JudgedRecords.{names, named_raises}
 use Rattle.record_judge.proofs.Raising.{kept, keeps, led}
 use Rattle.record_judge.proofs.verdicts.is_record.Goals as goal
 

@@ -1,6 +1,6 @@
 use Rattle.std.proofs.Common.{sym, ◌∙◌}
 use Rattle.record_judge.proofs.Listed.{never}
-use Rattle.record_judge.proofs.Judged.{offers, not_full}
+use Rattle.record_judge.proofs.JudgedRecords.{offers, not_full}
 use Rattle.record_judge.proofs.verdicts.offer.Goals as goal
 
 pub returns-then-not-is_leaf-clause-judged : goal.returns-then-not-is_leaf-clause-judged

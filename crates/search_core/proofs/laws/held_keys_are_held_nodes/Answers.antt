@@ -1,5 +1,5 @@
 use Rattle.std.proofs.Common.{[], Some, None, ap, ◌∙◌}
-use Rattle.search_machine.specs.Machine.{Worker}
+use Rattle.search_core.specs.Machine.{Worker}
 use Rattle.search_core.specs.Told.{told, node_of}
 use Rattle.search_core.proofs.Renamed
 use Rattle.search_core.proofs.Earlier

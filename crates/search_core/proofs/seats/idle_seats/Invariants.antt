@@ -1,5 +1,5 @@
 use Rattle.std.proofs.Common.{◌≡◌, replicate, map}
-use Rattle.search_machine.specs.Machine.{idle}
+use Rattle.search_core.specs.Machine.{idle}
 use Rattle.search_core.specs.Rooms.{worker_of}
 use Rattle.search_core.proofs.seats.idle_seats.Given as goal
 

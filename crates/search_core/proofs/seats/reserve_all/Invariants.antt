@@ -1,5 +1,5 @@
 use Rattle.std.proofs.Common.{◌≡◌, ℕ, ◌≤◌, map, take, length}
-use Rattle.search_machine.specs.Bags.{Every}
+use Rattle.search_core.specs.Bags.{Every}
 use Rattle.search_core.specs.Rooms.{worker_of}
 use Rattle.search_core.proofs.seats.reserve_all.Given as goal
 

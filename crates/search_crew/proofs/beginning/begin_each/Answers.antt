@@ -1,6 +1,6 @@
 use Rattle.std.proofs.Common.{◌≡◌, ◌∷◌, length, ap, sym, subst, arith, rules}
-use Rattle.search_machine.specs.Bags.{Every}
-use Rattle.search_machine.proofs.Weights.{every_append}
+use Rattle.search_core.specs.Bags.{Every}
+use Rattle.search_core.proofs.Weights.{every_append}
 use Rattle.node_racks.specs.Racks.{IsPassAt, IsFresh}
 use Rattle.search_crew.specs.Ends.{IsPosted}
 use Rattle.search_crew.proofs.Ends.{numbers_more}

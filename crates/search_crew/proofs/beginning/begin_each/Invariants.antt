@@ -1,5 +1,5 @@
 use Rattle.std.proofs.Common.{◌≡◌, ◌+◌, ◌++◌, length, map}
-use Rattle.search_machine.specs.Bags.{Every}
+use Rattle.search_core.specs.Bags.{Every}
 use Rattle.node_racks.specs.Racks.{IsPassAt, IsFresh, number_of}
 use Rattle.search_crew.specs.Ends.{IsPosted, post_number}
 use Rattle.search_crew.specs.Starts.{IsMaker}

@@ -1,4 +1,4 @@
-use Rattle.search_machine.specs.Bags.{weigh}
+use Rattle.search_core.specs.Bags.{weigh}
 use Rattle.crew_turns.specs.Deeds.{on_nodes}
 use Rattle.search_crew.proofs.Rests.{rest_starts}
 use Rattle.search_crew.proofs.finishing.finish.Goals as goal

@@ -1,7 +1,7 @@
 use Rattle.std.proofs.Common.{◌≡◌, IfOk, length, subst, arith}
 use Rattle.std.proofs.lemmas.Bool.Decides.{nat_tests}
 use Rattle.zero_one_rows.specs.Variables.{Voyage}
-use Rattle.search_machine.specs.Bags.{weigh}
+use Rattle.search_core.specs.Bags.{weigh}
 use Rattle.crew_turns.specs.Deeds.{IsDone, on_nodes}
 use Rattle.search_crew.proofs.Rests.{none_done, no_items}
 use Rattle.search_crew.proofs.finishing.finish_all.Goals as goal

@@ -1,5 +1,5 @@
 use Rattle.std.proofs.Common.{◌≡◌, ◌++◌, ◌∷◌, List, length, map, refl, ap, sym, subst, ◌∙◌, arith, rules}
-use Rattle.search_machine.specs.Bags.{Every}
+use Rattle.search_core.specs.Bags.{Every}
 use Rattle.node_racks.specs.declared.racks.Pass.{Pass}
 use Rattle.search_crew.specs.declared.places.Back.{Back}
 use Rattle.search_crew.specs.Ends.{IsBack, pass_of}

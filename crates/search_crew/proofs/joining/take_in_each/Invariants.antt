@@ -1,6 +1,6 @@
 use Rattle.std.proofs.Common.{◌≡◌, ◌+◌, ◌++◌, length, map}
 use Rattle.zero_one_rows.specs.Variables.{Voyage}
-use Rattle.search_machine.specs.Bags.{Every}
+use Rattle.search_core.specs.Bags.{Every}
 use Rattle.search_crew.specs.Ends.{IsBack, IsEnd, pass_of}
 use Rattle.search_crew.proofs.joining.take_in_each.Given as goal
 

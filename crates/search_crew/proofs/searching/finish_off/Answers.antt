@@ -1,6 +1,6 @@
 use Rattle.std.proofs.Common.{sym, subst}
-use Rattle.search_machine.specs.Bags.{Every}
-use Rattle.search_machine.proofs.Weights.{every_append, every_more}
+use Rattle.search_core.specs.Bags.{Every}
+use Rattle.search_core.proofs.Weights.{every_append, every_more}
 use Rattle.node_work.specs.Work.{IsNode}
 use Rattle.steal_pool.proofs.Steps.{if_ok}
 use Rattle.search_crew.proofs.Ends.{finished}

@@ -1,6 +1,6 @@
 use Rattle.std.proofs.Common.{◌≡◌, ap, ◌∙◌, arith}
-use Rattle.incumbent_word.specs.declared.view.View.{View}
-use Rattle.incumbent_word.specs.Rule.{seen_at, after_split, joined}
+use Rattle.node_racks.specs.declared.view.View.{View}
+use Rattle.node_racks.specs.Rule.{seen_at, after_split, joined}
 use Rattle.steal_pool.proofs.Steps.{if_ok}
 use Rattle.search_crew.proofs.searching.finish_seated.Goals as goal
 

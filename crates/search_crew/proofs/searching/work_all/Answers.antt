@@ -1,5 +1,5 @@
 use Rattle.std.proofs.Common.{◌≡◌, ◌≤◌, List, length, map, ap, sym, subst, ◌∙◌, arith}
-use Rattle.search_machine.specs.Bags.{Every}
+use Rattle.search_core.specs.Bags.{Every}
 use Rattle.node_racks.specs.declared.racks.Pass.{Pass}
 use Rattle.node_racks.specs.Racks.{IsPassAt, number_of}
 use Rattle.steal_pool.proofs.Steps.{if_ok, on_ok}

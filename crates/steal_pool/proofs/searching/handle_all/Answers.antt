@@ -1,6 +1,6 @@
 use Rattle.std.proofs.Common.{[], ◌∷◌, sym, subst}
 use Rattle.zero_one_rows.specs.Variables.{Voyage}
-use Rattle.incumbent_word.specs.declared.view.View.{View}
+use Rattle.node_racks.specs.declared.view.View.{View}
 use Rattle.steal_pool.specs.UnderWay.{IsUnderWay}
 use Rattle.steal_pool.proofs.Steps.{drew, goes_to}
 use Rattle.steal_pool.proofs.searching.handle_all.Goals as goal

@@ -1,6 +1,6 @@
 use Rattle.std.proofs.Common.{◌≡◌, [], ap, subst, sym, ◌∙◌, arith}
-use Rattle.incumbent_word.specs.declared.view.View.{View}
-use Rattle.incumbent_word.specs.Rule.{seen_at, after_split, joined}
+use Rattle.node_racks.specs.declared.view.View.{View}
+use Rattle.node_racks.specs.Rule.{seen_at, after_split, joined}
 use Rattle.steal_pool.specs.Found.{IsFound}
 use Rattle.steal_pool.specs.UnderWay.{IsUnderWay}
 use Rattle.steal_pool.proofs.Findings.{closes_best, ends_found, knows_all, used_up}

@@ -1,6 +1,6 @@
 use Rattle.std.proofs.Common.{◌≡◌, sym, subst}
 use Rattle.zero_one_rows.specs.Variables.{Voyage}
-use Rattle.solution_meaning.specs.Laws.{IsProblem}
+use Rattle.model_bridge.specs.Laws.{IsProblem}
 use Rattle.stow_answers.proofs.Works.{problem_of}
 use Rattle.stow_answers.proofs.checking.check_voyage.Goals as goal
 

@@ -1,5 +1,5 @@
 use Rattle.std.proofs.Common.{sym, ap, subst}
-use Rattle.solution_meaning.specs.Laws.{IsProblem}
+use Rattle.model_bridge.specs.Laws.{IsProblem}
 use Rattle.zero_one_rows.specs.Variables.{Voyage}
 use Rattle.plan_search.specs.Certified.{Certifies, HasPlans}
 use Rattle.stow_answers.proofs.Works.{problem_of, can_be_written, ok_answers}

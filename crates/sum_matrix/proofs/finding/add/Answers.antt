@@ -1,5 +1,5 @@
 use Rattle.std.proofs.Common.{◌≡◌, true, ◌∙◌, sym}
-use Rattle.row_sums.specs.Sums.{holds}
+use Rattle.sum_matrix.specs.Sums.{holds}
 use Rattle.sum_matrix.proofs.Growing.{pushed_if_ok}
 use Rattle.sum_matrix.proofs.finding.add.Goals as goal
 

@@ -1,6 +1,6 @@
 use Rattle.std.proofs.Common.{◌≡◌, ℕ, length, ap, ◌∙◌, subst, arith}
 use Rattle.stow_data.specs.Ship.{Ship}
-use Rattle.row_sums.specs.declared.sums.Sum.TheVariants.{OccupiedByClass}
+use Rattle.sum_matrix.specs.declared.sums.Sum.TheVariants.{OccupiedByClass}
 use Rattle.sum_matrix.specs.Numbers.{IsClass}
 use Rattle.sum_matrix.specs.Noted.{Has}
 use Rattle.sum_matrix.proofs.Growing.{on_ok}

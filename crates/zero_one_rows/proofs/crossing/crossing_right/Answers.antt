@@ -2,8 +2,8 @@ use Rattle.std.proofs.Common.{◌≡◌, ◌∙◌, ℕ, List, ap, map, w64, Fit
 use Rattle.std.proofs.lemmas.Int.{to_z-of_z}
 use Rattle.stow_data.specs.declared.geometry.Length.{Length}
 use Rattle.stow_data.specs.Ship.{Ship}
-use Rattle.chain_rows.specs.Chains.{pairs_of}
-use Rattle.chain_rows.specs.RightSide.{right_side}
+use Rattle.zero_one_rows.specs.Chains.{pairs_of}
+use Rattle.zero_one_rows.specs.RightSide.{right_side}
 use Rattle.zero_one_rows.specs.Crossing.{load_of, columns, tallest}
 use Rattle.zero_one_rows.proofs.crossing.crossing_right.Goals as goal
 

@@ -3,7 +3,7 @@ use Rattle.std.specs.List.{count_by}
 use Rattle.std.proofs.lemmas.List.{map-append, take_more}
 use Rattle.std.proofs.lemmas.Option.{get_or_from_slice_get}
 use Rattle.stow_data.specs.Shipment.{Cargo}
-use Rattle.chain_rows.specs.Chains.{pairs_of}
+use Rattle.zero_one_rows.specs.Chains.{pairs_of}
 use Rattle.zero_one_rows.specs.Crossing.{load_of, is_of_load}
 use Rattle.zero_one_rows.proofs.crossing.loads.Goals as goal
 

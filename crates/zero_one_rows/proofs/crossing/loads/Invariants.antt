@@ -1,5 +1,5 @@
 use Rattle.std.proofs.Common.{◌≡◌, take, map}
-use Rattle.chain_rows.specs.Chains.{pairs_of}
+use Rattle.zero_one_rows.specs.Chains.{pairs_of}
 use Rattle.zero_one_rows.specs.Crossing.{load_of}
 use Rattle.zero_one_rows.proofs.crossing.loads.Given as goal
 

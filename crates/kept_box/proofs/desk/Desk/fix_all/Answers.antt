@@ -5,9 +5,9 @@ use Rattle.std.proofs.lemmas.Int.{to_z-of_z}
 use Rattle.std.proofs.lemmas.List.{length-map}
 use Rattle.zero_one_rows.specs.Variables.{variables}
 use Rattle.zero_one_rows.specs.Rows.{whole}
-use Rattle.partial_plan.specs.Forced.{stepped}
-use Rattle.partial_plan.proofs.Freeing.{noted_more}
-use Rattle.partial_plan.proofs.Walking.{Partly, listed_more, all_taken}
+use Rattle.base_matrix.specs.Forced.{stepped}
+use Rattle.base_matrix.proofs.Freeing.{noted_more}
+use Rattle.base_matrix.proofs.Walking.{Partly, listed_more, all_taken}
 use Rattle.base_matrix.specs.declared.entries.Term.{Term}
 use Rattle.base_matrix.specs.Terms.{row_at, vars_in}
 use Rattle.kept_box.proofs.Looks.{term_at, tight_run}

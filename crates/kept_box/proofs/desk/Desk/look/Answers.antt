@@ -1,7 +1,7 @@
 use Rattle.std.proofs.Common.{rules, arith, ◌≡◌, ◌<◌, List, length, SFits, w64, ℤ, pos, ◌≤ℤ◌, refl, sym, subst, ◌∙◌}
 use Rattle.std.proofs.lemmas.Int.{to_z-of_z}
 use borrow.Author.Differences.{ints}
-use Rattle.partial_plan.proofs.Rows.{read}
+use Rattle.base_matrix.proofs.Rows.{read}
 use Rattle.base_matrix.specs.declared.entries.Term.{Term}
 use Rattle.base_matrix.specs.Terms.{row_at, AreTerms}
 use Rattle.kept_box.specs.Waiting.{number_at}

@@ -2,9 +2,9 @@ use Rattle.std.proofs.Common.{rules, arith, ◌≡◌, ◌+◌, ◌++◌, [], �
 use Rattle.std.proofs.lemmas.Int.{to_z-of_z}
 use Rattle.zero_one_rows.specs.declared.program.Row.{Row}
 use Rattle.zero_one_rows.specs.Rows.{base}
-use Rattle.partial_plan.specs.Tightening.{Tightens}
-use Rattle.partial_plan.proofs.Falling.{tightens_falls}
-use Rattle.partial_plan.proofs.Steps.{tightens_one}
+use Rattle.base_matrix.specs.Tightening.{Tightens}
+use Rattle.base_matrix.proofs.Falling.{tightens_falls}
+use Rattle.base_matrix.proofs.Steps.{tightens_one}
 use Rattle.base_matrix.specs.Terms.{row_at, slack_in}
 use Rattle.kept_box.specs.Waiting.{number_at}
 use Rattle.kept_box.specs.Desk.{CalmAt}

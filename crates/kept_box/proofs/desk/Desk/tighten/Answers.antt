@@ -1,8 +1,8 @@
 use Rattle.std.proofs.Common.{arith, sym, subst}
 use Rattle.proof_trees.specs.Boxes.{Box}
-use Rattle.partial_plan.specs.Tightening.{IsQuiet}
-use Rattle.partial_plan.proofs.Freeing.{noted_more}
-use Rattle.partial_plan.proofs.Steps.{tightens_more}
+use Rattle.base_matrix.specs.Tightening.{IsQuiet}
+use Rattle.base_matrix.proofs.Freeing.{noted_more}
+use Rattle.base_matrix.proofs.Steps.{tightens_more}
 use Rattle.kept_box.proofs.Moving.{quiet_rests}
 use Rattle.kept_box.proofs.desk.Desk.tighten.Goals as goal
 

@@ -1,7 +1,7 @@
 use Rattle.std.proofs.Common.{arith, ◌≡◌, ◌<◌, length, true, false, get_or, sym, subst, ◌∙◌}
 use Rattle.proof_trees.specs.Boxes.{Box}
-use Rattle.partial_plan.specs.Tightening.{IsQuiet}
-use Rattle.partial_plan.proofs.Rows.{read}
+use Rattle.base_matrix.specs.Tightening.{IsQuiet}
+use Rattle.base_matrix.proofs.Rows.{read}
 use Rattle.kept_box.proofs.Moving.{holds_still, rests_quiet}
 use Rattle.kept_box.proofs.Trails.{released_all, take_length}
 use Rattle.kept_box.proofs.desk.Desk.undo_to.Goals as goal

@@ -2,7 +2,7 @@ use Rattle.std.proofs.Common.{arith, ◌+◌, ◌<◌, ℕ, List, [], drop, leng
 use Rattle.std.specs.Int.RustNames.{unsigned_abs}
 use Rattle.base_matrix.specs.Terms.{lost, lost_by}
 use Rattle.kept_box.specs.Waiting.{number_at}
-use Rattle.partial_plan.proofs.Summing.{get_or_any}
+use Rattle.base_matrix.proofs.Summing.{get_or_any}
 use Rattle.base_matrix.proofs.Stepping.{no_share, lost_next, lost_over}
 use Rattle.kept_box.proofs.Losing.{by_least, lost_least}
 use Rattle.kept_box.proofs.Moving.{rises_end, rises_more, rises_part, rises_room}

@@ -1,7 +1,7 @@
 use Rattle.std.proofs.Common.{arith, drop, get_or, pos}
 use Rattle.std.specs.Prelude.{nat_eq}
 use Rattle.proof_trees.specs.Program.{where_set}
-use Rattle.partial_plan.proofs.Summing.{get_or_any}
+use Rattle.base_matrix.proofs.Summing.{get_or_any}
 use Rattle.base_matrix.proofs.Stepping.{by_next, by_over}
 use Rattle.kept_box.proofs.Losing.{by_least, where_least}
 use Rattle.kept_box.proofs.Moving.{falls_end, falls_more, falls_room, marked_more}

@@ -1,5 +1,5 @@
 use Rattle.std.proofs.Common.{arith, ◌≡◌, ◌<◌, false, length, sym, ◌∙◌}
-use Rattle.partial_plan.proofs.Rows.{read}
+use Rattle.base_matrix.proofs.Rows.{read}
 use Rattle.kept_box.specs.Waiting.{waits_at}
 use Rattle.kept_box.proofs.Counts.{waiting_more, waiting_most}
 use Rattle.kept_box.proofs.slacks.Slacks.lower_row.Goals as goal

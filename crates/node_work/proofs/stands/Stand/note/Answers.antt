@@ -3,7 +3,7 @@ use Rattle.zero_one_rows.specs.Rows.{whole}
 use Rattle.proof_trees.specs.Boxes.{free_box, tightened}
 use Rattle.certificate.specs.declared.tree.Record.{Record}
 use Rattle.certificate.specs.Entries.{end_of, number_of}
-use Rattle.search_machine.specs.Machine.{Divides}
+use Rattle.search_core.specs.Machine.{Divides}
 use Rattle.node_work.specs.declared.stands.Frame.{Frame}
 use Rattle.node_work.specs.Stands.{box_along}
 use Rattle.node_work.proofs.Standing.{stand_noted}

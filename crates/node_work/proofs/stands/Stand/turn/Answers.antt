@@ -2,8 +2,8 @@ use Rattle.std.proofs.Common.{◌≡◌, refl, ap, sym, subst, ◌∙◌, List, 
 use Rattle.zero_one_rows.specs.Rows.{whole}
 use Rattle.certificate.specs.declared.tree.Record.{Record}
 use Rattle.certificate.specs.Entries.{end_of, number_of}
-use Rattle.search_machine.specs.Journals.{divided}
-use Rattle.search_machine.specs.Machine.{Divides}
+use Rattle.search_core.specs.Journals.{divided}
+use Rattle.search_core.specs.Machine.{Divides}
 use Rattle.node_work.specs.declared.stands.Frame.{Frame}
 use Rattle.node_work.specs.declared.stands.Stand.{Stand}
 use Rattle.node_work.proofs.Standing.{deepest, stand_less, low_marks, may_halve, turned, turned_at, stand_fixed}

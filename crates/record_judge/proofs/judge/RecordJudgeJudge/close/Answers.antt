@@ -1,8 +1,8 @@
 use Rattle.std.proofs.Common.{◌≤◌, length, subst, sym, ap}
 use Rattle.zero_one_rows.specs.Variables.{Voyage}
 use Rattle.certificate.specs.Entries.{entry_of}
-use Rattle.search_events.specs.Cores.{node_at}
-use Rattle.search_events.specs.Judging.{HasTrail, JudgesClose}
+use Rattle.record_judge.specs.Cores.{node_at}
+use Rattle.record_judge.specs.JudgingEvents.{HasTrail, JudgesClose}
 use Rattle.record_judge.specs.Judging.{Judging}
 use Rattle.record_judge.proofs.judge.RecordJudgeJudge.close.Goals as goal
 

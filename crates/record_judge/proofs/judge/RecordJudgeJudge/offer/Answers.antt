@@ -1,7 +1,7 @@
 use Rattle.std.proofs.Common.{◌≤◌, length, subst, sym, ap}
 use Rattle.zero_one_rows.specs.Variables.{Voyage}
-use Rattle.search_events.specs.Cores.{node_at}
-use Rattle.search_events.specs.Judging.{HasTrail}
+use Rattle.record_judge.specs.Cores.{node_at}
+use Rattle.record_judge.specs.JudgingEvents.{HasTrail}
 use Rattle.record_judge.specs.Judging.{Judging}
 use Rattle.record_judge.proofs.judge.RecordJudgeJudge.offer.Goals as goal
 

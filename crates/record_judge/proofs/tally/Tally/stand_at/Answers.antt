@@ -5,7 +5,7 @@ use Rattle.proof_trees.specs.Trees.{begun}
 use Rattle.certificate.specs.declared.tree.Record.{Record}
 use Rattle.certificate.specs.Entries.{same_row, raise_of}
 use Rattle.search_core.specs.declared.records.Done.{Done}
-use Rattle.search_events.specs.declared.nodes.Step.{Step}
+use Rattle.record_judge.specs.declared.event_nodes.Step.{Step}
 use Rattle.record_judge.specs.Counting.{Tallies}
 use Rattle.record_judge.specs.Standing.{standing}
 use Rattle.record_judge.proofs.Raising.{led}

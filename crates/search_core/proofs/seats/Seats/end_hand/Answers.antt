@@ -1,5 +1,5 @@
 use Rattle.std.proofs.Common.{◌≡◌, ◌-◌, ◌<◌, List, map, length, arith}
-use Rattle.search_machine.specs.Machine.{StateOver}
+use Rattle.search_core.specs.Machine.{StateOver}
 use Rattle.search_core.specs.declared.node_keys.NodeKey.{NodeKey}
 use Rattle.search_core.specs.Rooms.{Roomy, worker_of}
 use Rattle.search_core.proofs.Workers.{ends_by, in_seats, room_kept}

@@ -1,5 +1,5 @@
 use Rattle.std.proofs.Common.{◌≡◌, ◌<◌, List, [], map, length, slice_index_or, Option, None, arith, ap, ◌∙◌}
-use Rattle.search_machine.specs.Machine.{Worker, StateOver, worker}
+use Rattle.search_core.specs.Machine.{Worker, StateOver, worker}
 use Rattle.search_core.specs.declared.node_keys.NodeKey.{NodeKey}
 use Rattle.search_core.specs.Rooms.{Roomy, worker_of}
 use Rattle.search_core.proofs.Workers.{steals_by, is_worker, holds_it}

@@ -1,8 +1,8 @@
 use Rattle.std.proofs.Common.{◌≡◌, true, ◌++◌, ◌∷◌, [], ap, sym, subst, ◌∙◌, rules}
 use Rattle.std.specs.Prelude.{is_some}
-use Rattle.incumbent_word.specs.declared.view.View.{View}
-use Rattle.incumbent_word.specs.Rule.{one_over}
-use Rattle.incumbent_word.specs.Tokens.{SeatToken}
+use Rattle.node_racks.specs.declared.view.View.{View}
+use Rattle.node_racks.specs.Rule.{one_over}
+use Rattle.node_racks.specs.Tokens.{SeatToken}
 use Rattle.crew_turns.specs.declared.deeds.Deeds.{Deeds}
 use Rattle.search_crew.specs.Ends.{IsRest}
 use Rattle.search_crew.proofs.Rests.{some_drawn, rest_drawn, rest_left, rest_left_too}

@@ -1,7 +1,7 @@
 use Rattle.std.proofs.Common.{sym, subst, ap, ◌∙◌, arith}
 use Rattle.node_work.specs.Work.{IsNode, begins_at, most_at, Works}
-use Rattle.incumbent_word.specs.declared.view.View.{View}
-use Rattle.incumbent_word.specs.Rule.{seen_at}
+use Rattle.node_racks.specs.declared.view.View.{View}
+use Rattle.node_racks.specs.Rule.{seen_at}
 use Rattle.steal_pool.specs.UnderWay.{Course, Tells}
 use Rattle.steal_pool.proofs.Steps.{goes_on, keeps_one, on_ok, taken_trail, tells_over}
 use Rattle.steal_pool.proofs.run.Run.handle.Goals as goal

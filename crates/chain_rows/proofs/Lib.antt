@@ -1,4 +1,0 @@
-pub mod Places
-pub mod EachOnce
-pub mod Signed
-pub mod Pairs

@@ -1,5 +1,0 @@
-use Rattle.chain_rows.proofs.EachOnce.{each_once}
-use Rattle.chain_rows.proofs.all_chains.Chains.over.Goals as goal
-
-pub returns : goal.returns
-returns c = each_once c.args.calls

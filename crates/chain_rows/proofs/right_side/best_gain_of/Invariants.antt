@@ -1,9 +1,0 @@
-use Rattle.std.proofs.Common.{◌≡◌, ◌≤◌}
-use Rattle.chain_rows.specs.Gains.{best_gain}
-use Rattle.chain_rows.proofs.right_side.best_gain_of.Given as goal
-
-abbrev pub invariant-loop-count : goal.invariant-loop-count
-invariant-loop-count l = record {
-  value : l.best ≡ best_gain l.count l.height l.price l.load;
-  low : l.best ≤ l.load;
-}

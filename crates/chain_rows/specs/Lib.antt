@@ -1,4 +1,0 @@
-pub mod Chains
-pub mod ToCome
-pub mod RightSide
-pub mod Gains

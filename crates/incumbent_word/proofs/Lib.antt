@@ -1,3 +1,0 @@
-mod Moves
-mod Seats
-mod Tokens

@@ -1,8 +1,0 @@
-use Rattle.std.proofs.Common.{sym, subst}
-use Rattle.plan_checker.specs.Checked.{IsRuleFault}
-use Rattle.plan_checker.specs.declared.faults.PlanNo.{PlanNo}
-use Rattle.plan_checker.proofs.Files.{turned}
-use Rattle.plan_checker.proofs.checking.counted.Goals as goal
-
-pub returns-in-Err : goal.returns-in-Err
-returns-in-Err c = subst (λ (e : PlanNo). IsRuleFault c.args.ship.now c.args.cargo.now c.args.plans.now e) (sym c.told_by.ensures) (turned c.args.ship.now c.args.cargo.now c.args.plans.now c.in-Err.fault c.in-Err.ensures.lists)

@@ -1,8 +1,0 @@
-pub mod Excluding
-pub mod Names
-mod Numbering
-mod Greatest
-mod Rowed
-mod Most
-mod Tiers
-mod Fixing

@@ -1,5 +1,0 @@
-mod Premises
-mod Keeping
-mod JudgedKeys
-mod Answering
-pub mod Ways

@@ -1,8 +1,0 @@
-use Rattle.search_machine.proofs.FullBoxes.{offers_solve}
-use Rattle.search_machine.proofs.NodesTold.{alike, alike_tells, rows_told}
-use Rattle.search_machine.proofs.Foundation.{founded}
-use Rattle.search_machine.proofs.laws.searched_is_founded.Goals as goal
-
-pub returns : goal.returns
-returns g c = λ same p base solves costs tells entries left start budget best searched.
-    founded same p base (offers_solve same p base solves costs) (alike (rows_told same tells)) (alike_tells (rows_told same tells)) entries left start budget best searched

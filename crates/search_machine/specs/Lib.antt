@@ -1,9 +1,0 @@
-pub mod Bags
-pub mod Journals
-pub mod Machine
-pub mod Replays
-pub mod Outcomes
-pub mod Along
-pub mod Searching
-pub mod Refusals
-pub mod Samples

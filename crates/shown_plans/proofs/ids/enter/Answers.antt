@@ -1,5 +1,0 @@
-use Rattle.shown_plans.proofs.Tables.{elsewhere}
-use Rattle.shown_plans.proofs.ids.enter.Goals as goal
-
-pub returns-clause-others : goal.returns-clause-others
-returns-clause-others c = λ other ne. c.in_ok-insert.ensures.updates.2 other (elsewhere c.args.id other ne)

@@ -1,5 +1,0 @@
-use Rattle.shown_plans.proofs.Tables.{IsTableBelow}
-use Rattle.shown_plans.proofs.ids.id_table.Given as goal
-
-abbrev pub invariant-loop-number : goal.invariant-loop-number
-invariant-loop-number l = IsTableBelow l.cargo.containers l.number l.table
