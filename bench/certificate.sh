@@ -9,7 +9,7 @@ trap 'rm -rf "$folder"' EXIT
 cd "$folder"
 git init -q
 mkdir -p crates/certificate_bench/src
-for crate in stow_data stow_io stowage_rules chain_rows proof_trees zero_one_rows certificate; do
+for crate in stow_data stow_io stowage_rules proof_trees zero_one_rows certificate; do
     cp -r "$root/crates/$crate" crates/
     grep "^$crate:" "$root/crates.txt" >>crates.txt
 done
