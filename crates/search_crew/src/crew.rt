@@ -28,9 +28,6 @@ pub struct Ground<M: Wanted> {
     pub signs: Signs,
 }
 
-// A desk goes.
-pub fn put_away(_desk: Desk) {}
-
 // What a worker brings back, once its desk is put away.
 fn back_of<'a, M: Wanted>(job: Job<'a, M>) -> Back<M>
     ensures pass { result.pass ≡ job.entry.pass }
@@ -46,7 +43,7 @@ fn back_of<'a, M: Wanted>(job: Job<'a, M>) -> Back<M>
         deeds,
         aside,
     } = job;
-    put_away(desk);
+    drop(desk);
     Back {
         pass,
         seat,

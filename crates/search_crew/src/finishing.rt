@@ -7,7 +7,6 @@ ghost use Rattle.crew_turns.specs.Deeds.{Flow, IsDone, on_nodes};
 ghost use Rattle.search_crew.specs.Ends.{IsRest, IsLive, halves_in};
 ghost use Rattle.search_crew.specs.Starts.{IsUnused};
 
-use crate::crew::put_away;
 use certificate::Node;
 use crew_turns::{Deeds, Halves, handle};
 use node_racks::{Board, Seat};
@@ -175,7 +174,7 @@ pub fn finish_all<R: Wait>(
     match fresh_desk(alloc, tables) {
         Ok(mut desk) => {
             let deeds = finish(rt, alloc, &mut desk, board, seat, todo);
-            put_away(desk);
+            drop(desk);
             deeds
         }
         Err(no) => {
