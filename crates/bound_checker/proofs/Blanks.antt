@@ -7,7 +7,8 @@ use Rattle.proof_trees.specs.Boxes.{Box, at}
 use Rattle.zero_one_rows.specs.Rows.{whole}
 use Rattle.proof_trees.specs.Multipliers.{least, weighed}
 use Rattle.dual_bound.specs.declared.costs.Costs.{Costs}
-use Rattle.dual_bound.specs.Costs.{Priced, number_at, parts}
+use Rattle.chain_gains.specs.Gaps.{number_at}
+use Rattle.dual_bound.specs.Costs.{Priced, parts}
 use Rattle.dual_bound.proofs.Summing.{sum_same, same_or_other}
 use Rattle.bound_checker.specs.declared.blank.Blank.{Blank}
 use Rattle.bound_checker.specs.Sums.{IsBlank, IsClean}

@@ -11,7 +11,8 @@ use Rattle.proof_trees.specs.Boxes.{Box, at, greatest, most, violated}
 use Rattle.proof_trees.specs.Multipliers.{Multipliers}
 use Rattle.kept_box.specs.Leaning.{cheaper, Leans}
 use Rattle.dual_bound.specs.declared.costs.Costs.{Costs}
-use Rattle.dual_bound.specs.Costs.{Priced, number_at, gap, gaps_of}
+use Rattle.chain_gains.specs.Gaps.{number_at, gap}
+use Rattle.dual_bound.specs.Costs.{Priced, gaps_of}
 use Rattle.dual_bound.specs.Rising.{IsFlat}
 use Rattle.dual_bound.proofs.Pricing.{gain_is}
 use Rattle.dual_bound.proofs.Flat.{flat_by_gain}

@@ -9,11 +9,7 @@ pub mod Flat
 pub mod TermsMore
 pub mod Keeping
 pub mod CrossSums
-pub mod Climbing
-pub mod PairKeys
-pub mod PairSums
 pub mod Offering
-pub mod Scoring
 pub mod BaseFlat
 pub mod Leaning
 mod Shortened

@@ -1,5 +1,5 @@
 -- Sums over all variables, over some of them, and over multipliers.
-use Rattle.std.proofs.Common.{◌≡◌, ◌≢◌, ℕ, zero, suc, ◌+◌, ◌*◌, ◌<◌, ◌≤◌, ◌⊎◌, inl, inr, Bool, true, false, ◌||◌, List, [], ◌∷◌, length, take, set, get_or, ℤ, pos, ◌+ℤ◌, ◌-ℤ◌, ◌*ℤ◌, arith, refl, sym, ◌∙◌, ap, subst, add-one}
+use Rattle.std.proofs.Common.{◌≡◌, ◌≢◌, ℕ, zero, suc, ◌+◌, ◌*◌, ◌<◌, ◌≤◌, ◌⊎◌, inl, inr, Bool, true, false, ◌||◌, List, [], ◌∷◌, length, take, set, get_or, ℤ, pos, ◌+ℤ◌, ◌-ℤ◌, ◌*ℤ◌, arith, refl, sym, ◌∙◌, ap, subst}
 use Rattle.std.specs.Prelude.{nat_eq}
 use Rattle.std.specs.List.{AllPairs, list_any}
 use Rattle.std.specs.Int.RustNames.{unsigned_abs}
@@ -9,7 +9,8 @@ use Rattle.std.proofs.lemmas.Int.{unsigned_abs-mul}
 use Rattle.std.proofs.lemmas.List.{get_or-set_same, get_or-set_other, get_or-take, length-take}
 use Rattle.std.proofs.lemmas.List.Folds.{list_any_none, list_any_more}
 use Rattle.proof_trees.specs.Program.{sum_to, where_set}
-use Rattle.dual_bound.specs.Costs.{number_at}
+use Rattle.chain_gains.specs.Gaps.{number_at}
+use Rattle.chain_gains.proofs.PairSums.{sum_to_more}
 
 -- ## Look-ups
 
@@ -85,9 +86,6 @@ sum_size (suc n) low f h =
     let here : unsigned_abs (f n) ≤ low = h n (omega arith) in
     let m : suc n * low ≡ n * low + low = grind arith in
     omega (arith, ints)
-
-pub sum_to_more : (n : ℕ) (f : ℕ → ℤ) → sum_to (n + 1) f ≡ sum_to n f +ℤ f n
-sum_to_more n f = rw add-one refl
 
 -- one more variable of a sum
 pub value_step : (n : ℕ) (f : ℕ → ℤ) (base total more result : ℤ) → total ≡ base +ℤ sum_to n f → more ≡ f n → result ≡ total +ℤ more → result ≡ base +ℤ sum_to (n + 1) f

@@ -14,7 +14,7 @@ use Rattle.zero_one_rows.specs.Rows.{whole}
 use Rattle.zero_one_model.specs.Indexed.{Touches}
 use Rattle.base_matrix.specs.declared.entries.Term.{Term}
 use Rattle.base_matrix.specs.Terms.{AreTerms}
-use Rattle.dual_bound.specs.Costs.{number_at}
+use Rattle.chain_gains.specs.Gaps.{number_at}
 use Rattle.dual_bound.proofs.Summing.{equal, all_taken, Lost}
 
 zero_or_other : (z : ℤ) → (z ≡ pos 0) ⊎ (z ≢ pos 0)

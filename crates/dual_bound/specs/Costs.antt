@@ -1,5 +1,5 @@
 -- What is kept beside a box and multipliers: reduced costs and the dual value, and the sizes that keep them in range.
-use Rattle.std.specs.Prelude.{◌≡◌, ℕ, Bool, ◌+◌, ◌<◌, ◌≤◌, ◌^◌, true, List, [], ◌∷◌, length, slice_index_or, Option, ℤ, pos, ◌+ℤ◌, ◌-ℤ◌, ◌*ℤ◌, unsigned_abs}
+use Rattle.std.specs.Prelude.{◌≡◌, ℕ, ◌+◌, ◌<◌, ◌≤◌, ◌^◌, true, List, [], ◌∷◌, length, ℤ, pos, ◌+ℤ◌, ◌-ℤ◌, ◌*ℤ◌, unsigned_abs}
 use Rattle.zero_one_rows.specs.declared.program.Row.{Row}
 use Rattle.zero_one_rows.specs.Variables.{Voyage, variables}
 use Rattle.zero_one_rows.specs.Rows.{whole}
@@ -10,10 +10,8 @@ use Rattle.certificate.specs.Entries.{same_row}
 use Rattle.dual_bound.specs.Raising.{Lacks}
 use Rattle.base_matrix.specs.declared.entries.Term.{Term}
 use Rattle.base_matrix.specs.Terms.{AreTerms}
+use Rattle.chain_gains.specs.Gaps.{number_at, gap}
 use Rattle.dual_bound.specs.declared.costs.Costs.{Costs}
-
-abbrev pub number_at : List ℤ → ℕ → ℤ
-number_at zs v = slice_index_or zs v (pos 0)
 
 -- a row of the program, of the sizes that rows have
 pub record IsSmall (m : Voyage) (r : Row) : Type 0 where
@@ -32,10 +30,6 @@ pub record IsListed (m : Voyage) (r : Row) (side : ℤ) (ts : List Term) : Type 
   pub right : side ≡ (whole m).rhs r
   pub low : unsigned_abs side ≤ 2 ^ 37
   pub terms : AreTerms m r ts
-
--- what a variable's part of the dual value gains where its reduced cost falls by a
-abbrev pub gap : Option Bool → ℤ → ℤ → ℤ
-gap o d a = least o (d -ℤ a) -ℤ least o d
 
 -- the sum of what the variables gain where a row's multiplier changes by so much
 abbrev pub gaps_of : Voyage → Box → List ℤ → Row → ℤ → ℤ

@@ -6,7 +6,7 @@ use Rattle.zero_one_rows.specs.Rows.{whole}
 use Rattle.program_rows.specs.Counted.{all_rows, base_rows}
 use Rattle.base_matrix.specs.declared.entries.Term.{Term}
 use Rattle.base_matrix.specs.Terms.{AreTerms}
-use Rattle.dual_bound.specs.Costs.{number_at}
+use Rattle.chain_gains.specs.Gaps.{number_at}
 
 -- a row of the program with its right side
 pub record IsRight (m : Voyage) (r : Row) (side : ℤ) : Type 0 where

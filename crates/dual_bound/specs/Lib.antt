@@ -7,5 +7,3 @@ pub mod Tables
 pub mod Gauging
 pub mod GaugeRule
 pub mod CrossGains
-pub mod Climbs
-pub mod Pairs

@@ -7,7 +7,8 @@ ghost use Rattle.zero_one_rows.specs.declared.program.Row.{Row as Rows};
 ghost use Rattle.zero_one_rows.specs.Rows.{whole};
 ghost use Rattle.certificate.specs.Entries.{same_row};
 ghost use Rattle.base_matrix.specs.Terms.{AreTerms};
-ghost use Rattle.dual_bound.specs.Costs.{number_at, parts, gap, IsListed, Gauged, Priced, PricedSome, HasRoom, Gains, gaps_of};
+ghost use Rattle.chain_gains.specs.Gaps.{number_at, gap};
+ghost use Rattle.dual_bound.specs.Costs.{parts, IsListed, Gauged, Priced, PricedSome, HasRoom, Gains, gaps_of};
 
 use crate::sizes::{
     difference, first_cost, grown, least_of, moved, product, signed, sum_of, swapped,

@@ -1,22 +1,18 @@
 //! Multipliers of a program's rows, the dual value of a box, and how multipliers are raised (weak duality with whole multipliers).
 #![tactic(auto)]
 
-mod best_pairs;
 mod changing;
 mod costs;
 mod finding;
 mod gauge;
 mod multipliers;
 mod offers;
-mod packing;
-mod pairs;
 mod plain_value;
 mod raising;
 mod rising;
 mod sizes;
 mod table;
 mod terms;
-mod tracing;
 
 pub use base_matrix::Term;
 pub use costs::Costs;

@@ -5,14 +5,12 @@ ghost use Rattle.zero_one_rows.specs.Variables.{variables};
 ghost use Rattle.zero_one_rows.specs.declared.program.Row.{Row as Rows};
 ghost use Rattle.zero_one_rows.specs.Rows.{whole, is_base};
 ghost use Rattle.dual_bound.specs.Costs.{PricedSome};
-ghost use Rattle.dual_bound.specs.CrossGains.{gain_of, over_pairs, Climb};
-ghost use Rattle.dual_bound.specs.Climbs.{AreWorths, worth_at};
-ghost use Rattle.dual_bound.specs.Pairs.{ArePairs, AreGained};
+ghost use Rattle.chain_gains.specs.Climbs.{over_pairs, Climb, AreWorths, worth_at};
+ghost use Rattle.dual_bound.specs.CrossGains.{gain_of};
+ghost use Rattle.chain_gains.specs.Pairs.{ArePairs, AreGained};
 
-use crate::best_pairs::{NOTHING, most_of};
 use crate::costs::Costs;
-use crate::pairs::{PairSides, PairTable, gaps_by_pair};
-use crate::tracing::chain_of;
+use chain_gains::{NOTHING, PairSides, PairTable, chain_of, gaps_by_pair, most_of};
 use zero_one_model::{Box01, Model};
 use zero_one_rows::Row;
 

@@ -5,11 +5,11 @@ ghost use Rattle.program_rows.specs.Counted.{all_rows, base_rows};
 ghost use Rattle.base_matrix.specs.Terms.{count, AreTerms};
 ghost use Rattle.dual_bound.specs.Costs.{IsListed};
 ghost use Rattle.dual_bound.specs.Kept.{AreRights, AreCrossing};
-ghost use Rattle.dual_bound.specs.Pairs.{ArePairs};
+ghost use Rattle.chain_gains.specs.Pairs.{ArePairs};
 
-use crate::pairs::PairTable;
 use crate::terms::terms_of;
 use base_matrix::{BaseMatrix, Term};
+use chain_gains::PairTable;
 use std::alloc::Global;
 use stow_data::{NoMemory, Seq};
 use sum_matrix::FlatLists;

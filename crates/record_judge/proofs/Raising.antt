@@ -17,7 +17,7 @@ use Rattle.proof_trees.specs.Multipliers.{Multipliers, amount_of, with_amount, r
 use Rattle.certificate.specs.Entries.{same_row, raise_of}
 use Rattle.certificate.proofs.RowsAlike.{same_equal, same_itself}
 use Rattle.dual_bound.specs.Adding.{in_range}
-use Rattle.dual_bound.specs.Costs.{number_at}
+use Rattle.chain_gains.specs.Gaps.{number_at}
 use Rattle.dual_bound.proofs.Multiplied.{amount_low}
 use Rattle.dual_bound.proofs.Summing.{same_or_other}
 use Rattle.record_judge.specs.declared.tally.Tally.{Tally}

@@ -7,7 +7,7 @@ use Rattle.zero_one_rows.specs.Rows.{whole}
 use Rattle.program_rows.specs.Counted.{all_rows}
 use Rattle.proof_trees.specs.Multipliers.{Multipliers, amount_of, dot, raised_all}
 use Rattle.certificate.specs.Entries.{same_row, raise_of}
-use Rattle.dual_bound.specs.Costs.{number_at}
+use Rattle.chain_gains.specs.Gaps.{number_at}
 use Rattle.dual_bound.specs.Raising.{Lacks}
 use Rattle.record_judge.specs.declared.tally.Tally.{Tally}
 

@@ -8,7 +8,7 @@ ghost use Rattle.zero_one_rows.specs.Rows.{whole};
 ghost use Rattle.program_rows.specs.Counted.{all_rows};
 ghost use Rattle.certificate.specs.Entries.{same_row, raise_of};
 ghost use Rattle.dual_bound.specs.Adding.{in_range};
-ghost use Rattle.dual_bound.specs.Costs.{number_at};
+ghost use Rattle.chain_gains.specs.Gaps.{number_at};
 ghost use Rattle.record_judge.specs.Counting.{AreNamed, IsSized, Tallies, TalliesSome, Follows, AddsTo};
 ghost use Rattle.record_judge.specs.Standing.{standing, IsWay};
 

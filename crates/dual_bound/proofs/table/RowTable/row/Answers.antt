@@ -5,7 +5,8 @@ use Rattle.std.proofs.lemmas.Option.{get_or_from_slice_get}
 use Rattle.zero_one_rows.specs.Variables.{Voyage}
 use Rattle.program_rows.specs.Counted.{all_rows}
 use Rattle.base_matrix.specs.Terms.{AreTerms}
-use Rattle.dual_bound.specs.Costs.{IsListed, number_at}
+use Rattle.chain_gains.specs.Gaps.{number_at}
+use Rattle.dual_bound.specs.Costs.{IsListed}
 use Rattle.dual_bound.specs.Kept.{IsRight}
 use Rattle.dual_bound.proofs.table.RowTable.row.Goals as goal
 

@@ -1,0 +1,4 @@
+mod Climbing
+mod PairKeys
+pub mod PairSums
+mod Scoring
