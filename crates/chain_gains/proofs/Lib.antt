@@ -1,4 +1,4 @@
 mod Climbing
 mod PairKeys
-pub mod PairSums
+mod PairSums
 mod Scoring

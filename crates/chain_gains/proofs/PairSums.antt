@@ -19,7 +19,7 @@ use Rattle.chain_gains.specs.Gaps.{number_at, gap}
 use Rattle.chain_gains.specs.Pairs.{own_part, AreParts, AreGained}
 
 -- a sum with one more
-pub sum_to_more : (n : ℕ) (f : ℕ → ℤ) → sum_to (n + 1) f ≡ sum_to n f +ℤ f n
+sum_to_more : (n : ℕ) (f : ℕ → ℤ) → sum_to (n + 1) f ≡ sum_to n f +ℤ f n
 sum_to_more n f = rw add-one refl
 
 set_small : (s : Bool) (z : ℤ) → unsigned_abs (where_set s z) ≤ unsigned_abs z

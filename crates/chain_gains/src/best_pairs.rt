@@ -6,7 +6,7 @@ ghost use Rattle.chain_gains.specs.Climbs.{over_pairs, Climb, AreWorths, worth_a
 /// The pairs of calls 0 to 12.
 pub const PAIRS: usize = 169;
 
-/// The most that pairs of calls, which rise from pair to pair, bring together: one pair or more, and two or more.
+/// The most that pairs of calls, which rise from pair to pair, bring together: one pair or more, and two or more. In the unit of what the pairs bring.
 #[derive(Clone, Copy)]
 pub struct Best {
     pub one: i64,
@@ -129,7 +129,7 @@ pub fn most_at(sides: &[i64], gaps: &[i64], from: usize, last: usize, floor: usi
     row[floor].two
 }
 
-/// The most that two or more pairs of calls up to the last bring.
+/// The most that two or more pairs of calls up to the last bring, of which both calls rise from pair to pair. The pair of a load and a destination, each from 0 to 12, brings the entry 13 · load + dest of the 169 sides, and as many entries after `from` that of the gaps; the answer is in their unit.
 pub fn most_of(sides: &[i64], gaps: &[i64], from: usize, last: usize) -> i64
     requires worths { AreWorths sides.now gaps.now from }
     requires last { last ≤ 12 }

@@ -46,7 +46,7 @@ const TURNS: u32 = 700;
 /// How many chains fill what stays free.
 const FILLINGS: u32 = 200;
 
-/// A crossing row, and by how much it is to be raised.
+/// A crossing row, and by how much its multiplier is to be raised.
 #[derive(Drop)]
 pub struct Wish {
     pub row: Row,
@@ -480,7 +480,7 @@ fn wish_for_both(
     wish_for(wishes, alloc, &pairs.long, last, 40)
 }
 
-/// The crossing rows to raise where no variable is fixed and no row has a multiplier.
+/// The crossing rows to raise where no variable is fixed and no row has a multiplier, those of 20 foot first. `last` is the last call. It is a guess, of which nothing is claimed.
 pub fn wishes(alloc: Global, pairs: &PairTable, last: usize) -> Result<Vec<Wish>, NoMemory>
     requires { last ≤ 12 }
 {

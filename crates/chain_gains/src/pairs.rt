@@ -15,14 +15,14 @@ use sum_matrix::FlatLists;
 use zero_one_model::{Box01, Model};
 use zero_one_rows::{Chain, Row, Var, columns, kind_at, right_side, tallest, variables_stand_once};
 
-/// The columns of a length, and for each price from 1 what each pair of calls brings, but for its variables.
+/// The columns of a length, and for each price from 1 what each pair of calls brings, but for its variables: 169 numbers, that of a load and a destination at 13 · load + dest, in the unit of the dual value, of which 16 are one container lifted early.
 #[derive(Drop)]
 pub struct PairSides {
     pub columns: u32,
     pub prices: FlatLists<i64>,
 }
 
-/// What pairs of calls bring, for both lengths; and for each variable the number of its pair.
+/// What pairs of calls bring, for both lengths; and for each variable the number of its pair: 13 · put + dest for one of 20 foot, 169 more for one of 40 foot, and 338 for one of no pair.
 #[derive(Drop)]
 pub struct PairTable {
     pub short: PairSides,
@@ -222,7 +222,7 @@ fn add_gap(gaps: &mut [i64], key: u32, gain: i64)
     }
 }
 
-/// What the variables of each pair gain where their reduced costs fall by 1.
+/// What the variables of each pair gain where their reduced costs fall by 1, in the unit of the dual value: 169 numbers for 20 foot, then 169 for 40 foot. Reduced costs and keys have one entry for each variable.
 pub fn gaps_by_pair(model: &Model, b: &Box01, reduced: &[i128], keys: &[u32]) -> [i64; 338]
     requires whole { length b.now ≡ length (variables model.now) }
     requires reduced { length reduced.now ≡ length (variables model.now) }

@@ -96,7 +96,7 @@ fn chain_at(sides: &[i64], gaps: &[i64], from: usize, last: usize, floor: usize)
     trail.chain()
 }
 
-/// A chain whose pairs bring the most.
+/// A chain of two or more pairs that bring the most, by the sides and gaps of `most_of`. It is a guess, of which nothing is claimed; there is none where no two pairs were found.
 pub fn chain_of(sides: &[i64], gaps: &[i64], from: usize, last: usize) -> Option<Chain>
     requires worths { AreWorths sides.now gaps.now from }
     requires last { last ≤ 12 }

@@ -10,7 +10,7 @@ use Rattle.std.proofs.lemmas.List.{get_or-set_same, get_or-set_other, get_or-tak
 use Rattle.std.proofs.lemmas.List.Folds.{list_any_none, list_any_more}
 use Rattle.proof_trees.specs.Program.{sum_to, where_set}
 use Rattle.chain_gains.specs.Gaps.{number_at}
-use Rattle.chain_gains.proofs.PairSums.{sum_to_more}
+use Rattle.base_matrix.proofs.Summing.{sum_to_more}
 
 -- ## Look-ups
 
