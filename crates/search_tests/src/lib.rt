@@ -1,12 +1,8 @@
-//! Tests of the order of rows and of the seats of a search. They stand in a crate of their own since a crate with tests is proved twice.
+//! Tests of chains and the order of rows, of lists, and of the machine of a search and its seats. They stand in a crate of their own since a crate with tests is proved twice.
 #![tactic(auto)]
 
 #[cfg(test)]
-mod boards;
-#[cfg(test)]
 mod chains;
-#[cfg(test)]
-mod ledgers;
 #[cfg(test)]
 mod lists;
 #[cfg(test)]

@@ -1,7 +1,7 @@
 use Rattle.std.proofs.Common.{[], refl}
 use Rattle.std.proofs.lemmas.Result.{on_ok_weaker}
-use Rattle.search_tests.proofs.Samples.{begun, went_on, two_of, two_leaves}
-use Rattle.search_tests.proofs.ledgers.add_two_leaves.Goals as goal
+use Rattle.crew_tests.proofs.Samples.{begun, went_on, two_of, two_leaves}
+use Rattle.crew_tests.proofs.ledgers.add_two_leaves.Goals as goal
 
 pub returns : goal.returns
 returns c =

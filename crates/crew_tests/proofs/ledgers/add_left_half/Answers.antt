@@ -1,7 +1,7 @@
 use Rattle.std.proofs.Common.{[], ◌∷◌, true, refl}
 use Rattle.std.proofs.lemmas.Result.{on_ok_weaker}
-use Rattle.search_tests.proofs.Samples.{begun, went_on, one_of, left_half}
-use Rattle.search_tests.proofs.ledgers.add_left_half.Goals as goal
+use Rattle.crew_tests.proofs.Samples.{begun, went_on, one_of, left_half}
+use Rattle.crew_tests.proofs.ledgers.add_left_half.Goals as goal
 
 pub returns : goal.returns
 returns c =

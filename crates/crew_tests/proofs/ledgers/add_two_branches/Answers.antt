@@ -1,7 +1,7 @@
 use Rattle.std.proofs.Common.{[], ◌∷◌, true, false, refl}
 use Rattle.std.proofs.lemmas.Result.{on_ok_weaker}
-use Rattle.search_tests.proofs.Samples.{begun, went_on, two_of, two_branches}
-use Rattle.search_tests.proofs.ledgers.add_two_branches.Goals as goal
+use Rattle.crew_tests.proofs.Samples.{begun, went_on, two_of, two_branches}
+use Rattle.crew_tests.proofs.ledgers.add_two_branches.Goals as goal
 
 pub returns : goal.returns
 returns c =
