@@ -7,7 +7,7 @@ use stowage_rules::RuleBroken;
 
 /// Why the bay plan of the ship as it comes in is refused. `group` is that of a cell group among all groups of the
 /// message, from 1, those of empty cells included.
-#[derive(Debug, Drop)]
+#[derive(Drop)]
 pub enum ArrivalFault {
     /// The ship has no place of this bay, row and tier number.
     NoSuchCell { group: u32 },

@@ -1,7 +1,7 @@
 //! Why segments are no bay plan message.
 
 /// The cause of a fault, in the order in which causes at one segment are looked at.
-#[derive(Clone, Copy, Debug, PartialEq, Eq)]
+#[derive(Clone, Copy)]
 pub enum Cause {
     /// Segment 2 isn't UNH with the message type `BAPLIE:D:95B:UN:SMDG22`.
     NotBaplie,
@@ -53,7 +53,7 @@ pub enum Cause {
 }
 
 /// What is known at a segment of a cell group, besides the segment.
-#[derive(Clone, Copy, Debug, PartialEq, Eq)]
+#[derive(Clone, Copy)]
 pub struct Prior {
     /// Whether it opens the group.
     pub opens: bool,

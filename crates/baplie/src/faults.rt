@@ -4,7 +4,7 @@ use edifact_segments::SegFault;
 use stow_data::NoMemory;
 
 /// The fault of a text that is read as a bay plan message (SMDG BAPLIE 2.2).
-#[derive(Clone, Copy, Debug, PartialEq, Eq)]
+#[derive(Clone, Copy)]
 pub enum BaplieFault {
     /// It is no interchange (ISO 9735).
     Seg(SegFault),

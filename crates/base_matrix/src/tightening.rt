@@ -23,7 +23,7 @@ use zero_one_model::{Box01, Model};
 use zero_one_rows::{Row, RowList, VarList};
 
 /// How tightening ends.
-#[derive(Debug, Drop, PartialEq, Eq)]
+#[derive(Drop)]
 pub enum Tightened {
     /// No base row is violated or forces a free variable.
     Quiet,

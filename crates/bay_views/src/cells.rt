@@ -9,7 +9,7 @@ use crate::sheets::Sheet;
 use baplie::{CellGroup, cell_text};
 
 /// A cell on the sheet, in pixels.
-#[derive(Clone, Copy, Debug, PartialEq, Eq)]
+#[derive(Clone, Copy)]
 pub struct Cell {
     /// BBBRRTT (ISO 9711).
     pub number: [u8; 7],

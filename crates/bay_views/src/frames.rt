@@ -6,7 +6,7 @@ ghost use Rattle.bay_views.specs.Frames.{IsFrame, side_of, is_deck, bare, with_r
 use baplie::CellGroup;
 
 /// The columns and tiers that each bay of a picture is drawn with: the least that hold all cells.
-#[derive(Clone, Copy, Debug, PartialEq, Eq)]
+#[derive(Clone, Copy)]
 pub struct Frame {
     /// Columns on each side of the middle.
     pub side: u32,

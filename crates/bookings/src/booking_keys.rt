@@ -3,7 +3,7 @@ ghost use Rattle.std.specs.Prelude.{◌≡◌};
 ghost use Rattle.bookings.specs.Spelling.{spelling};
 
 /// A key of bookings, in the order in which keys are looked at.
-#[derive(Clone, Copy, Debug, PartialEq, Eq)]
+#[derive(Clone, Copy)]
 pub enum BookingKey {
     /// A name: 1 to 35 bytes of capital letters, digits, space, comma, dash, dot and slash.
     Vessel,

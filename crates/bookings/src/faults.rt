@@ -6,7 +6,7 @@ use crate::booking_keys::BookingKey;
 use stow_data::{Limit, NoMemory};
 
 /// Why bookings are refused. `index` is that of a container's entry, from 1, and 0 for the keys of the top table.
-#[derive(Clone, Copy, Debug, PartialEq, Eq)]
+#[derive(Clone, Copy)]
 pub enum BookingFault {
     /// The bytes aren't UTF-8, or the text isn't TOML.
     NotToml,

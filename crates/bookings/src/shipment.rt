@@ -2,7 +2,7 @@
 use stow_data::{CallNo, Length, Name, NameList, Seq};
 
 /// The booking of a container.
-#[derive(Debug, Drop)]
+#[derive(Drop)]
 pub struct Booking {
     /// 1 to 17 capital letters and digits.
     pub id: Name,
@@ -32,7 +32,7 @@ pub struct Booking {
 pub type BookingList = Seq<Booking>;
 
 /// The bookings of a voyage.
-#[derive(Debug, Drop)]
+#[derive(Drop)]
 pub struct Bookings {
     pub vessel: Name,
     pub voyage: Name,

@@ -2,7 +2,7 @@
 use stow_data::NoMemory;
 
 /// The first fault of a text that is no certificate. Lines count from 1.
-#[derive(Clone, Copy, Debug, PartialEq, Eq)]
+#[derive(Clone, Copy)]
 pub enum CertFault {
     /// The first line differs.
     NotCert,

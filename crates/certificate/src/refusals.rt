@@ -2,7 +2,7 @@
 use stow_data::NoMemory;
 
 /// Why a tree isn't found to prove a bound. Nodes count from 1, in preorder.
-#[derive(Clone, Copy, Debug, PartialEq, Eq)]
+#[derive(Clone, Copy)]
 pub enum BoundNo {
     /// A raise brings a multiplier out of the range 0 to 2^40.
     Multiplier {

@@ -8,7 +8,7 @@ use stow_data::{NoMemory, Seq};
 use zero_one_rows::{Raise, RaiseList, Row, RowList, Var};
 
 /// How a record ends.
-#[derive(Clone, Copy, Debug, PartialEq, Eq)]
+#[derive(Clone, Copy, PartialEq, Eq)]
 pub enum End {
     /// The box closes at the bound.
     Leaf,
@@ -93,7 +93,7 @@ fn keep_raises(alloc: Global, raises: &[Raise]) -> Result<KeptRaiseList, NoMemor
 pub type Tree = Seq<Record>;
 
 /// What is known of the least number of rehandles.
-#[derive(Clone, Copy, Debug, PartialEq, Eq)]
+#[derive(Clone, Copy)]
 pub enum Outcome {
     /// The plan has as few rehandles as the bound.
     Optimal,
@@ -106,7 +106,7 @@ pub enum Outcome {
 }
 
 /// The head of a certificate.
-#[derive(Clone, Copy, Debug, PartialEq, Eq)]
+#[derive(Clone, Copy)]
 pub struct Head {
     pub outcome: Outcome,
 

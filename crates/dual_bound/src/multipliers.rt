@@ -15,7 +15,7 @@ use zero_one_rows::Row;
 pub const MOST: u64 = 1 << 40;
 
 /// Why a multiplier isn't changed.
-#[derive(Clone, Copy, Debug, PartialEq, Eq)]
+#[derive(Clone, Copy)]
 pub enum AddNo {
     /// It would leave 0 to 2^40.
     OutOfRange,

@@ -28,7 +28,7 @@ use zero_one_rows::{Raise, RaiseList, Row};
 const MANY: u32 = 1_000;
 
 /// How raising ends.
-#[derive(Clone, Copy, Debug, PartialEq, Eq)]
+#[derive(Clone, Copy)]
 pub enum Raised {
     /// The dual value is above 16 times the cut less 1: the box closes at the cut.
     Reached,

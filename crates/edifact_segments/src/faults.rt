@@ -5,7 +5,7 @@ use stow_data::NoMemory;
 
 /// The first fault of an interchange (ISO 9735). Byte places count from 0, segments from 1, and UNA is no
 /// segment.
-#[derive(Clone, Copy, Debug, PartialEq, Eq)]
+#[derive(Clone, Copy)]
 pub enum SegFault {
     /// Nothing but CR and LF stands after UNA or in the whole text, or the first segment isn't UNB.
     NoHeader,

@@ -5,7 +5,7 @@ ghost use Rattle.edifact_segments.specs.Scanning.{IsTable, is_ordinary};
 ghost use Rattle.edifact_segments.specs.Grammar.{IsService, are_apart, are_marks, is_gap_byte, is_mark};
 
 /// The service characters of an interchange that separate (ISO 9735).
-#[derive(Clone, Copy, Debug)]
+#[derive(Clone, Copy)]
 pub(crate) struct Service {
     pub component: u8,
     pub element: u8,

@@ -9,7 +9,7 @@ use stow_data::{CallNo, NoMemory};
 use stow_report::NumbersNo;
 
 /// Why departure files and a certificate are refused: the first part that doesn't hold, in this order.
-#[derive(Debug, Drop)]
+#[derive(Drop)]
 pub enum JudgeNo {
     /// The departure file of this call is the first that is no bay plan message.
     Text { call: CallNo, fault: BaplieFault },

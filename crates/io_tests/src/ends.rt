@@ -24,29 +24,26 @@ fn a_folder_some_of_whose_calls_fail(rt: HostRuntime) -> Result<(), Fail> {
     let alloc = rt.alloc();
     let mut folder = MemFolder::new(alloc, numbers(alloc, &[2, 5])?);
     folder.lay("a", b"first")?;
-    assert_eq!(rt;
+    assert!(rt;
         folder
             .read("a")
-            .is_ok_and(|bytes| bytes.as_slice() == b"first".as_slice()),
-        true
+            .is_ok_and(|bytes| bytes.as_slice() == b"first".as_slice())
     );
-    assert_eq!(rt; folder.write("a", b"second"), Err(FolderNo::Failed));
-    assert_eq!(rt;
+    assert!(rt; folder.write("a", b"second") == Err(FolderNo::Failed));
+    assert!(rt;
         folder
             .file("a")
-            .is_some_and(|bytes| bytes.as_slice() == b"first".as_slice()),
-        true
+            .is_some_and(|bytes| bytes.as_slice() == b"first".as_slice())
     );
-    assert_eq!(rt; folder.write("b", b"third"), Ok(()));
-    assert_eq!(rt; folder.read("c").is_err(), true);
-    assert_eq!(rt; folder.read("b").is_err(), true);
-    assert_eq!(rt;
+    assert!(rt; folder.write("b", b"third") == Ok(()));
+    assert!(rt; folder.read("c").is_err());
+    assert!(rt; folder.read("b").is_err());
+    assert!(rt;
         folder
             .read("b")
-            .is_ok_and(|bytes| bytes.as_slice() == b"third".as_slice()),
-        true
+            .is_ok_and(|bytes| bytes.as_slice() == b"third".as_slice())
     );
-    assert_eq!(rt; folder.file("c").is_none(), true);
+    assert!(rt; folder.file("c").is_none());
     Ok(())
 }
 
@@ -55,22 +52,15 @@ fn a_folder_that_never_fails(rt: HostRuntime) -> Result<(), Fail> {
     let alloc = rt.alloc();
     let mut folder = SureFolder::new(alloc);
     folder.lay("a", b"first")?;
-    assert_eq!(rt;
-        folder.read("none").is_ok_and(|bytes| bytes.is_empty()),
-        true
-    );
-    assert_eq!(rt; folder.write("a", b"second"), Ok(()));
-    assert_eq!(rt;
+    assert!(rt; folder.read("none").is_ok_and(|bytes| bytes.is_empty()));
+    assert!(rt; folder.write("a", b"second") == Ok(()));
+    assert!(rt;
         folder
             .read("a")
-            .is_ok_and(|bytes| bytes.as_slice() == b"second".as_slice()),
-        true
+            .is_ok_and(|bytes| bytes.as_slice() == b"second".as_slice())
     );
-    assert_eq!(rt;
-        folder.file("a").is_some_and(|bytes| bytes.len() == 6),
-        true
-    );
-    assert_eq!(rt; folder.file("none").is_none(), true);
+    assert!(rt; folder.file("a").is_some_and(|bytes| bytes.len() == 6));
+    assert!(rt; folder.file("none").is_none());
     NoGate.before(1, 1);
     Ok(())
 }
@@ -79,11 +69,11 @@ fn a_folder_that_never_fails(rt: HostRuntime) -> Result<(), Fail> {
 fn a_sink_with_little_room(rt: HostRuntime) -> Result<(), Fail> {
     let alloc = rt.alloc();
     let mut sink = MemSink::new(alloc, 6, numbers(alloc, &[2])?)?;
-    assert_eq!(rt; sink.put(b"abc"), Ok(()));
-    assert_eq!(rt; sink.put(b"d"), Err(Failed));
-    assert_eq!(rt; sink.put(b"defg"), Err(Failed));
-    assert_eq!(rt; sink.put(b"def"), Ok(()));
-    assert_eq!(rt; sink.put(b""), Ok(()));
+    assert!(rt; sink.put(b"abc") == Ok(()));
+    assert!(rt; sink.put(b"d") == Err(Failed));
+    assert!(rt; sink.put(b"defg") == Err(Failed));
+    assert!(rt; sink.put(b"def") == Ok(()));
+    assert!(rt; sink.put(b"") == Ok(()));
     assert_eq!(rt; sink.text().as_slice(), b"abcdef".as_slice());
     Ok(())
 }

@@ -1,7 +1,7 @@
 //! How the program ends.
 
 /// How a run ended. The number of each is the exit status of the program.
-#[derive(Clone, Copy, Debug, PartialEq, Eq)]
+#[derive(Clone, Copy, PartialEq, Eq)]
 pub enum Status {
     /// All was done.
     Fine = 0,

@@ -6,7 +6,7 @@ use stow_data::{Name, NoMemory};
 
 /// Why a departure file shows no plan of its call. The first group at fault is told of, by the first of these that
 /// holds of it; a missing container comes last.
-#[derive(Debug, Drop)]
+#[derive(Drop)]
 pub enum FileNo {
     /// The ship has no place of this bay, row and tier number. `group` counts from 1 among all groups of the message,
     /// those of empty cells included.

@@ -7,7 +7,7 @@ use stow_data::{CallNo, NoMemory};
 use stowage_rules::RuleBroken;
 
 /// Why departure files are refused. A file that shows no plan comes before a departure that breaks a rule.
-#[derive(Debug, Drop)]
+#[derive(Drop)]
 pub enum PlanNo {
     /// The file of this call is the first that shows no plan.
     File { call: CallNo, no: FileNo },

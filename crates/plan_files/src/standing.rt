@@ -6,7 +6,7 @@ use std::alloc::Global;
 use stow_data::{Cargo, ContainerNo, FlagList, NoMemory, PlaceNo, Plan, Ship};
 
 /// A container, and the place where it stands.
-#[derive(Clone, Copy, Debug)]
+#[derive(Clone, Copy)]
 pub struct Spot {
     pub place: PlaceNo,
     pub container: ContainerNo,

@@ -20,7 +20,7 @@ use stowage_rules::{RuleBroken, departure_fault};
 pub type LiftLists = Seq<LiftList>;
 
 /// What is lifted on a voyage.
-#[derive(Debug, Drop)]
+#[derive(Drop)]
 pub struct Lifted {
     /// For each call the containers that are lifted there, those that leave included, by rising number.
     pub lists: LiftLists,
@@ -29,7 +29,7 @@ pub struct Lifted {
 }
 
 /// Why there are no lists.
-#[derive(Clone, Copy, Debug, PartialEq, Eq)]
+#[derive(Clone, Copy)]
 pub enum LiftsFault {
     /// The departure of this call is the first that breaks a rule, and this is its first fault.
     Illegal { call: CallNo, rule: RuleBroken },

@@ -12,7 +12,7 @@ use stow_data::{CallNo, Cargo, HalfNo, KindNo, Kinds, Length, PlaceNo, Ship};
 use zero_one_rows::{Chain, Chains, tallest};
 
 /// How many rows a program has.
-#[derive(Clone, Copy, Debug, PartialEq, Eq)]
+#[derive(Clone, Copy)]
 pub struct RowCounts {
     pub base: u64,
     /// Base rows and crossing rows.

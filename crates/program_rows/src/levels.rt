@@ -12,14 +12,14 @@ use std::alloc::Global;
 use stow_data::{NoMemory, PlaceNo, Seq, Ship};
 
 /// Two places that are near by a level.
-#[derive(Clone, Copy, Debug, PartialEq, Eq)]
+#[derive(Clone, Copy)]
 pub struct PlacePair {
     pub first: PlaceNo,
     pub second: PlaceNo,
 }
 
 /// How many pairs of places are near by each level that some separation has.
-#[derive(Clone, Copy, Debug, PartialEq, Eq)]
+#[derive(Clone, Copy)]
 pub struct LevelCounts {
     pub one: u64,
     pub two: u64,

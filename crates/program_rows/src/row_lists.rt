@@ -15,21 +15,21 @@ use stow_data::{
 use zero_one_rows::{Chain, Chains, tallest};
 
 /// A call, and a kind whose containers are on their way after it.
-#[derive(Clone, Copy, Debug, PartialEq, Eq)]
+#[derive(Clone, Copy)]
 pub struct Pair {
     pub call: CallNo,
     pub kind: KindNo,
 }
 
 /// A half-cell under a hatch cover, and the lowest half-cell of a column on that cover.
-#[derive(Clone, Copy, Debug, PartialEq, Eq)]
+#[derive(Clone, Copy)]
 pub struct HatchPair {
     pub half: HalfNo,
     pub lowest: HalfNo,
 }
 
 /// Two places that are near by a separation.
-#[derive(Clone, Copy, Debug, PartialEq, Eq)]
+#[derive(Clone, Copy)]
 pub struct NearPair {
     /// The separation's index.
     pub index: u32,

@@ -6,7 +6,7 @@ use std::marker::Model;
 use stow_data::NoMemory;
 
 /// An amount, and the round in which it was set.
-#[derive(Clone, Copy, Debug, PartialEq, Eq)]
+#[derive(Clone, Copy)]
 pub struct Stamped {
     pub round: u64,
     pub amount: u64,

@@ -15,7 +15,7 @@ use std::alloc::Global;
 use stow_data::NoMemory;
 
 /// A branch on the way to a node: the number of the ended node that it divided, and the half that was taken.
-#[derive(Clone, Copy, Debug, PartialEq, Eq)]
+#[derive(Clone, Copy)]
 pub struct Step {
     pub entry: usize,
     pub value: bool,

@@ -1,7 +1,7 @@
 //! Why an event is refused.
 
 /// Why the machine refuses an event. The causes of an event are looked at in the order in which they stand here.
-#[derive(Clone, Copy, Debug, PartialEq, Eq)]
+#[derive(Clone, Copy, PartialEq, Eq)]
 pub enum Refused {
     /// There is no such worker or victim.
     NoWorker,

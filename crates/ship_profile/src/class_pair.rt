@@ -2,7 +2,7 @@
 use stow_data::Name;
 
 /// Two classes of dangerous goods, in this order.
-#[derive(Debug, Drop, PartialEq, Eq, PartialOrd, Ord)]
+#[derive(Drop, PartialEq, Eq, PartialOrd, Ord)]
 pub struct ClassPair {
     pub a: Name,
     pub b: Name,

@@ -18,7 +18,7 @@ use toml::{Table, Value};
 use toml_values::{Unread, array_of, table_of, tables_at, value_at};
 
 /// A part of the ship.
-#[derive(Clone, Copy, Debug, PartialEq, Eq)]
+#[derive(Clone, Copy, PartialEq, Eq)]
 pub enum Part {
     Hold,
     Deck,

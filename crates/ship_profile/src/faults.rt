@@ -6,7 +6,7 @@ ghost use Rattle.ship_profile.specs.declared.faults.ProfileFault.TheVariants.{No
 use stow_data::{Limit, NoMemory, StackNo};
 
 /// A key of a profile.
-#[derive(Clone, Copy, Debug, PartialEq, Eq)]
+#[derive(Clone, Copy)]
 pub enum ProfileKey {
     Name,
     WeightStep,
@@ -54,7 +54,7 @@ impl ProfileKey {
 
 /// Why a text is no profile: the first fault, in the order of the keys and, within an array of tables, of its entries.
 /// `index` counts the entries of `stack`, `cover` or `separate` from 1, and is 0 at the top level.
-#[derive(Clone, Copy, Debug, PartialEq, Eq)]
+#[derive(Clone, Copy)]
 pub enum ProfileFault {
     /// The text is no TOML document.
     NotToml,

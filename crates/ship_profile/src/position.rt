@@ -6,7 +6,7 @@ use crate::covers::Part;
 use stow_data::Stack;
 
 /// A bay and row, in the hold or on deck. The bay is the even one of a stack, or the odd one of a half-cell.
-#[derive(Clone, Copy, Debug, PartialEq, Eq, PartialOrd, Ord)]
+#[derive(Clone, Copy, PartialEq, Eq, PartialOrd, Ord)]
 pub struct Position {
     pub bay: i64,
     pub row: i64,

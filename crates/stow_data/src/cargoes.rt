@@ -10,14 +10,14 @@ use crate::plans::Plan;
 use std::marker::Model;
 
 /// Where a container comes from: its group among all groups of the arrival's bay plan, or its booking in the list of bookings, both from 0.
-#[derive(Clone, Copy, Debug, PartialEq, Eq, PartialOrd, Ord)]
+#[derive(Clone, Copy, PartialEq, Eq)]
 pub enum Origin {
     Arrived(u32),
     Booked(u32),
 }
 
 /// A container.
-#[derive(Clone, Debug, Drop, PartialEq, Eq)]
+#[derive(Clone, Drop, PartialEq, Eq)]
 pub struct Container {
     pub id: Name,
     /// The call at which it loads; 0 where it is aboard at arrival.

@@ -7,14 +7,14 @@ use crate::names::Name;
 use crate::numbers::StackNo;
 
 /// The length of a container: 20 or 40 foot (ISO 6346, first character of the size and type code).
-#[derive(Clone, Copy, Debug, PartialEq, Eq, PartialOrd, Ord)]
+#[derive(Clone, Copy, PartialEq, Eq, PartialOrd, Ord)]
 pub enum Length {
     Twenty,
     Forty,
 }
 
 /// Which half-cells of a cell a place takes.
-#[derive(Clone, Copy, Debug, PartialEq, Eq, PartialOrd, Ord)]
+#[derive(Clone, Copy, PartialEq, Eq)]
 pub enum Span {
     Fore,
     Aft,
@@ -22,7 +22,7 @@ pub enum Span {
 }
 
 /// Which places a stack offers in each of its tiers: `"40"`, `"20"`, `"20/40"`, `"fore"`, `"aft"`.
-#[derive(Clone, Copy, Debug, PartialEq, Eq, PartialOrd, Ord)]
+#[derive(Clone, Copy)]
 pub enum Lengths {
     Forty,
     Twenty,
@@ -32,7 +32,7 @@ pub enum Lengths {
 }
 
 /// A half-cell: room for one 20-foot container. `tier` is the index from the bottom of the stack.
-#[derive(Clone, Copy, Debug, PartialEq, Eq, PartialOrd, Ord)]
+#[derive(Clone, Copy, PartialEq, Eq)]
 pub struct Half {
     pub stack: StackNo,
     pub tier: u32,
@@ -40,7 +40,7 @@ pub struct Half {
 }
 
 /// A place for one container. `tier` is the index from the bottom of the stack.
-#[derive(Clone, Copy, Debug, PartialEq, Eq, PartialOrd, Ord)]
+#[derive(Clone, Copy, PartialEq, Eq)]
 pub struct Place {
     pub stack: StackNo,
     pub tier: u32,
@@ -62,7 +62,7 @@ impl Place {
 }
 
 /// A stack: the cells of one bay and row, in the hold or on deck.
-#[derive(Debug, Drop)]
+#[derive(Drop)]
 pub struct Stack {
     /// The even number of the bay: the 40-foot bay over two 20-foot bays.
     pub bay: u32,
@@ -79,14 +79,14 @@ pub struct Stack {
 }
 
 /// A hatch cover: the stacks in the hold that lie under it, and the stacks on deck that stand on it.
-#[derive(Debug, Drop)]
+#[derive(Drop)]
 pub struct Cover {
     pub under: StackList,
     pub on: StackList,
 }
 
 /// Two classes of dangerous goods that must not stand near each other; level 1, 2 or 3 says how near.
-#[derive(Debug, Drop)]
+#[derive(Drop)]
 pub struct Separation {
     pub a: Name,
     pub b: Name,

@@ -9,7 +9,7 @@ use crate::numbers::{CallNo, ContainerNo, KindNo};
 use std::marker::Model;
 
 /// What containers that are alike have in common, and the call at which the first of them loads.
-#[derive(Debug, Drop)]
+#[derive(Drop)]
 pub struct Kind {
     pub dest: CallNo,
     pub long: Length,

@@ -1,7 +1,7 @@
 //! The limits of an input.
 
 /// What is limited, and its greatest value.
-#[derive(Clone, Copy, Debug, PartialEq, Eq, PartialOrd, Ord)]
+#[derive(Clone, Copy)]
 pub enum Limit {
     /// 12 calls.
     Calls = 1,

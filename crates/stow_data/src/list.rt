@@ -25,7 +25,7 @@ impl<T: Drop> From<AllocFailed<T>> for NoMemory {
 }
 
 /// A growing list. Contracts see the list of its items.
-#[derive(Debug, Drop)]
+#[derive(Drop)]
 pub struct Seq<T> {
     items: Vec<T>,
 }

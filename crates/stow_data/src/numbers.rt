@@ -2,7 +2,7 @@
 use std::marker::Model;
 
 /// A call of the rotation. Calls count from 1; 0 stands for the arrival.
-#[derive(Clone, Copy, Debug, PartialEq, Eq, PartialOrd, Ord)]
+#[derive(Clone, Copy, PartialEq, Eq, PartialOrd, Ord)]
 pub struct CallNo(pub u32);
 
 impl Model for CallNo {
@@ -16,7 +16,7 @@ impl Model for CallNo {
 }
 
 /// A container of the cargo, from 0.
-#[derive(Clone, Copy, Debug, PartialEq, Eq, PartialOrd, Ord)]
+#[derive(Clone, Copy, PartialEq, Eq)]
 pub struct ContainerNo(pub u32);
 
 impl Model for ContainerNo {
@@ -30,7 +30,7 @@ impl Model for ContainerNo {
 }
 
 /// A kind of containers, from 0.
-#[derive(Clone, Copy, Debug, PartialEq, Eq, PartialOrd, Ord)]
+#[derive(Clone, Copy, PartialEq, Eq, PartialOrd, Ord)]
 pub struct KindNo(pub u32);
 
 impl Model for KindNo {
@@ -44,7 +44,7 @@ impl Model for KindNo {
 }
 
 /// A stack of the ship, from 0, in the order of the profile.
-#[derive(Clone, Copy, Debug, PartialEq, Eq, PartialOrd, Ord)]
+#[derive(Clone, Copy, PartialEq, Eq, PartialOrd, Ord)]
 pub struct StackNo(pub u32);
 
 impl Model for StackNo {
@@ -58,7 +58,7 @@ impl Model for StackNo {
 }
 
 /// A hatch cover, from 0, in the order of the profile.
-#[derive(Clone, Copy, Debug, PartialEq, Eq, PartialOrd, Ord)]
+#[derive(Clone, Copy, PartialEq, Eq)]
 pub struct CoverNo(pub u32);
 
 impl Model for CoverNo {
@@ -72,7 +72,7 @@ impl Model for CoverNo {
 }
 
 /// A half-cell, from 0: by stack, then tier from the bottom, then fore before aft.
-#[derive(Clone, Copy, Debug, PartialEq, Eq, PartialOrd, Ord)]
+#[derive(Clone, Copy, PartialEq, Eq, PartialOrd, Ord)]
 pub struct HalfNo(pub u32);
 
 impl Model for HalfNo {
@@ -86,7 +86,7 @@ impl Model for HalfNo {
 }
 
 /// A place, from 0: by stack, then tier from the bottom, then fore, aft, both.
-#[derive(Clone, Copy, Debug, PartialEq, Eq, PartialOrd, Ord)]
+#[derive(Clone, Copy, PartialEq, Eq, PartialOrd, Ord)]
 pub struct PlaceNo(pub u32);
 
 impl Model for PlaceNo {
@@ -100,7 +100,7 @@ impl Model for PlaceNo {
 }
 
 /// A variable of the 0-1 program, from 0.
-#[derive(Clone, Copy, Debug, PartialEq, Eq, PartialOrd, Ord)]
+#[derive(Clone, Copy, PartialEq, Eq)]
 pub struct VarNo(pub u32);
 
 impl Model for VarNo {

@@ -5,7 +5,7 @@ use arrayvec::ArrayVec;
 use std::marker::Model;
 
 /// A list of at most `N` items, kept in place. Contracts see the list of its items; short lists are ordered as lists, a prefix first.
-#[derive(Clone, Debug, Drop, PartialEq, Eq, PartialOrd, Ord)]
+#[derive(Clone, Drop, PartialEq, Eq, PartialOrd, Ord)]
 pub struct Short<T: Default, const N: usize> {
     items: ArrayVec<T, N>,
 }

@@ -3,7 +3,7 @@ ghost use Rattle.std.specs.Prelude.{◌≡◌, ◌<◌, ◌≤◌};
 ghost use Rattle.stow_gen.specs.Draws.{after_lot, below, lot, next};
 
 /// What is drawn of a container: its calls, its weight in kilograms, and whether it is cooled.
-#[derive(Clone, Copy, Debug)]
+#[derive(Clone, Copy)]
 pub struct Lot {
     pub load: u32,
     pub dest: u32,

@@ -9,7 +9,7 @@ use crate::outside::{Folder, FolderNo, Sink};
 use crate::writing::write_files;
 
 /// How the writes and the report ended.
-#[derive(Clone, Copy, Debug, PartialEq, Eq)]
+#[derive(Clone, Copy, PartialEq, Eq)]
 pub enum Ended {
     /// All was written and printed.
     Done,

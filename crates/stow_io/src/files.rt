@@ -2,7 +2,7 @@
 use stow_data::{Bytes, Seq, Word};
 
 /// A file to be written.
-#[derive(Debug, Drop)]
+#[derive(Drop)]
 pub struct NamedFile {
     pub name: Word,
     pub bytes: Bytes,
@@ -12,7 +12,7 @@ pub struct NamedFile {
 pub type FileList = Seq<NamedFile>;
 
 /// What a run found, which its status tells once all is written and printed.
-#[derive(Clone, Copy, Debug, PartialEq, Eq)]
+#[derive(Clone, Copy)]
 pub enum Finding {
     /// All is as it was asked for.
     Fine,
@@ -25,7 +25,7 @@ pub enum Finding {
 }
 
 /// The files to be written, in their order, and the report to be printed after them.
-#[derive(Debug, Drop)]
+#[derive(Drop)]
 pub struct Work {
     pub files: FileList,
     pub report: Bytes,

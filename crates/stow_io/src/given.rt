@@ -12,7 +12,7 @@ use std::rt::Env;
 use stow_data::{Word, WordList};
 
 /// Why there are no words.
-#[derive(Clone, Copy, Debug, PartialEq, Eq)]
+#[derive(Clone, Copy)]
 pub enum NoWords {
     NoMemory,
     /// They can't be had, or aren't UTF-8.

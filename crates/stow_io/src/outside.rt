@@ -10,7 +10,7 @@ use stow_data::{Bytes, NoMemory};
 pub const MOST_READ: usize = 536_870_912;
 
 /// Why a file was not read or written: a fault, which was counted, or want of memory.
-#[derive(Clone, Copy, Debug, PartialEq, Eq)]
+#[derive(Clone, Copy, PartialEq, Eq)]
 pub enum FolderNo {
     Failed,
     NoMemory,
@@ -25,7 +25,7 @@ impl From<NoMemory> for FolderNo {
 }
 
 /// A put that failed, which was counted.
-#[derive(Clone, Copy, Debug, PartialEq, Eq)]
+#[derive(Clone, Copy, PartialEq, Eq)]
 pub struct Failed;
 
 /// Files by their names.

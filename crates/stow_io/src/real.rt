@@ -43,7 +43,8 @@ impl<'a, R: Files> RealFolder<'a, R> {
     }
 }
 
-/// All bytes of a file, which has at most `most` of them.
+/// All bytes of a file, which has at most `most` of them. `FolderNo::NoMemory` where there is no memory for a piece or for
+/// the bytes, and `FolderNo::Failed` where the file is missing, can't be read, or has more.
 pub fn read_file<R: Files>(
     rt: &R,
     alloc: Global,

@@ -7,7 +7,8 @@ use std::alloc::Global;
 use std::io::{Read, Write};
 use stow_data::Bytes;
 
-/// All that a reader still gives, read by pieces. More than `most` bytes are refused as a fault, and never cut.
+/// All that a reader still gives, read by pieces; `piece` has at least one byte. `FolderNo::NoMemory` where there is no
+/// memory for the bytes, and `FolderNo::Failed` where the reader fails or has more than `most`: nothing is ever cut.
 pub fn read_whole<F: Read>(
     alloc: Global,
     file: &mut F,

@@ -8,7 +8,7 @@ use crate::files::FileList;
 use crate::outside::{Folder, FolderNo};
 
 /// The first file that was not written whole, and why.
-#[derive(Clone, Copy, Debug, PartialEq, Eq)]
+#[derive(Clone, Copy)]
 pub struct WriteStop {
     pub index: usize,
     pub no: FolderNo,

@@ -9,7 +9,7 @@ use std::alloc::Global;
 use stow_data::{Bytes, Name, NoMemory, Seq};
 
 /// What a refusal is of.
-#[derive(Clone, Copy, Debug, PartialEq, Eq)]
+#[derive(Clone, Copy)]
 pub enum Group {
     /// The command line.
     Words,
@@ -46,7 +46,7 @@ pub enum Group {
 }
 
 /// What a refusal tells besides its number.
-#[derive(Debug, Drop)]
+#[derive(Drop)]
 pub enum Field {
     Number(i128),
     Named(Name),
@@ -56,7 +56,7 @@ pub enum Field {
 pub type FieldList = Seq<Field>;
 
 /// A refusal, as one line is printed of it.
-#[derive(Debug, Drop)]
+#[derive(Drop)]
 pub struct Line {
     /// Whether it stands in the answer of a check.
     pub checked: bool,

@@ -9,7 +9,7 @@ use std::alloc::Global;
 use stow_data::{Bytes, NoMemory};
 
 /// Why the numbers of a certificate are refused: the first of these that holds.
-#[derive(Clone, Copy, Debug, PartialEq, Eq)]
+#[derive(Clone, Copy)]
 pub enum NumbersNo {
     /// The departure files take another number of rehandles than the certificate says.
     Rehandles { said: u64, found: u64 },

@@ -2,7 +2,7 @@
 use stow_data::{NoMemory, Word};
 
 /// What is to be done.
-#[derive(Debug, Drop)]
+#[derive(Drop)]
 pub enum Order {
     /// `stow plan PROFILE BOOKINGS OUT [--arrival FILE] [--workers n] [--budget n]`
     Plan {
@@ -33,7 +33,7 @@ pub enum Order {
 }
 
 /// Why words are refused.
-#[derive(Clone, Copy, Debug, PartialEq, Eq)]
+#[derive(Clone, Copy)]
 pub enum WordsNo {
     /// They have no form of the command line, or ask for help.
     NotTaken,

@@ -12,7 +12,7 @@ use stow_data::{Cargo, HalfNo, PlaceNo, Plan, Ship, StackNo};
 /// A rule of a departure that a plan breaks, and where. In the first two, the half-cell is the upper one, which is
 /// filled; a separation has its index from 0, the place of a container of its first class, and that of one of its
 /// second class.
-#[derive(Clone, Copy, Debug, PartialEq, Eq, PartialOrd, Ord)]
+#[derive(Clone, Copy, PartialEq, Eq)]
 pub enum RuleBroken {
     Support {
         half: HalfNo,

@@ -9,7 +9,7 @@ use std::alloc::Global;
 use stow_data::{Name, NoMemory, Separation, Seq, Ship};
 
 /// The classes of a separation, by number.
-#[derive(Clone, Copy, Debug, PartialEq, Eq)]
+#[derive(Clone, Copy, PartialEq, Eq)]
 pub struct ClassPair {
     pub a: ClassNo,
     pub b: ClassNo,

@@ -9,7 +9,7 @@ use stow_data::{Cargo, Half, Kinds, Ship, StackNo};
 use zero_one_rows::stack_at;
 
 /// How sums are numbered: by family, then by call, then by item, each with room for the greatest.
-#[derive(Clone, Copy, Debug, PartialEq, Eq)]
+#[derive(Clone, Copy, PartialEq, Eq)]
 pub struct Numbering {
     pub families: usize,
     pub calls: usize,

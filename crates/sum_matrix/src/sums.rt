@@ -3,7 +3,7 @@ use std::marker::Model;
 use stow_data::{CallNo, Half, KindNo, PlaceNo, StackNo};
 
 /// A class of dangerous goods that a separation names, by number. Separations of one class have one number for it.
-#[derive(Clone, Copy, Debug, PartialEq, Eq, PartialOrd, Ord)]
+#[derive(Clone, Copy, PartialEq, Eq)]
 pub struct ClassNo(pub u64);
 
 impl Model for ClassNo {
@@ -17,7 +17,7 @@ impl Model for ClassNo {
 }
 
 /// A sum of variables, each of which counts 1, or its kind's rounded weight.
-#[derive(Clone, Copy, Debug, PartialEq, Eq)]
+#[derive(Clone, Copy)]
 pub enum Sum {
     /// What of a kind is put at a call.
     Put {
@@ -72,21 +72,21 @@ pub enum Sum {
 }
 
 /// The sign of a sum in a row.
-#[derive(Clone, Copy, Debug, PartialEq, Eq)]
+#[derive(Clone, Copy, PartialEq, Eq)]
 pub enum Sign {
     Plus,
     Minus,
 }
 
 /// A signed sum of a row.
-#[derive(Clone, Copy, Debug, PartialEq, Eq)]
+#[derive(Clone, Copy)]
 pub struct Part {
     pub sign: Sign,
     pub sum: Sum,
 }
 
 /// The signed sums of a row. The two share no variable.
-#[derive(Clone, Copy, Debug, PartialEq, Eq)]
+#[derive(Clone, Copy)]
 pub struct Parts {
     pub first: Part,
     pub second: Option<Part>,

@@ -11,7 +11,7 @@ use toml::value::Array;
 use toml::{Table, Value};
 
 /// Why there is no value of the wanted form.
-#[derive(Clone, Copy, Debug, PartialEq, Eq)]
+#[derive(Clone, Copy)]
 pub enum Unread {
     /// The table lacks the key.
     Missing,

@@ -8,7 +8,7 @@ use std::alloc::Global;
 use toml::Table;
 
 /// Why there is no document.
-#[derive(Clone, Copy, Debug, PartialEq, Eq)]
+#[derive(Clone, Copy)]
 pub enum NoDocument {
     /// The bytes aren't UTF-8, or the text isn't TOML.
     NotToml,

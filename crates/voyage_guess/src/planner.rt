@@ -11,7 +11,7 @@ use stow_data::{NoMemory, VarNo};
 use zero_one_model::{Box01, Model};
 
 /// What is asked of a planner at a node.
-#[derive(Clone, Copy, Debug)]
+#[derive(Clone, Copy)]
 pub struct Wanted {
     /// Only voyages that rehandle less often than this are taken.
     pub cut: u64,

@@ -37,7 +37,7 @@ impl Model for Berth {
 }
 
 /// What is unfinished at a berth: a container on the quay, or a cover that is off.
-#[derive(Clone, Copy, Debug, PartialEq, Eq, PartialOrd, Ord)]
+#[derive(Clone, Copy)]
 pub enum Unfinished {
     Quay(ContainerNo),
     Off(CoverNo),

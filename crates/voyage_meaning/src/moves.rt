@@ -2,7 +2,7 @@
 use stow_data::{ContainerNo, CoverNo, PlaceNo};
 
 /// A move of a crane at a call: a hatch cover off or on, a container from its place or to a place.
-#[derive(Clone, Copy, Debug, PartialEq, Eq, PartialOrd, Ord)]
+#[derive(Clone, Copy)]
 pub enum Move {
     OffCover(CoverNo),
     OnCover(CoverNo),

@@ -16,7 +16,7 @@ use stow_data::{Cargo, ContainerNo, CoverNo, FlagList, HalfNo, PlaceNo, Plan, Sh
 
 /// Why a move is refused. Of several causes the first in this order is named, and of several half-cells the one of the
 /// least number.
-#[derive(Clone, Copy, Debug, PartialEq, Eq, PartialOrd, Ord)]
+#[derive(Clone, Copy)]
 pub enum MoveFault {
     /// A lift from a place where nothing stands.
     NotThere,

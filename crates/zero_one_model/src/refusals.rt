@@ -2,7 +2,7 @@
 use stow_data::{Limit, NoMemory};
 
 /// Why a model isn't built.
-#[derive(Clone, Copy, Debug, PartialEq, Eq)]
+#[derive(Clone, Copy)]
 pub enum ModelNo {
     /// More variables than 200,000, or else more rows than 2,000,000: which limit, and the number that passes it.
     TooLarge { limit: Limit, value: u64 },

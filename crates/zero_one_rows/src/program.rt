@@ -3,7 +3,7 @@ use crate::all_chains::Chain;
 use stow_data::{CallNo, HalfNo, KindNo, PlaceNo, Seq, StackNo, VarNo};
 
 /// A variable: a container of this kind is put at this place at one call, and lifted at another. Variables are ordered by put, kind, lifted, place.
-#[derive(Clone, Copy, Debug, PartialEq, Eq, PartialOrd, Ord)]
+#[derive(Clone, Copy, PartialEq, Eq, PartialOrd, Ord)]
 pub struct Var {
     /// The call at which it is put; 0 where it stands there at arrival.
     pub put: CallNo,
@@ -15,7 +15,7 @@ pub struct Var {
 /// A row: its family and its numbers. Rows are ordered by family, and then by their numbers.
 ///
 /// An equality is two rows: `q` is 0 for at least, and 1 for all signs changed.
-#[derive(Clone, Debug, Drop, PartialEq, Eq, PartialOrd, Ord)]
+#[derive(Clone, Drop, PartialEq, Eq, PartialOrd, Ord)]
 pub enum Row {
     /// What is put at a call, less what is lifted there, is what loads.
     Flow {
@@ -76,7 +76,7 @@ pub enum Row {
 }
 
 /// A change of a row's multiplier.
-#[derive(Clone, Debug, Drop, PartialEq, Eq)]
+#[derive(Clone, Drop, PartialEq, Eq)]
 pub struct Raise {
     pub row: Row,
     pub amount: i64,
