@@ -13,7 +13,8 @@ use Rattle.program_rows.specs.Counted.{all_rows, base_rows, cross_rows, row_list
 use Rattle.program_rows.specs.Ordered.{ListsBaseRows}
 use Rattle.base_matrix.specs.Fixing.{freed, released, Fixes}
 use Rattle.base_matrix.specs.Full.{BreaksNone}
-use Rattle.base_matrix.specs.Tightening.{IsCalm, IsQuiet, Tightens}
+use Rattle.zero_one_rows.specs.Tightening.{IsCalm, IsQuiet}
+use Rattle.base_matrix.specs.Tightening.{Tightens}
 use Rattle.base_matrix.proofs.Summing.{same_or_other, equal, unequal}
 use Rattle.base_matrix.proofs.Freeing.{freed_length, noted_none}
 use Rattle.base_matrix.proofs.Steps.{tightens_none, tightens_one}

@@ -10,7 +10,8 @@ use Rattle.zero_one_rows.specs.declared.program.Row.{Row}
 use Rattle.zero_one_rows.specs.Variables.{Voyage, variables}
 use Rattle.zero_one_rows.specs.Rows.{whole}
 use Rattle.base_matrix.specs.Fixing.{free_in}
-use Rattle.base_matrix.specs.Tightening.{ForceAll, Tightens}
+use Rattle.zero_one_rows.specs.Tightening.{ForceAll}
+use Rattle.base_matrix.specs.Tightening.{Tightens}
 
 -- what is fixed in the first box stays in the second
 abbrev pub Stays : Box → Box → Type 0

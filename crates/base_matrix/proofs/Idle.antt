@@ -17,7 +17,7 @@ use Rattle.zero_one_rows.specs.Variables.{Voyage, place, variables, var}
 use Rattle.zero_one_rows.specs.Rows.{coef, rhs, has, whole, bit, less, half, above, covers, occ, occ_class, stay, out, into, moved, separation, is_call, is_place}
 use Rattle.base_matrix.specs.Forced.{forces, is_above}
 use Rattle.base_matrix.specs.Packing.{is_packing, AreOnes}
-use Rattle.base_matrix.specs.Tightening.{IsCalm}
+use Rattle.zero_one_rows.specs.Tightening.{IsCalm}
 use Rattle.base_matrix.proofs.Landing.{landed, met_is, tight_by}
 
 -- ## Tests that exclude each other

@@ -6,7 +6,8 @@ use Rattle.proof_trees.specs.Boxes.{Box, tight, tightened}
 use Rattle.zero_one_rows.specs.declared.program.Row.{Row}
 use Rattle.zero_one_rows.specs.Variables.{Voyage}
 use Rattle.zero_one_rows.specs.Rows.{base, whole}
-use Rattle.base_matrix.specs.Tightening.{ForceAll, Tightens}
+use Rattle.zero_one_rows.specs.Tightening.{ForceAll}
+use Rattle.base_matrix.specs.Tightening.{Tightens}
 
 pub tightens_none : (m : Voyage) (b : Box) (rows : List Row) → Tightens m b b rows rows
 tightens_none m b rows = record { rows = []; added = sym (append-nil rows); base = All-nil (λ r. (base m).has r ≡ true); box = refl; forced = tt }

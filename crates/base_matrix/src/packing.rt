@@ -4,7 +4,7 @@ ghost use Rattle.proof_trees.specs.Boxes.{at};
 ghost use Rattle.zero_one_rows.specs.Variables.{variables};
 ghost use Rattle.zero_one_rows.specs.Rows.{whole};
 ghost use Rattle.base_matrix.specs.Packing.{is_packing, AreOnes};
-ghost use Rattle.base_matrix.specs.Tightening.{IsCalm};
+ghost use Rattle.zero_one_rows.specs.Tightening.{IsCalm};
 
 use std::alloc::Global;
 use stow_data::{NoMemory, Seq, VarNo};

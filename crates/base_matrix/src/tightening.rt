@@ -9,7 +9,8 @@ ghost use Rattle.zero_one_model.specs.Indexed.{Touches};
 ghost use Rattle.base_matrix.specs.Fixing.{Fixes, released};
 ghost use Rattle.base_matrix.specs.Packing.{AreOnes};
 ghost use Rattle.base_matrix.specs.Stopping.{Stops};
-ghost use Rattle.base_matrix.specs.Tightening.{IsCalm, IsQuiet, Tightens};
+ghost use Rattle.zero_one_rows.specs.Tightening.{IsCalm, IsQuiet};
+ghost use Rattle.base_matrix.specs.Tightening.{Tightens};
 
 use crate::base_rows::base_row;
 use crate::forcing::note_all;

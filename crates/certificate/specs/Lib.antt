@@ -5,3 +5,4 @@ pub mod Grammar
 pub mod KeptRows
 pub mod Reading
 pub mod Text
+pub mod Stuck

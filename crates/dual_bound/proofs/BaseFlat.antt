@@ -10,7 +10,7 @@ use Rattle.program_rows.proofs.EveryRow.{base_listed}
 use Rattle.proof_trees.specs.Boxes.{Box}
 use Rattle.proof_trees.specs.Multipliers.{Multipliers}
 use Rattle.dual_bound.specs.declared.costs.Costs.{Costs}
-use Rattle.dual_bound.specs.Raising.{IsStuck}
+use Rattle.certificate.specs.Stuck.{IsStuck}
 use Rattle.dual_bound.specs.Costs.{Priced, gaps_of}
 use Rattle.dual_bound.specs.Rising.{IsFlat, AreCrossingFlat}
 use Rattle.dual_bound.specs.CrossGains.{gain_of}

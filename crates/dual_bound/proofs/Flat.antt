@@ -12,7 +12,7 @@ use Rattle.program_rows.proofs.EveryRow.{row_listed}
 use Rattle.proof_trees.specs.Boxes.{Box}
 use Rattle.proof_trees.specs.Multipliers.{Multipliers, worth, amount_of}
 use Rattle.certificate.specs.Entries.{same_row}
-use Rattle.dual_bound.specs.Raising.{IsStuck}
+use Rattle.certificate.specs.Stuck.{IsStuck}
 use Rattle.dual_bound.specs.Costs.{Gains}
 use Rattle.dual_bound.specs.Rising.{raised_by, IsFlat}
 

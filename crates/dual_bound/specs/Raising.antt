@@ -1,11 +1,11 @@
 -- The multipliers that rows of a voyage's program may have, and raises of them that raise the dual value of a box.
-use Rattle.std.specs.Prelude.{◌≡◌, ℕ, ◌+◌, ◌<◌, ◌≤◌, ◌^◌, true, false, All, List, [], ◌∷◌, ◌++◌, length, map, Some, unsigned_abs, ◌<ℤ◌, ◌≤ℤ◌}
+use Rattle.std.specs.Prelude.{◌≡◌, ℕ, ◌≤◌, ◌^◌, true, false, All, List, [], ◌∷◌, ◌++◌, length, map, Some, unsigned_abs, ◌<ℤ◌}
 use Rattle.zero_one_rows.specs.declared.program.Row.{Row}
 use Rattle.zero_one_rows.specs.declared.program.Raise.{Raise}
 use Rattle.zero_one_rows.specs.Variables.{Voyage}
 use Rattle.zero_one_rows.specs.Rows.{whole}
 use Rattle.proof_trees.specs.Boxes.{Box}
-use Rattle.proof_trees.specs.Multipliers.{Multipliers, amount_of, with_amount, raised, raised_all, worth}
+use Rattle.proof_trees.specs.Multipliers.{Multipliers, raised, raised_all, worth}
 use Rattle.certificate.specs.Entries.{same_row, raise_of}
 
 -- none of these is a multiplier of this row
@@ -27,10 +27,6 @@ pub record IsRaise (m : Voyage) (r : Raise) : Type 0 where
 abbrev pub RiseAll : Voyage → Box → Multipliers Row → List Raise → Type 0
 RiseAll m b ms [] = Unit {0}
 RiseAll m b ms (r ∷ rs) = (ns : Multipliers Row) × (raised same_row ms r.row r.amount ≡ Some ns) × (worth (whole m) b ms <ℤ worth (whole m) b ns) × RiseAll m b ns rs
-
--- no row's multiplier that is below 2^40, raised by 1, makes the box worth more
-abbrev pub IsStuck : Voyage → Box → Multipliers Row → Type 0
-IsStuck m b ms = (r : Row) → (whole m).has r ≡ true → amount_of same_row ms r < 2 ^ 40 → worth (whole m) b (with_amount same_row ms r (amount_of same_row ms r + 1)) ≤ℤ worth (whole m) b ms
 
 -- the second list of raises is the first with some more, at most so many, which lead from the first multipliers to the second and each raise the dual value
 pub record Raises (m : Voyage) (b : Box) (most : ℕ) (ms ns : Multipliers Row) (old new : List Raise) : Type 0 where

@@ -9,7 +9,7 @@ use Rattle.certificate.specs.Entries.{same_row}
 use Rattle.dual_bound.specs.declared.rising.Rising.{Rising}
 use Rattle.dual_bound.specs.declared.raising.Raised.{Raised}
 use Rattle.dual_bound.specs.declared.raising.Raised.TheVariants.{Reached, Stuck, Spent, NoMemory}
-use Rattle.dual_bound.specs.Raising.{IsStuck}
+use Rattle.certificate.specs.Stuck.{IsStuck}
 use Rattle.dual_bound.specs.Costs.{IsListed}
 
 -- with the row's multiplier raised by so much

@@ -4,7 +4,7 @@ ghost use Rattle.zero_one_rows.specs.Variables.{variables};
 ghost use Rattle.zero_one_rows.specs.declared.program.Row.{Row as Rows};
 ghost use Rattle.zero_one_rows.specs.Rows.{whole, is_base};
 ghost use Rattle.program_rows.specs.Counted.{all_rows, base_rows};
-ghost use Rattle.dual_bound.specs.Raising.{IsStuck};
+ghost use Rattle.certificate.specs.Stuck.{IsStuck};
 ghost use Rattle.kept_box.specs.Leaning.{Leans};
 ghost use Rattle.dual_bound.specs.Costs.{Priced};
 ghost use Rattle.dual_bound.specs.CrossGains.{gain_of};

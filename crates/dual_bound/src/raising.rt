@@ -5,7 +5,8 @@ ghost use Rattle.certificate.specs.Entries.{same_row};
 ghost use Rattle.zero_one_rows.specs.Variables.{variables};
 ghost use Rattle.zero_one_rows.specs.declared.program.Row.{Row as Rows};
 ghost use Rattle.zero_one_rows.specs.Rows.{whole};
-ghost use Rattle.dual_bound.specs.Raising.{AreMultipliers, IsStuck, Raises};
+ghost use Rattle.certificate.specs.Stuck.{IsStuck};
+ghost use Rattle.dual_bound.specs.Raising.{AreMultipliers, Raises};
 ghost use Rattle.dual_bound.specs.Costs.{Priced, PricedSome};
 ghost use Rattle.dual_bound.specs.Rising.{Rises, RisesBy, Ends};
 

@@ -15,7 +15,7 @@ use Rattle.zero_one_rows.specs.Rows.{whole}
 use Rattle.program_rows.specs.Counted.{base_rows}
 use Rattle.program_rows.specs.Ordered.{ListsBaseRows}
 use Rattle.base_matrix.specs.Forced.{forces, is_above}
-use Rattle.base_matrix.specs.Tightening.{IsCalm, IsQuiet}
+use Rattle.zero_one_rows.specs.Tightening.{IsCalm, IsQuiet}
 use Rattle.base_matrix.proofs.Summing.{same_or_other, equal, unequal, sum_one}
 use Rattle.base_matrix.proofs.Landing.{landed, met_is, most_less, tight_by, tight_landed}
 use Rattle.kept_box.specs.declared.slacks.Slacks.{Slacks}

@@ -6,7 +6,7 @@ use Rattle.zero_one_rows.specs.Variables.{Voyage, variables}
 use Rattle.zero_one_rows.specs.Rows.{whole}
 use Rattle.base_matrix.specs.Fixing.{free_in, released}
 use Rattle.base_matrix.specs.Forced.{forces}
-use Rattle.base_matrix.specs.Tightening.{IsQuiet}
+use Rattle.zero_one_rows.specs.Tightening.{IsQuiet}
 use Rattle.kept_box.specs.declared.slacks.Slacks.{Slacks}
 use Rattle.kept_box.specs.declared.desk.Desk.{Desk}
 use Rattle.base_matrix.specs.Terms.{count, row_at, slack_in}

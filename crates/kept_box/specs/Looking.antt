@@ -6,7 +6,7 @@ use Rattle.zero_one_rows.specs.Rows.{base, whole}
 use Rattle.base_matrix.specs.declared.tightening.Tightened.{Tightened}
 use Rattle.base_matrix.specs.declared.tightening.Tightened.TheVariants.{Quiet, Violated, NoMemory}
 use Rattle.base_matrix.specs.Forced.{forces}
-use Rattle.base_matrix.specs.Tightening.{IsQuiet}
+use Rattle.zero_one_rows.specs.Tightening.{IsQuiet}
 use Rattle.base_matrix.specs.declared.entries.Term.{Term}
 
 -- a row of these terms with this slack forces none of its variables, or one

@@ -4,7 +4,7 @@ ghost use Rattle.proof_trees.specs.Boxes.{fixed};
 ghost use Rattle.zero_one_rows.specs.Variables.{variables};
 ghost use Rattle.zero_one_rows.specs.Rows.{whole};
 ghost use Rattle.base_matrix.specs.Fixing.{released};
-ghost use Rattle.base_matrix.specs.Tightening.{IsQuiet};
+ghost use Rattle.zero_one_rows.specs.Tightening.{IsQuiet};
 ghost use Rattle.base_matrix.specs.Terms.{count, row_at, loss};
 ghost use Rattle.kept_box.specs.Waiting.{number_at, IsShort};
 ghost use Rattle.kept_box.specs.Desk.{Holds, IsDesk, Marks, Rests};

@@ -6,7 +6,8 @@ ghost use Rattle.zero_one_rows.specs.Variables.{variables};
 ghost use Rattle.zero_one_rows.specs.Rows.{base, whole};
 ghost use Rattle.program_rows.specs.Counted.{base_rows};
 ghost use Rattle.base_matrix.specs.Fixing.{Fixes, released};
-ghost use Rattle.base_matrix.specs.Tightening.{IsQuiet, Tightens};
+ghost use Rattle.zero_one_rows.specs.Tightening.{IsQuiet};
+ghost use Rattle.base_matrix.specs.Tightening.{Tightens};
 
 use crate::desk::Desk;
 use crate::slacks::Slacks;

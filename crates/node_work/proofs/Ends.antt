@@ -27,8 +27,10 @@ use Rattle.certificate.specs.Entries.{same_row, raise_of, entry_of, end_of, numb
 use Rattle.search_core.specs.Journals.{NamesRows, EndAllowed, Anything, known, branches, multipliers_after}
 use Rattle.search_core.specs.Machine.{Divides, is_fixed, fixed_below, breaks_none, is_full, nat_of, price}
 use Rattle.base_matrix.specs.Full.{ones}
-use Rattle.base_matrix.specs.Tightening.{IsQuiet, ForceAll, Tightens}
-use Rattle.dual_bound.specs.Raising.{IsRaise, RiseAll, IsStuck, Raises}
+use Rattle.zero_one_rows.specs.Tightening.{IsQuiet, ForceAll}
+use Rattle.base_matrix.specs.Tightening.{Tightens}
+use Rattle.certificate.specs.Stuck.{IsStuck}
+use Rattle.dual_bound.specs.Raising.{IsRaise, RiseAll, Raises}
 use Rattle.node_work.specs.declared.worked.Worked.{Worked}
 use Rattle.node_work.specs.declared.worked.Worked.TheVariants.{Closed, Branched, Full, NoMemory}
 use Rattle.node_work.specs.Starts.{IsTight, HasSteps, IsAfterSteps}

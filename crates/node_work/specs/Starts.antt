@@ -9,7 +9,7 @@ use Rattle.proof_trees.specs.Trees.{Pending, begun}
 use Rattle.certificate.specs.declared.tree.Record.{Record}
 use Rattle.certificate.specs.Entries.{same_row, raise_of}
 use Rattle.search_core.specs.Journals.{known}
-use Rattle.base_matrix.specs.Tightening.{ForceAll}
+use Rattle.zero_one_rows.specs.Tightening.{ForceAll}
 use Rattle.node_work.specs.declared.worked.Worked.{Worked}
 use Rattle.node_work.specs.declared.worked.Worked.TheVariants.{Closed, Branched, Full, NoMemory}
 

@@ -13,8 +13,8 @@ use Rattle.certificate.specs.Entries.{same_row, entry_of}
 use Rattle.search_core.specs.Journals.{Path, branches, box_after, multipliers_after, known, Anything, Allowed}
 use Rattle.search_core.specs.Machine.{begins, IsTrail, is_full, price}
 use Rattle.search_core.specs.Machine as machine
-use Rattle.base_matrix.specs.Tightening.{IsQuiet, ForceAll}
-use Rattle.dual_bound.specs.Raising.{IsStuck}
+use Rattle.zero_one_rows.specs.Tightening.{IsQuiet, ForceAll}
+use Rattle.certificate.specs.Stuck.{IsStuck}
 use Rattle.node_work.specs.declared.worked.Worked.{Worked}
 use Rattle.node_work.specs.declared.worked.Worked.TheVariants.{Closed, Branched, Full, NoMemory}
 

@@ -5,7 +5,7 @@ ghost use Rattle.proof_trees.specs.Trees.{Pending};
 ghost use Rattle.zero_one_rows.specs.declared.program.Row.{Row as Rows};
 ghost use Rattle.zero_one_rows.specs.Variables.{variables};
 ghost use Rattle.base_matrix.specs.Fixing.{Fixes};
-ghost use Rattle.base_matrix.specs.Tightening.{IsQuiet};
+ghost use Rattle.zero_one_rows.specs.Tightening.{IsQuiet};
 ghost use Rattle.node_work.specs.Scales.{IsScale};
 ghost use Rattle.node_work.specs.Starts.{IsTight, HasSteps, IsAfterSteps};
 ghost use Rattle.node_work.specs.Work.{most_rehandles, Works};

@@ -7,3 +7,4 @@ pub mod Crossing
 pub mod Rows
 pub mod Ranges
 pub mod Listed
+pub mod Tightening

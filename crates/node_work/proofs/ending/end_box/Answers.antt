@@ -4,7 +4,8 @@ use Rattle.zero_one_rows.specs.Variables.{Voyage, variables}
 use Rattle.zero_one_rows.specs.Rows.{base, whole}
 use Rattle.proof_trees.specs.Boxes.{Box, violated}
 use Rattle.certificate.specs.declared.tree.Record.{Record}
-use Rattle.base_matrix.specs.Tightening.{IsQuiet, Tightens}
+use Rattle.zero_one_rows.specs.Tightening.{IsQuiet}
+use Rattle.base_matrix.specs.Tightening.{Tightens}
 use Rattle.node_work.specs.Starts.{IsTight, HasSteps, IsAfterSteps}
 use Rattle.node_work.specs.Work.{EndsClosed, Works}
 use Rattle.node_work.proofs.Ends.{is_tight, violated_ends, after_steps}

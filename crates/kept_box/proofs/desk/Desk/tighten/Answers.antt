@@ -1,6 +1,6 @@
 use Rattle.std.proofs.Common.{arith, sym, subst}
 use Rattle.proof_trees.specs.Boxes.{Box}
-use Rattle.base_matrix.specs.Tightening.{IsQuiet}
+use Rattle.zero_one_rows.specs.Tightening.{IsQuiet}
 use Rattle.base_matrix.proofs.Freeing.{noted_more}
 use Rattle.base_matrix.proofs.Steps.{tightens_more}
 use Rattle.kept_box.proofs.Moving.{quiet_rests}

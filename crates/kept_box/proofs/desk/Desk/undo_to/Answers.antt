@@ -1,6 +1,6 @@
 use Rattle.std.proofs.Common.{arith, ◌≡◌, ◌<◌, length, true, false, get_or, sym, subst, ◌∙◌}
 use Rattle.proof_trees.specs.Boxes.{Box}
-use Rattle.base_matrix.specs.Tightening.{IsQuiet}
+use Rattle.zero_one_rows.specs.Tightening.{IsQuiet}
 use Rattle.base_matrix.proofs.Rows.{read}
 use Rattle.kept_box.proofs.Moving.{holds_still, rests_quiet}
 use Rattle.kept_box.proofs.Trails.{released_all, take_length}

@@ -3,7 +3,7 @@ use Rattle.proof_trees.specs.Boxes.{violated}
 use Rattle.zero_one_rows.specs.Variables.{Voyage}
 use Rattle.zero_one_rows.specs.Rows.{base, whole}
 use Rattle.base_matrix.specs.declared.tightening.Tightened.{Tightened}
-use Rattle.base_matrix.specs.Tightening.{IsQuiet}
+use Rattle.zero_one_rows.specs.Tightening.{IsQuiet}
 use Rattle.kept_box.specs.Kept.{Kept}
 use Rattle.kept_box.specs.Looking.{Ends}
 use Rattle.kept_box.proofs.kept.KeptBox.tighten.Goals as goal
