@@ -21,9 +21,9 @@ use Rattle.search_core.proofs.Trails.{trail_more}
 use Rattle.node_racks.specs.declared.view.View.{View}
 use Rattle.node_racks.specs.Rule.{none_yet, seen_at, offered_at, with_ticket, one_over, after_split, joined}
 use Rattle.node_ledger.specs.Gathered.{placed}
-use Rattle.node_work.specs.Work.{node_of, IsNode, begins_at, most_at, EndsClosed, EndsBranched, EndsFull, Works}
-use Rattle.node_work.specs.declared.worked.Worked.{Worked}
-use Rattle.node_work.specs.declared.worked.Worked.TheVariants.{Closed, Branched, Full, NoMemory}
+use Rattle.node_ends.specs.Work.{node_of, IsNode, begins_at, most_at, EndsClosed, EndsBranched, EndsFull, Works}
+use Rattle.node_ends.specs.declared.worked.Worked.{Worked}
+use Rattle.node_ends.specs.declared.worked.Worked.TheVariants.{Closed, Branched, Full, NoMemory}
 use Rattle.steal_pool.specs.UnderWay.{entry_at, Tells, AllowedFrom}
 use Rattle.steal_pool.proofs.Steps.{handled_at, looked, leaf_recorded, full_recorded, branch_recorded}
 use Rattle.crew_turns.specs.declared.deeds.Deeds.{Deeds}

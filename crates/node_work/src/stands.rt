@@ -8,7 +8,7 @@ ghost use Rattle.search_core.specs.Journals.{after};
 ghost use Rattle.search_core.specs.Machine.{Divides, IsTrail};
 ghost use Rattle.base_matrix.specs.Fixing.{released};
 ghost use Rattle.stow_data.specs.Shipment.{IsCargo};
-ghost use Rattle.node_work.specs.Work.{most_rehandles, Works};
+ghost use Rattle.node_ends.specs.Work.{most_rehandles, Works};
 ghost use Rattle.node_work.specs.declared.stands.Frame.{Frame as Frames};
 ghost use Rattle.node_work.specs.Scales.{IsScale};
 ghost use Rattle.node_work.specs.Stands.{entry_in, value_in, box_along, IsStand};
@@ -16,7 +16,7 @@ ghost use Rattle.node_work.specs.Stands.{entry_in, value_in, box_along, IsStand}
 use crate::ending::end_box;
 use crate::retracing::{halve, retighten};
 use crate::scale::Scale;
-use crate::worked::Worked;
+use node_ends::Worked;
 use certificate::{Record, SharedRecord};
 use dual_bound::RowTable;
 use kept_box::{BaseMatrix, KeptBox};
