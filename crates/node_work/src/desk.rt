@@ -8,10 +8,10 @@ ghost use Rattle.node_ends.specs.Work.{IsNode, begins_at, most_at, most_rehandle
 use crate::scale::Scale;
 use crate::stands::Stand;
 use crate::tables::Tables;
-use node_ends::Worked;
 use crate::working::{most_raises, runs_at};
 use certificate::Node;
 use dual_bound::RowTable;
+use node_ends::Worked;
 use std::alloc::Global;
 use std::marker;
 use stow_data::NoMemory;

@@ -12,11 +12,11 @@ ghost use Rattle.node_ends.specs.Work.{most_rehandles, Works};
 
 use crate::choosing::{first_free, planned_or};
 use crate::scale::Scale;
-use node_ends::Worked;
 use base_matrix::{Tightened, cost_of};
 use certificate::{End, Record};
 use dual_bound::{Raised, RowTable};
 use kept_box::KeptBox;
+use node_ends::Worked;
 use program_rows::rows_are_listed;
 use std::alloc::Global;
 use stow_data::{NoMemory, VarNo};

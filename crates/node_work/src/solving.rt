@@ -34,11 +34,7 @@ impl<'a> marker::Model for TableSolver<'a> {
 }
 
 // A planner of the program's voyages: this one, where there is one.
-fn planner_of(
-    alloc: Global,
-    tables: &Tables,
-    given: Option<Planner>,
-) -> Result<Planner, NoMemory> {
+fn planner_of(alloc: Global, tables: &Tables, given: Option<Planner>) -> Result<Planner, NoMemory> {
     match given {
         Some(planner) => Ok(planner),
         None => Planner::new(alloc, tables.model()),

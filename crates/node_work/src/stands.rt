@@ -16,10 +16,10 @@ ghost use Rattle.node_work.specs.Stands.{entry_in, value_in, box_along, IsStand}
 use crate::ending::end_box;
 use crate::retracing::{halve, retighten};
 use crate::scale::Scale;
-use node_ends::Worked;
 use certificate::{Record, SharedRecord};
 use dual_bound::RowTable;
 use kept_box::{BaseMatrix, KeptBox};
+use node_ends::Worked;
 use std::alloc::Global;
 use stow_data::NoMemory;
 use voyage_guess::{Planner, Wanted};

@@ -5,9 +5,9 @@ ghost use Rattle.node_ends.specs.Work.{IsNode, begins_at, most_at, most_rehandle
 
 use crate::desk::Desk;
 use crate::tables::Tables;
-use node_ends::Worked;
 use certificate::Node;
 use kept_box::BaseMatrix;
+use node_ends::Worked;
 use std::alloc::Global;
 use stow_data::NoMemory;
 use voyage_guess::Planner;

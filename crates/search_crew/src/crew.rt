@@ -127,7 +127,10 @@ fn man<M: Wanted, S: Solver, G: Gate, R: Wait>(
 }
 
 // A place for each worker.
-fn give_all<M: Wanted, S: Solver>(alloc: Global, posts: Vec<Post<M, S>>) -> Result<Vec<Place<M, S>>, NoMemory>
+fn give_all<M: Wanted, S: Solver>(
+    alloc: Global,
+    posts: Vec<Post<M, S>>,
+) -> Result<Vec<Place<M, S>>, NoMemory>
     ensures { IfOk result (λ places. places.items ≡ map (λ post. Given post) posts.items) }
 {
     let mut places = Vec::new(alloc);
@@ -152,7 +155,10 @@ fn back_at<M: Wanted, S: Solver>(place: Place<M, S>) -> Result<Back<M>, NoMemory
 }
 
 // What the workers brought back, where all came back.
-fn all_back<M: Wanted, S: Solver>(alloc: Global, places: Vec<Place<M, S>>) -> Result<Vec<Back<M>>, NoMemory>
+fn all_back<M: Wanted, S: Solver>(
+    alloc: Global,
+    places: Vec<Place<M, S>>,
+) -> Result<Vec<Back<M>>, NoMemory>
     ensures { IfOk result (λ backs. places.items ≡ map (λ back. Done back) backs.items) }
 {
     let mut backs = Vec::new(alloc);

@@ -276,9 +276,7 @@ fn search_on<M: Wanted + Send + Sync, S: Solver, G: Gate + Sync, R: Threads + Wa
     requires desk { desk ≡ ground.like }
     ensures { IfOk result (IsFound ground.like ground.board.start ground.board.budget) }
 {
-    match work_all(
-        rt, alloc, &ground, &mut owner, passes, desk, gate,
-    ) {
+    match work_all(rt, alloc, &ground, &mut owner, passes, desk, gate) {
         Ok(ended) => conclude(rt, alloc, ground, owner, ended),
         Err(no) => Err(no),
     }

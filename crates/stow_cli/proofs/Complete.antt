@@ -13,10 +13,10 @@ use Rattle.voyage_inputs.specs.Names.{names_from}
 use Rattle.voyage_inputs.specs.declared.answer.Answer.{Answer}
 use Rattle.voyage_inputs.specs.declared.answer.Answer.TheVariants as answer
 use Rattle.voyage_inputs.specs.declared.voyage.BookedVoyage.{BookedVoyage}
-use Rattle.stow_answers.specs.Answers.{IsAnswerTo, PlanWithin}
-use Rattle.stow_answers.specs.Made.{behind, made_files, made_names, only_made}
-use Rattle.stow_answers.specs.Voyages.{Overflows}
-use Rattle.stow_answers.proofs.Searched.{list_is_fine, made_searched, searched, yes_is_fine}
+use Rattle.stow_cli.specs.Answers.{IsAnswerTo, PlanWithin}
+use Rattle.stow_cli.specs.Made.{behind, made_files, made_names, only_made}
+use Rattle.stow_cli.specs.Voyages.{Overflows}
+use Rattle.stow_cli.proofs.Searched.{list_is_fine, made_searched, searched, yes_is_fine}
 use Rattle.stow_cli.specs.declared.status.Status.{Status}
 use Rattle.stow_cli.specs.declared.status.Status.TheVariants as status
 use Rattle.stow_cli.specs.Ends.{EndsAlike, Follows, IsExact, IsRun, found_status, status_of}

@@ -9,8 +9,8 @@ use Rattle.stow_io.specs.declared.files.Finding.{Finding}
 use Rattle.stow_io.specs.declared.files.Finding.TheVariants as finding
 use Rattle.voyage_inputs.specs.declared.answer.Answer.{Answer}
 use Rattle.voyage_inputs.specs.declared.answer.Answer.TheVariants as answer
-use Rattle.stow_answers.specs.Answers.{IsAnswerTo}
-use Rattle.stow_answers.proofs.Agreement.{answers_agree}
+use Rattle.stow_cli.specs.Answers.{IsAnswerTo}
+use Rattle.stow_cli.proofs.Agreement.{answers_agree}
 use Rattle.stow_cli.specs.declared.status.Status.{Status}
 use Rattle.stow_cli.specs.declared.status.Status.TheVariants as status
 use Rattle.stow_cli.specs.Ends.{IsDone, Follows, Refuses, IsRun, IsExact, EndsAlike, found_status, status_of}

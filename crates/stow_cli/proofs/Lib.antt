@@ -1,3 +1,11 @@
+pub mod Judging
+pub mod Messages
+pub mod Works
+pub mod WrittenFiles
+pub mod OneCheck
+pub mod OneAnswer
+pub mod Agreement
+pub mod Searched
 pub mod Exact
 pub mod Complete
 pub mod Obeying

@@ -12,9 +12,9 @@ use Rattle.voyage_inputs.specs.Names.{Names, names_from}
 use Rattle.voyage_inputs.specs.Inputs.{AreInputs}
 use Rattle.voyage_inputs.specs.declared.answer.Answer.TheVariants as answer
 use Rattle.voyage_inputs.specs.declared.voyage.BookedVoyage.{BookedVoyage}
-use Rattle.stow_answers.specs.Answers.{IsAnswerTo}
-use Rattle.stow_answers.specs.Made.{made_names, only_made}
-use Rattle.stow_answers.specs.Voyages.{Overflows, voyage_of}
+use Rattle.stow_cli.specs.Answers.{IsAnswerTo}
+use Rattle.stow_cli.specs.Made.{made_names, only_made}
+use Rattle.stow_cli.specs.Voyages.{Overflows, voyage_of}
 use Rattle.stow_cli.specs.declared.status.Status.{Status}
 use Rattle.stow_cli.specs.declared.status.Status.TheVariants as status
 

@@ -1,3 +1,9 @@
+pub mod Work
+pub mod Voyages
+pub mod Checks
+pub mod Made
+pub mod Answers
+pub mod Law
 pub mod Numbers
 pub mod Ends
 pub mod Complete

@@ -6,12 +6,12 @@ ghost use Rattle.stow_cli.specs.Ends.{Follows, IsRun};
 ghost use Rattle.stow_cli.specs.Obeyed.{Obeys};
 ghost use Rattle.stow_cli.specs.Taken.{HasClapFault, OrdersOwn};
 
+use crate::answering::answer_to;
 use crate::ending::{complete, refuse, say_no};
 use crate::status::Status;
 use std::alloc::Global;
 use std::sync::Wait;
 use std::thread::Threads;
-use stow_answers::answer_to;
 use stow_data::WordList;
 use stow_io::{Folder, Gate, Sink, say, say_name};
 use stow_words::{Order, read_words};

@@ -1,5 +1,0 @@
-use Rattle.stow_answers.proofs.Agreement.{answers_agree}
-use Rattle.stow_answers.proofs.law.answers_agree.Goals as goal
-
-pub returns : goal.returns
-returns c = answers_agree
