@@ -1,5 +1,7 @@
 #!/usr/bin/env python3
-"""Measures what each crate costs at the gate, in processor minutes: its proof, the proof of its tests, its must-fail edits.
+"""Measures what each crate costs at the gate, in processor minutes: its proof, the proof of its tests, its must-fail edits, and the
+check of the crate as it stands that the edits are tried over ("proof again": the gate makes it anew, and `rt must-fail` in a folder
+where the crate was checked before takes that check over).
 
     bench/gate.py [--at-once N] [--into FILE] [NAME..]
     bench/gate.py --watch [--into FILE] [NAME..]
@@ -26,10 +28,10 @@ import tempfile
 import time
 
 ROOT = os.path.dirname(os.path.dirname(os.path.realpath(__file__)))
-BUDGET = {"proof": 5.0, "tests": 3.0, "edits": 5.0}
-WHOLE, CHAIN = 140.0, 40.0
+BUDGET = {"proof": 5.0, "tests": 3.0, "again": 5.0, "edits": 5.0}
+WHOLE, CHAIN = 300.0, 40.0
 BEGIN, END = "<!-- gate table: begin -->", "<!-- gate table: end -->"
-HEAD = ["crate", "lines", "proof", "tests", "edits", "sum", "edits tried"]
+HEAD = ["crate", "lines", "proof", "tests", "proof again", "edits", "sum", "edits tried"]
 
 
 def crates_of(root):
@@ -92,12 +94,17 @@ def keep_to(folder, names):
 
 
 def run(words, folder, log):
-    """Runs a command to its end, and returns its status and the processor minutes of it and of all that it started."""
+    """Runs a command to its end, and returns its status and, by part, the processor minutes of the prover's processes that it started."""
+    used = {}
     with open(log, "ab") as out:
         child = subprocess.Popen(words, cwd=folder, stdin=subprocess.DEVNULL, stdout=out, stderr=subprocess.STDOUT)
-        _, status, used = os.wait4(child.pid, 0)
-        child.returncode = os.waitstatus_to_exitcode(status)
-    return child.returncode, (used.ru_utime + used.ru_stime) / 60
+        while child.poll() is None:
+            look(child.pid, used)
+            time.sleep(0.5)
+    minutes = {}
+    for (_, _, part), it in used.items():
+        minutes[part] = minutes.get(part, 0.0) + it
+    return child.returncode, minutes
 
 
 def from_nothing(folder):
@@ -123,17 +130,18 @@ def measure(base, name, deps):
     keep_to(root, [*below(deps, name), name])
     folder, log, cost = f"{root}/crates/{name}", f"{top}/log", {}
     edits = len(os.listdir(f"{folder}/must-fail")) if os.path.isdir(f"{folder}/must-fail") else 0
-    parts = [("proof", ["rt", "check", "--jobs", "1"], folder)]
-    parts += [("tests", ["rt", "check", "--test", "--jobs", "1"], folder)] * has_tests(folder)
-    parts += [("edits", ["rt", "must-fail", name, "--anew"], root)] * (edits > 0)
-    for part, words, at in parts:
+    runs = [(["rt", "check", "--jobs", "1"], folder)]
+    runs += [(["rt", "check", "--test", "--jobs", "1"], folder)] * has_tests(folder)
+    runs += [(["rt", "must-fail", name, "--anew"], root)] * (edits > 0)
+    for words, at in runs:
         from_nothing(folder)
-        status, cost[part] = run(words, at, log)
+        status, minutes = run(words, at, log)
         if status:
             with open(log, encoding="utf-8", errors="replace") as file:
                 print(f"gate: {' '.join(words)} in {name} ended with {status}; its last lines:", *file.read().splitlines()[-12:], sep="\n", file=sys.stderr)
-            cost[part] = float("nan")
-        print(f"gate: {name}: {part} {cost[part]:.2f} minutes", file=sys.stderr, flush=True)
+            minutes = dict.fromkeys(minutes, float("nan"))
+        cost.update(minutes)
+        print(f"gate: {name}:", *[f"{part} {it:.2f}" for part, it in minutes.items()], "minutes", file=sys.stderr, flush=True)
     row = {"lines": lines_of(f"{base}/crates/{name}"), "edits tried": edits, **{it: cost.get(it, 0.0) for it in BUDGET}}
     shutil.rmtree(top)
     return row
@@ -148,7 +156,9 @@ def of_process(pid):
             return None
         with open(f"/proc/{pid}/stat", encoding="utf-8") as file:
             numbers = file.read().rpartition(")")[2].split()
-        part = "edits" if "/rt-edit-" in os.readlink(f"/proc/{pid}/cwd") else "tests" if "--test" in words else "proof"
+        over = words[words.index("--incremental") + 1] if "--incremental" in words else ""
+        edit = "/rt-edit-" in os.readlink(f"/proc/{pid}/cwd")
+        part = ("again" if over.endswith("/seed") else "edits") if edit else "tests" if "--test" in words else "proof"
     except OSError:
         return None
     return words[words.index("--crate-name") + 1], part, (int(numbers[11]) + int(numbers[12])) / os.sysconf("SC_CLK_TCK") / 60
@@ -169,18 +179,25 @@ def descendants(root):
     return found
 
 
+def look(root, used):
+    """Notes what the prover's processes below a process have taken so far, by process, crate and part."""
+    for pid in descendants(root):
+        if at := of_process(pid):
+            used[pid, at[0], at[1]] = at[2]
+
+
 def watch(names, deps):
     """Runs the gate, and returns the costs of each crate on which it worked."""
     used, begun = {}, time.monotonic()
     gate = subprocess.Popen(["rt", "ci", *names], cwd=ROOT, stdin=subprocess.DEVNULL)
     while gate.poll() is None:
-        for pid in descendants(gate.pid):
-            if (at := of_process(pid)) and at[0] in deps:
-                used[pid, at[0], at[1]] = at[2]
+        look(gate.pid, used)
         time.sleep(0.5)
     print(f"gate: rt ci ended with {gate.returncode} after {(time.monotonic() - begun) / 60:.0f} minutes", file=sys.stderr)
     rows = {}
     for (_, name, part), minutes in used.items():
+        if name not in deps:
+            continue
         folder = f"{ROOT}/crates/{name}"
         edits = len(os.listdir(f"{folder}/must-fail")) if os.path.isdir(f"{folder}/must-fail") else 0
         row = rows.setdefault(name, {"lines": lines_of(folder), "edits tried": edits})
@@ -201,14 +218,14 @@ def table(deps, rows):
     """Returns the lines of the table, its sums and its longest chain."""
     marked = lambda row, part: f"{row[part]:.1f}{' (over)' if row[part] > BUDGET[part] else ''}"
     whole = lambda row: sum(row[it] for it in BUDGET)
-    lines = [f"| {' | '.join(HEAD)} |", "|---|---:|---:|---:|---:|---:|---:|"]
+    lines = [f"| {' | '.join(HEAD)} |", "|---|---:|---:|---:|---:|---:|---:|---:|"]
     for name, row in sorted(rows.items(), key=lambda it: -whole(it[1])):
-        lines.append(f"| `{name}` | {row['lines']} | {marked(row, 'proof')} | {marked(row, 'tests')} | {marked(row, 'edits')} | {whole(row):.1f} | {row['edits tried']} |")
+        lines.append(f"| `{name}` | {row['lines']} | {' | '.join(marked(row, it) for it in BUDGET)} | {whole(row):.1f} | {row['edits tried']} |")
     sums = {it: sum(row[it] for row in rows.values()) for it in [*BUDGET, "lines", "edits tried"]}
     total = sum(sums[it] for it in BUDGET)
-    lines.append(f"| {len(rows)} crates | {sums['lines']} | {sums['proof']:.1f} | {sums['tests']:.1f} | {sums['edits']:.1f} | {total:.1f} | {sums['edits tried']} |")
+    lines.append(f"| {len(rows)} crates | {sums['lines']} | {' | '.join(f'{sums[it]:.1f}' for it in BUDGET)} | {total:.1f} | {sums['edits tried']} |")
     minutes, chain = chain_of(deps, rows)
-    lines += ["", f"Sum: {total:.0f} processor minutes (budget today {WHOLE:.0f}). Longest chain: {minutes:.1f} (budget {CHAIN:.0f}), {len(chain)} crates: {', '.join(chain)}."]
+    lines += ["", f"Sum: {total:.0f} processor minutes (budget {WHOLE:.0f}). Longest chain: {minutes:.1f} (budget {CHAIN:.0f}), {len(chain)} crates: {', '.join(chain)}."]
     return lines
 
 
@@ -218,7 +235,7 @@ def rows_in(text):
     for line in text.splitlines():
         cells = [it.strip().removesuffix(" (over)") for it in line.strip("|").split("|")]
         if len(cells) == len(HEAD) and re.fullmatch(r"`\w+`", cells[0]):
-            found[cells[0].strip("`")] = {"lines": int(cells[1]), "edits tried": int(cells[6]), **{it: float(cells[at]) for at, it in enumerate(BUDGET, 2)}}
+            found[cells[0].strip("`")] = {"lines": int(cells[1]), "edits tried": int(cells[7]), **{it: float(cells[at]) for at, it in enumerate(BUDGET, 2)}}
     return found
 
 
