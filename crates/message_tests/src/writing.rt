@@ -56,7 +56,9 @@ fn rewritten(alloc: Global, bytes: &[u8]) -> Result<Bytes, Fail> {
     if bytes.len() > 10_000 {
         return Err(Fail::from("too long"));
     }
-    let message = read_baplie(alloc, bytes).map_err(|_| Fail::from("refused"))?;
+    let Ok(message) = read_baplie(alloc, bytes) else {
+        return Err(Fail::from("refused"));
+    };
     read_is_whole();
     Ok(write_baplie(alloc, &message)?)
 }
