@@ -21,7 +21,7 @@ pub each_half_more : (P Q : Node → Type 0) (o : Option Halves) → ((n : Node)
 each_half_more P Q None f h = tt
 each_half_more P Q (Some b) f h = (f b.zero h.0, f b.one h.1)
 
-module _ {M S : Type 0} (meets : Node → Type 0) (r : Rack M) (b : BoardToken) where
+module _ {M : Type 0} (meets : Node → Type 0) (r : Rack M) (b : BoardToken) where
   -- the same knowledge of another job
   abbrev DoneAs : Voyage → ℕ → SeatToken → Deeds → Flow → Flow → Type 0
   DoneAs m pending s d came gone = IsDone m b.start s.view pending d came gone
@@ -30,7 +30,7 @@ module _ {M S : Type 0} (meets : Node → Type 0) (r : Rack M) (b : BoardToken) 
   same_done m pending s t d e came gone seat deeds w =
       subst (λ (x : SeatToken). DoneAs m pending x e came gone) (sym seat) (subst (λ (x : Deeds). DoneAs m pending s x came gone) (sym deeds) w)
 
-  module _ (m : Voyage) (j k : Job M S) where
+  module _ {S : Type 0} (m : Voyage) (j k : Job M S) where
     -- a node came to the worker
     pub got : (n : Node) → IsJob meets r b m 0 [] j → IsPassAt r k.pass → k.pass.number ≡ j.pass.number → Every meets k.aside.items → meets n → ((h : Node → ℕ) → put_weight h k.pass ≡ put_weight h j.pass)
         → ((h : Node → ℕ) → took_weight h k.pass + weigh h j.aside.items ≡ took_weight h j.pass + weigh h k.aside.items + h n) → k.seat ≡ j.seat → k.desk ≡ j.desk → k.deeds ≡ j.deeds → IsJob meets r b m 0 (n ∷ []) k

@@ -60,7 +60,7 @@ pub fn serve<M: Wanted, S: Solver, G: Gate, R: Wait>(
 ) -> Result<Job<M, S>, NoMemory>
     requires job { IsJob M.meets rack.now board.now job.desk 0 [] job }
     requires none_over { job.seat.view.over ≡ 0 }
-    ensures { IfOk result (λ served. IsServed M.meets rack.now board.now job.entry served) }
+    ensures { IfOk result (λ served. IsServed M.meets rack.now board.now job served) }
 {
     match take_turns(rt, alloc, rack, board, signs, gate, &mut job) {
         Ok(()) => Ok(job),

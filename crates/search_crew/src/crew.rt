@@ -31,10 +31,10 @@ pub struct Ground<M: Wanted, S: Solver> {
 
 // What a worker brings back, once its desk is put away.
 fn back_of<M: Wanted, S: Solver>(job: Job<M, S>) -> Back<M>
-    ensures pass { result.pass ≡ job.entry.pass }
-    ensures seat { result.seat ≡ job.entry.seat }
-    ensures deeds { result.deeds ≡ job.entry.deeds }
-    ensures aside { result.aside ≡ job.entry.aside }
+    ensures pass { result.pass ≡ job.pass }
+    ensures seat { result.seat ≡ job.seat }
+    ensures deeds { result.deeds ≡ job.deeds }
+    ensures aside { result.aside ≡ job.aside }
 {
     let Job {
         pass,
@@ -63,7 +63,7 @@ fn serve_on<M: Wanted, S: Solver, G: Gate, R: Wait>(
 ) -> Result<Back<M>, NoMemory>
     requires job { IsJob M.meets ground.now.rack ground.now.board job.desk 0 [] job }
     requires none_over { job.seat.view.over ≡ 0 }
-    ensures { IfOk result (λ back. IsBack M.meets ground.now.board job.entry.desk back × IsPassAt ground.now.rack back.pass × (back.pass.number ≡ job.entry.pass.number) × (back.seat.board ≡ ground.now.board.id)) }
+    ensures { IfOk result (λ back. IsBack M.meets ground.now.board job.desk back × IsPassAt ground.now.rack back.pass × (back.pass.number ≡ job.pass.number) × (back.seat.board ≡ ground.now.board.id)) }
 {
     let served = serve(
         rt,
