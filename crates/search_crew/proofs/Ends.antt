@@ -79,7 +79,7 @@ module _ {M : Type 0} where
 
   pub numbers_more : {S : Type 0} → (ps qs : List (Post M S)) (p : Post M S) (xs rest : List (Pass M)) (x : Pass M) (all : List ℕ) → qs ≡ ps ++ p ∷ [] → xs ≡ x ∷ rest → p.pass.number ≡ x.number → map post_number ps ++ map number_of xs ≡ all
       → map post_number qs ++ map number_of rest ≡ all
-  numbers_more ps qs p xs rest x all q e n before =
+  numbers_more {S = S} ps qs p xs rest x all q e n before =
       ap (λ (l : List (Post M S)). map post_number l ++ map number_of rest) q
       ∙ (ap (λ (l : List ℕ). l ++ map number_of rest) (map-append post_number ps (p ∷ []))
       ∙ (snoc_shift (map post_number ps) p.pass.number (map number_of rest) ∙ (ap (λ (k : ℕ). map post_number ps ++ k ∷ map number_of rest) n ∙ (ap (λ (l : List (Pass M)). map post_number ps ++ map number_of l) (sym e) ∙ before))))

@@ -13,4 +13,4 @@ returns-then-is_empty-clause-done g c =
 
 pub returns-clause-done : goal.returns-clause-done
 returns-clause-done g c =
-    subst (λ (m : Voyage). IfOk c.finish-deeds.result (λ deeds. IsDone m c.args.board.now.start c.finish-deeds.new.seat.view 0 deeds (λ h. weigh (on_nodes m h) c.args.todo.items) (λ h. 0))) c.another-desk.ensures c.finish-deeds.ensures.done
+    subst (λ (m : Voyage). IfOk c.finish.result (λ deeds. IsDone m c.args.board.now.start c.finish.new.seat.view 0 deeds (λ h. weigh (on_nodes m h) c.args.todo.items) (λ h. 0))) c.another-desk.ensures c.finish.ensures.done

@@ -7,7 +7,7 @@ use Rattle.search_crew.proofs.Ends.{finished}
 use Rattle.search_crew.proofs.searching.finish_off.Goals as goal
 
 pub finish_seated-requires-clause-nodes : goal.finish_seated-requires-clause-nodes
-finish_seated-requires-clause-nodes g c =
+finish_seated-requires-clause-nodes g c κs within =
     let m = c.args.like.now in
     let t = c.in-Ok.ensures in
     subst (Every (IsNode m)) (sym t.1)
