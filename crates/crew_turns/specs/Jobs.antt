@@ -5,9 +5,8 @@ use Rattle.zero_one_rows.specs.Variables.{Voyage}
 use Rattle.certificate.specs.declared.nodes.Node.{Node}
 use Rattle.search_core.specs.Bags.{weigh, Every}
 use Rattle.search_core.specs.Machine.{root_node}
-use Rattle.node_racks.specs.declared.view.View.{View}
 use Rattle.node_racks.specs.Rule.{none_yet}
-use Rattle.node_racks.specs.Tokens.{BoardToken, SeatToken}
+use Rattle.node_racks.specs.Tokens.{BoardToken}
 use Rattle.node_racks.specs.declared.racks.Rack.{Rack}
 use Rattle.node_racks.specs.Racks.{IsPassAt, took_weight, put_weight}
 use Rattle.node_ends.specs.Work.{IsNode, most_rehandles}

@@ -1,9 +1,9 @@
-use Rattle.std.proofs.Common.{rules, ◌≡◌, IfOk, All, map, subst, sym, ◌∙◌, length}
+use Rattle.std.proofs.Common.{◌≡◌, All, map, subst, sym, ◌∙◌}
 use Rattle.std.proofs.lemmas.List.{take_at}
 use Rattle.std.proofs.lemmas.List.Elements.{All-map}
 use Rattle.steal_pool.proofs.Steps.{if_ok}
 use Rattle.search_crew.specs.declared.places.Place.TheVariants.{Given, Done}
-use Rattle.search_crew.specs.Ends.{IsPosted, IsReturned, IsGiven, Brings}
+use Rattle.search_crew.specs.Ends.{IsGiven}
 use Rattle.search_crew.proofs.Pairs.{all_done}
 use Rattle.search_crew.proofs.crew.serve_all.Goals as goal
 
