@@ -83,10 +83,10 @@ impl<'a> TableSolver<'a> {
         ensures same { self.new ≡ self.old }
         ensures worked { Works self.old (begins_at self.old node.now) (most_at node.now) cut result }
     {
-        match &mut self.desk {
-            Some(desk) => desk.work(alloc, node, cut),
-            None => Worked::NoMemory,
-        }
+        let Some(desk) = &mut self.desk else {
+            return Worked::NoMemory;
+        };
+        desk.work(alloc, node, cut)
     }
 }
 
