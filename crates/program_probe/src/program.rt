@@ -41,7 +41,7 @@ fn write_terms(alloc: Global, model: &Model, row: &Row, out: &mut Bytes) -> Resu
     write_signed(out, model.rhs(row))?;
     out.extend(b" :")?;
     let mut vars = Vec::from_slice(alloc, model.vars_of(alloc, row)?.as_slice())?;
-    vars.sort()?;
+    vars.sort_by_key(|x| x.0)?;
     for x in vars.as_slice() {
         write_term(model, row, *x, out)?;
     }
