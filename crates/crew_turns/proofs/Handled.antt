@@ -1,5 +1,5 @@
 -- What a worker did, as each node is handled or left.
-use Rattle.std.proofs.Common.{◌≡◌, ℕ, ◌+◌, ◌<◌, ◌≤◌, cond, Bool, true, false, List, [], ◌∷◌, ◌++◌, length, map, Option, Some, None, refl, sym, subst, ap, ◌∙◌, arith}
+use Rattle.std.proofs.Common.{◌≡◌, ℕ, ◌+◌, ◌<◌, ◌≤◌, min, cond, Bool, true, false, List, [], ◌∷◌, ◌++◌, length, map, Option, Some, None, refl, sym, subst, ap, ◌∙◌, arith}
 use Rattle.std.proofs.lemmas.List.{map-append, length-append}
 use Rattle.zero_one_rows.specs.declared.program.Row.{Row}
 use Rattle.zero_one_rows.specs.Variables.{Voyage}
@@ -10,20 +10,21 @@ use Rattle.proof_trees.specs.Multipliers.{Multipliers}
 use Rattle.proof_trees.specs.Trees.{End, Leaf, Left, Branch, Entry, root}
 use Rattle.certificate.specs.declared.tree.Record.{Record}
 use Rattle.certificate.specs.declared.nodes.Node.{Node}
-use Rattle.certificate.specs.Entries.{same_row, entry_of}
+use Rattle.certificate.specs.Entries.{same_row, number_of, entry_of}
 use Rattle.search_core.specs.Bags.{weigh, Every}
-use Rattle.search_core.specs.Journals.{Path, branches, is_left, Anything, EndAllowed, box_after, multipliers_after}
+use Rattle.search_core.specs.Journals.{Path, Placed, branches, is_left, Anything, EndAllowed, box_after, multipliers_after}
 use Rattle.search_core.specs.Machine as machine
 use Rattle.search_core.specs.Machine.{Handled, handled, at_its_path, half_node, IsTrail}
 use Rattle.search_core.specs.Outcomes.{path_of, children}
-use Rattle.search_core.proofs.Weights.{weigh_append, every_append}
+use Rattle.search_core.proofs.Weights.{weigh_append, every_append, every_more}
 use Rattle.search_core.proofs.Trails.{trail_more}
 use Rattle.node_racks.specs.declared.view.View.{View}
-use Rattle.node_racks.specs.Rule.{none_yet, seen_at, offered_at, with_ticket, one_over, after_split}
-use Rattle.node_ends.specs.Work.{node_of, IsNode, begins_at, most_at, EndsClosed, EndsBranched, EndsFull, Works}
-use Rattle.node_ends.specs.declared.worked.Worked.{Worked}
-use Rattle.node_ends.specs.declared.worked.Worked.TheVariants.{Closed, Branched, Full, NoMemory}
-use Rattle.steal_pool.specs.UnderWay.{entry_at, Tells}
+use Rattle.node_racks.specs.Rule.{none_yet, seen_at, offered_at, with_ticket, one_over, after_split, joined}
+use Rattle.node_ledger.specs.Gathered.{placed}
+use Rattle.node_work.specs.Work.{node_of, IsNode, begins_at, most_at, EndsClosed, EndsBranched, EndsFull, Works}
+use Rattle.node_work.specs.declared.worked.Worked.{Worked}
+use Rattle.node_work.specs.declared.worked.Worked.TheVariants.{Closed, Branched, Full, NoMemory}
+use Rattle.steal_pool.specs.UnderWay.{entry_at, Tells, AllowedFrom}
 use Rattle.steal_pool.proofs.Steps.{handled_at, looked, leaf_recorded, full_recorded, branch_recorded}
 use Rattle.crew_turns.specs.declared.deeds.Deeds.{Deeds}
 use Rattle.crew_turns.specs.declared.deeds.Halves.{Halves}

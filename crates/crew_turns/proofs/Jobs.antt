@@ -9,7 +9,7 @@ use Rattle.node_racks.specs.Tokens.{BoardToken, SeatToken}
 use Rattle.node_racks.specs.declared.racks.Rack.{Rack}
 use Rattle.node_racks.specs.declared.racks.Pass.{Pass}
 use Rattle.node_racks.specs.Racks.{IsPassAt, took_weight, put_weight}
-use Rattle.node_ends.specs.Work.{node_of}
+use Rattle.node_work.specs.Work.{node_of}
 use Rattle.crew_turns.specs.declared.deeds.Deeds.{Deeds}
 use Rattle.crew_turns.specs.declared.deeds.Halves.{Halves}
 use Rattle.crew_turns.specs.declared.job.Job.{Job}
@@ -30,7 +30,7 @@ module _ {M : Type 0} (meets : Node → Type 0) (r : Rack M) (b : BoardToken) wh
   same_done m pending s t d e came gone seat deeds w =
       subst (λ (x : SeatToken). DoneAs m pending x e came gone) (sym seat) (subst (λ (x : Deeds). DoneAs m pending s x came gone) (sym deeds) w)
 
-  module _ {S : Type 0} (m : Voyage) (j k : Job M S) where
+  module _ (m : Voyage) (j k : Job M) where
     -- a node came to the worker
     pub got : (n : Node) → IsJob meets r b m 0 [] j → IsPassAt r k.pass → k.pass.number ≡ j.pass.number → Every meets k.aside.items → meets n → ((h : Node → ℕ) → put_weight h k.pass ≡ put_weight h j.pass)
         → ((h : Node → ℕ) → took_weight h k.pass + weigh h j.aside.items ≡ took_weight h j.pass + weigh h k.aside.items + h n) → k.seat ≡ j.seat → k.desk ≡ j.desk → k.deeds ≡ j.deeds → IsJob meets r b m 0 (n ∷ []) k

@@ -11,9 +11,9 @@ use Rattle.search_core.specs.Machine as machine
 use Rattle.search_core.specs.Machine.{Handled}
 use Rattle.search_core.specs.Outcomes.{path_of, children}
 use Rattle.node_racks.specs.declared.view.View.{View}
-use Rattle.node_ends.specs.Work.{node_of}
-use Rattle.node_ends.specs.declared.worked.Worked.{Worked}
-use Rattle.node_ends.specs.declared.worked.Worked.TheVariants.{Closed, Branched, Full, NoMemory}
+use Rattle.node_work.specs.Work.{node_of}
+use Rattle.node_work.specs.declared.worked.Worked.{Worked}
+use Rattle.node_work.specs.declared.worked.Worked.TheVariants.{Closed, Branched, Full, NoMemory}
 use Rattle.steal_pool.specs.UnderWay.{entry_at, IsWorker}
 use Rattle.crew_turns.specs.declared.deeds.Deeds.{Deeds}
 use Rattle.crew_turns.specs.declared.deeds.Halves.{Halves}

@@ -5,7 +5,7 @@ ghost use Rattle.steal_pool.specs.UnderWay.{entry_at};
 
 use crate::deeds::{Deeds, Halves, Solution};
 use certificate::{Entry, Node, Path, Record, SharedRecord, share_all};
-use node_ends::Worked;
+use node_work::Worked;
 use std::alloc::Global;
 use stow_data::NoMemory;
 

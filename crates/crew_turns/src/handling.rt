@@ -1,14 +1,14 @@
 //! The work on one node by the best value that all know.
 ghost use Rattle.std.specs.Prelude.{◌≡◌, ◌≤◌, ◌+◌, ℕ, IfOk};
 ghost use Rattle.stow_data.specs.Shipment.{IsCargo};
-ghost use Rattle.node_ends.specs.Work.{IsNode, most_rehandles, node_of};
+ghost use Rattle.node_work.specs.Work.{IsNode, most_rehandles, node_of};
 ghost use Rattle.steal_pool.specs.UnderWay.{Tells};
 ghost use Rattle.crew_turns.specs.Deeds.{EachHalf, Flow, IsDone, halves_weight, on_nodes};
 
 use crate::deeds::{Deeds, Halves};
 use certificate::Node;
-use node_ends::{Desk, Solver, Worked};
 use node_racks::{Board, Seat};
+use node_work::{Desk, Worked};
 use std::alloc::Global;
 use stow_data::NoMemory;
 
@@ -24,9 +24,9 @@ fn tell(board: &Board, seat: &mut Seat, ended: &Worked)
 }
 
 /// Handles a node for which a ticket was drawn: on the worker's desk, against the best value.
-pub fn handle<S: Solver>(
+pub fn handle(
     alloc: Global,
-    desk: &mut Desk<S>,
+    desk: &mut Desk,
     board: &Board,
     seat: &mut Seat,
     deeds: &mut Deeds,

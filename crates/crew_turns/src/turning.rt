@@ -8,7 +8,6 @@ use crate::job::Job;
 use crate::signs::Signs;
 use crate::taking::{get, lay_halves};
 use certificate::Node;
-use node_ends::Solver;
 use node_racks::{Board, Rack, Wanted};
 use std::alloc::Global;
 use stow_data::NoMemory;
@@ -25,12 +24,12 @@ pub enum Turned {
 }
 
 // Handles a node for which a ticket was drawn.
-fn work_off<M: Wanted, S: Solver>(
+fn work_off<M: Wanted>(
     alloc: Global,
     rack: &Rack<M>,
     board: &Board,
     signs: &Signs,
-    job: &mut Job<M, S>,
+    job: &mut Job<M>,
     node: Node,
 ) -> Result<(), NoMemory>
     requires job { IsJob M.meets rack.now board.now job.old.desk 1 (node ∷ []) job.old }
@@ -51,13 +50,13 @@ fn work_off<M: Wanted, S: Solver>(
 }
 
 /// One turn of a worker: it takes a node from those aside, else from its own deque, else from another worker; passes the gate; draws a ticket, and leaves the node where there is none; and else handles the node.
-pub fn turn<M: Wanted, S: Solver, G: Gate>(
+pub fn turn<M: Wanted, G: Gate>(
     alloc: Global,
     rack: &Rack<M>,
     board: &Board,
     signs: &Signs,
     gate: &G,
-    job: &mut Job<M, S>,
+    job: &mut Job<M>,
 ) -> Result<Turned, NoMemory>
     requires job { IsJob M.meets rack.now board.now job.old.desk 0 [] job.old }
     requires none_over { job.old.seat.view.over ≡ 0 }

@@ -31,10 +31,10 @@ use Rattle.zero_one_rows.specs.Tightening.{IsQuiet, ForceAll}
 use Rattle.base_matrix.specs.Tightening.{Tightens}
 use Rattle.certificate.specs.Stuck.{IsStuck}
 use Rattle.dual_bound.specs.Raising.{IsRaise, RiseAll, Raises}
-use Rattle.node_ends.specs.declared.worked.Worked.{Worked}
-use Rattle.node_ends.specs.declared.worked.Worked.TheVariants.{Closed, Branched, Full, NoMemory}
+use Rattle.node_work.specs.declared.worked.Worked.{Worked}
+use Rattle.node_work.specs.declared.worked.Worked.TheVariants.{Closed, Branched, Full, NoMemory}
 use Rattle.node_work.specs.Starts.{IsTight, HasSteps, IsAfterSteps}
-use Rattle.node_ends.specs.Work.{most_rehandles, EachRises, IsLean, IsEarnest, Ends, EndsClosed, EndsBranched, EndsFull}
+use Rattle.node_work.specs.Work.{most_rehandles, EachRises, IsLean, IsEarnest, Ends, EndsClosed, EndsBranched, EndsFull}
 use Rattle.node_work.proofs.Folds.{default_any}
 use Rattle.node_work.proofs.Numbered.{number_is}
 use Rattle.node_work.proofs.Values.{and_right, full_closes, violated_closes}

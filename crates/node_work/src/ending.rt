@@ -8,15 +8,15 @@ ghost use Rattle.base_matrix.specs.Fixing.{Fixes};
 ghost use Rattle.zero_one_rows.specs.Tightening.{IsQuiet};
 ghost use Rattle.node_work.specs.Scales.{IsScale};
 ghost use Rattle.node_work.specs.Starts.{IsTight, HasSteps, IsAfterSteps};
-ghost use Rattle.node_ends.specs.Work.{most_rehandles, Works};
+ghost use Rattle.node_work.specs.Work.{most_rehandles, Works};
 
 use crate::choosing::{first_free, planned_or};
 use crate::scale::Scale;
+use crate::worked::Worked;
 use base_matrix::{Tightened, cost_of};
 use certificate::{End, Record};
 use dual_bound::{Raised, RowTable};
 use kept_box::KeptBox;
-use node_ends::Worked;
 use program_rows::rows_are_listed;
 use std::alloc::Global;
 use stow_data::{NoMemory, VarNo};

@@ -2,7 +2,6 @@
 #![tactic(auto)]
 
 mod closing;
-mod crew;
 mod improving;
 mod loaded;
 mod planning;

@@ -3,11 +3,11 @@ ghost use Rattle.std.specs.Prelude.{◌≡◌, ◌+◌, ◌≤◌, IfOk};
 ghost use Rattle.model_bridge.specs.Laws.{IsProblem, most_lifts};
 ghost use Rattle.plan_search.specs.Found.{IsSearched, one_leaf};
 
-use crate::crew::search_program;
 use certificate::{End, Few, Record, Tree};
 use node_ledger::gather;
 use program_rows::rows_are_listed;
 use search_core::records_are_of_nodes;
+use search_crew::search;
 use std::alloc::Global;
 use std::sync::Wait;
 use std::thread::Threads;
@@ -75,7 +75,7 @@ pub fn search_tree<G: Gate + Sync, R: Threads + Wait + Sync>(
         return one_leaf(alloc);
     }
     let workers = workers as usize;
-    let found = search_program(rt, alloc, model, planner, workers, budget, start, gate)?;
+    let found = search(rt, alloc, model, planner, workers, budget, start, gate)?;
     rows_are_listed();
     found_journals_prove();
     records_are_of_nodes::<Row>();

@@ -7,7 +7,7 @@ use Rattle.search_core.specs.Bags.{weigh, Every}
 use Rattle.search_core.proofs.Weights.{weigh_append, every_append, every_left, every_right}
 use Rattle.node_racks.specs.declared.view.View.{View}
 use Rattle.node_racks.specs.Rule.{with_ticket, one_over}
-use Rattle.node_ends.specs.Work.{node_of, IsNode}
+use Rattle.node_work.specs.Work.{node_of, IsNode}
 use Rattle.crew_turns.specs.declared.deeds.Deeds.{Deeds}
 use Rattle.crew_turns.specs.declared.deeds.Halves.{Halves}
 use Rattle.crew_turns.specs.Deeds.{halves_weight, EachHalf, Flow, on_nodes, no_deeds, IsDone}

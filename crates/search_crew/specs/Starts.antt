@@ -6,7 +6,7 @@ use Rattle.certificate.specs.declared.nodes.Node.{Node}
 use Rattle.node_racks.specs.declared.view.View.{View}
 use Rattle.node_racks.specs.Rule.{none_yet}
 use Rattle.node_racks.specs.Tokens.{BoardToken, SeatToken}
-use Rattle.node_ends.specs.Work.{most_rehandles}
+use Rattle.node_work.specs.Work.{most_rehandles}
 use Rattle.crew_turns.specs.Jobs.{Means}
 
 -- what is asked of a search: a cargo by the rules, 1 to 16 workers, at most 100,000 nodes, and a start of at most one more than the most rehandles

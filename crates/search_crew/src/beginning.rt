@@ -1,5 +1,5 @@
 //! What workers are given, before any node is handled.
-ghost use Rattle.std.specs.Prelude.{◌≡◌, ◌+◌, ◌<◌, ◌≤◌, ℕ, IfOk, IfSome, OnOk, length, map};
+ghost use Rattle.std.specs.Prelude.{◌≡◌, ◌+◌, ◌<◌, ◌≤◌, ℕ, IfOk, OnOk, length, map};
 ghost use Rattle.certificate.specs.declared.nodes.Node.{Node};
 ghost use Rattle.node_racks.specs.Racks.{IsPassAt, IsFresh, number_of, took_weight, put_weight};
 ghost use Rattle.search_core.specs.Bags.{weigh, Every};
@@ -9,10 +9,11 @@ ghost use Rattle.search_crew.specs.Starts.{IsMaker, first_node, seed_at};
 use crate::places::Post;
 use certificate::{Node, Path, Trail};
 use crew_turns::lay;
-use node_ends::{Desk, Solver};
 use node_racks::{Board, Owner, Pass, Rack, Wanted};
+use node_work::Tables;
 use std::alloc::Global;
 use stow_data::NoMemory;
+use voyage_guess::Planner;
 
 // The root of the search.
 fn root(alloc: Global) -> Node
@@ -46,46 +47,66 @@ fn plant<M: Wanted>(
     Ok(())
 }
 
-// The desk that is given, once, and then others like it.
-fn next_desk<S: Solver>(like: &Desk<S>, given: &mut Option<Desk<S>>) -> Desk<S>
-    requires given { IfSome given.old (λ desk. desk ≡ like.now) }
-    ensures desk { result ≡ like.now }
-    ensures given { IfSome given.new (λ desk. desk ≡ like.now) }
-{
+// The planner that is given, once, and then others.
+fn next_planner(
+    alloc: Global,
+    tables: &Tables,
+    given: &mut Option<Planner>,
+) -> Result<Planner, NoMemory> {
     match given.take() {
-        Some(desk) => desk,
-        None => like.another(),
+        Some(planner) => Ok(planner),
+        None => Planner::new(alloc, tables.model()),
     }
 }
 
-// What a worker is given.
-fn begin<M: Wanted, S: Solver>(
+// What the first worker begins with, and a planner.
+fn plant_and_plan<M: Wanted>(
     alloc: Global,
-    like: &Desk<S>,
+    tables: &Tables,
+    rack: &Rack<M>,
+    pass: &mut Pass<M>,
+    aside: &mut Vec<Node>,
+    given: &mut Option<Planner>,
+) -> Result<Planner, NoMemory>
+    requires pass { IsPassAt rack.now pass.old }
+    requires aside { Every M.meets aside.old.items }
+    requires root { M.meets first_node }
+    ensures pass { IsPassAt rack.now pass.new }
+    ensures number { pass.new.number ≡ pass.old.number }
+    ensures aside { OnOk result (Every M.meets aside.new.items) }
+    ensures took { (h : Node → ℕ) → took_weight h pass.new ≡ took_weight h pass.old }
+    ensures bag { OnOk result ((h : Node → ℕ) → put_weight h pass.new + weigh h aside.new.items ≡ put_weight h pass.old + weigh h aside.old.items + seed_at h pass.old.number) }
+{
+    plant(alloc, rack, pass, aside)?;
+    next_planner(alloc, tables, given)
+}
+
+// What a worker is given.
+fn begin<M: Wanted>(
+    alloc: Global,
+    tables: &Tables,
     rack: &Rack<M>,
     board: &Board,
     owner: &mut Owner,
     pass: Pass<M>,
-    given: &mut Option<Desk<S>>,
-) -> Result<Post<M, S>, NoMemory>
-    requires maker { IsMaker M.meets board.now like.now owner.old }
+    given: &mut Option<Planner>,
+) -> Result<Post<M>, NoMemory>
+    requires maker { IsMaker M.meets board.now tables.now owner.old }
     requires room { owner.old.view.made < 65536 }
     requires pass { IsPassAt rack.now pass × IsFresh pass }
-    requires given { IfSome given.old (λ desk. desk ≡ like.now) }
-    ensures given { IfSome given.new (λ desk. desk ≡ like.now) }
-    ensures post { IfOk result (IsPosted M.meets rack.now board.now like.now) }
+    ensures post { IfOk result (IsPosted M.meets rack.now board.now tables.now) }
     ensures number { IfOk result (λ post. post.pass.number ≡ pass.number) }
-    ensures maker { IsMaker M.meets board.now like.now owner.new }
+    ensures maker { IsMaker M.meets board.now tables.now owner.new }
     ensures made { owner.new.view.made ≡ owner.old.view.made + 1 }
 {
     let seat = board.split(owner);
     let mut pass = pass;
     let mut aside = Vec::new(alloc);
-    match plant(alloc, rack, &mut pass, &mut aside) {
-        Ok(()) => Ok(Post {
+    match plant_and_plan(alloc, tables, rack, &mut pass, &mut aside, given) {
+        Ok(planner) => Ok(Post {
             pass,
             seat,
-            desk: next_desk(like, given),
+            planner,
             aside,
         }),
         Err(no) => {
@@ -97,56 +118,54 @@ fn begin<M: Wanted, S: Solver>(
     }
 }
 
-// What each worker is given: the first takes the desk that is there.
-fn begin_each<M: Wanted, S: Solver>(
+// What each worker is given: the first that needs a planner takes this one.
+fn begin_each<M: Wanted>(
     alloc: Global,
-    like: &Desk<S>,
+    tables: &Tables,
     rack: &Rack<M>,
     board: &Board,
     owner: &mut Owner,
     passes: Vec<Pass<M>>,
-    given: &mut Option<Desk<S>>,
-) -> Result<Vec<Post<M, S>>, NoMemory>
-    requires maker { IsMaker M.meets board.now like.now owner.old }
+    given: &mut Option<Planner>,
+) -> Result<Vec<Post<M>>, NoMemory>
+    requires maker { IsMaker M.meets board.now tables.now owner.old }
     requires room { owner.old.view.made + length passes.items ≤ 65536 }
     requires passes { Every (IsPassAt rack.now) passes.items }
     requires fresh { Every IsFresh passes.items }
-    requires given { IfSome given.old (λ desk. desk ≡ like.now) }
-    ensures posts { IfOk result (λ posts. Every (IsPosted M.meets rack.now board.now like.now) posts.items) }
+    ensures posts { IfOk result (λ posts. Every (IsPosted M.meets rack.now board.now tables.now) posts.items) }
     ensures numbers { IfOk result (λ posts. map post_number posts.items ≡ map number_of passes.items) }
-    ensures maker { IsMaker M.meets board.now like.now owner.new }
+    ensures maker { IsMaker M.meets board.now tables.now owner.new }
     ensures made { OnOk result (owner.new.view.made ≡ owner.old.view.made + length passes.items) }
 {
     let mut posts = Vec::new(alloc);
     for pass in passes {
-        let post = begin(alloc, like, rack, board, owner, pass, given)?;
+        let post = begin(alloc, tables, rack, board, owner, pass, given)?;
         posts.push(post)?;
     }
     Ok(posts)
 }
 
-/// What each worker is given, one for each pass: the first has this desk, the others have such as another one.
-pub fn begin_all<M: Wanted, S: Solver>(
+/// What each worker is given, one for each pass: the first has this planner.
+pub fn begin_all<M: Wanted>(
     alloc: Global,
-    like: &Desk<S>,
+    tables: &Tables,
     rack: &Rack<M>,
     board: &Board,
     owner: &mut Owner,
     passes: Vec<Pass<M>>,
-    desk: Desk<S>,
-) -> Result<Vec<Post<M, S>>, NoMemory>
-    requires maker { IsMaker M.meets board.now like.now owner.old }
+    planner: Planner,
+) -> Result<Vec<Post<M>>, NoMemory>
+    requires maker { IsMaker M.meets board.now tables.now owner.old }
     requires room { owner.old.view.made + length passes.items ≤ 65536 }
     requires passes { Every (IsPassAt rack.now) passes.items }
     requires fresh { Every IsFresh passes.items }
-    requires desk { desk ≡ like.now }
-    ensures posts { IfOk result (λ posts. Every (IsPosted M.meets rack.now board.now like.now) posts.items) }
+    ensures posts { IfOk result (λ posts. Every (IsPosted M.meets rack.now board.now tables.now) posts.items) }
     ensures numbers { IfOk result (λ posts. map post_number posts.items ≡ map number_of passes.items) }
-    ensures maker { IsMaker M.meets board.now like.now owner.new }
+    ensures maker { IsMaker M.meets board.now tables.now owner.new }
     ensures made { OnOk result (owner.new.view.made ≡ owner.old.view.made + length passes.items) }
 {
-    let mut given = Some(desk);
-    let posts = begin_each(alloc, like, rack, board, owner, passes, &mut given);
+    let mut given = Some(planner);
+    let posts = begin_each(alloc, tables, rack, board, owner, passes, &mut given);
     drop(given);
     posts
 }

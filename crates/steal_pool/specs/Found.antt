@@ -13,7 +13,7 @@ use Rattle.search_core.specs.Machine.{Node, Handled, at_its_path, begins, is_ful
 use Rattle.search_core.specs.Outcomes.{path_of, Searched}
 use Rattle.search_core.specs.Along.{is_root}
 use Rattle.node_ledger.specs.Gathered.{placed_entries}
-use Rattle.node_ends.specs.Work.{most_raises, IsLean, IsEarnest}
+use Rattle.node_work.specs.Work.{most_raises, IsLean, IsEarnest}
 use Rattle.steal_pool.specs.declared.found.Found.{Found}
 
 module _ (m : Voyage) where

@@ -16,9 +16,9 @@ use Rattle.search_core.specs.Searching.{IsPaid, Searching}
 use Rattle.node_racks.specs.declared.view.View.{View}
 use Rattle.node_racks.specs.Rule.{none_yet, offered_at}
 use Rattle.node_ledger.specs.Gathered.{placed}
-use Rattle.node_ends.specs.Work.{node_of}
-use Rattle.node_ends.specs.declared.worked.Worked.{Worked}
-use Rattle.node_ends.specs.declared.worked.Worked.TheVariants.{Closed, Branched, Full, NoMemory}
+use Rattle.node_work.specs.Work.{node_of}
+use Rattle.node_work.specs.declared.worked.Worked.{Worked}
+use Rattle.node_work.specs.declared.worked.Worked.TheVariants.{Closed, Branched, Full, NoMemory}
 use Rattle.steal_pool.specs.declared.found.Found.{Found}
 use Rattle.steal_pool.specs.declared.opens.Open.{Open}
 use Rattle.steal_pool.specs.declared.opens.Open.TheVariants.{Half}

@@ -9,7 +9,7 @@ returns-then-is_none-clause-job g c =
     let before = c.args.job.now in
     let node = c.in-Some.node in
     let took = c.in-Some.ensures.took in
-    let j : Job g.row.M.Denot g.row.S.Denot = record before { pass = c.get.new.pass; aside = c.get.new.aside } in
+    let j : Job g.row.M.Denot = record before { pass = c.get.new.pass; aside = c.get.new.aside } in
     let view : c.draw.new.seat.view ≡ one_over before.seat.view = search rules in
     let left : c.push.new.self ≡ before.deeds.left ++ node.path ∷ [] = search rules in
     left_it g.M.Wanted.meets c.args.rack.now c.args.board.now before.desk j _ node

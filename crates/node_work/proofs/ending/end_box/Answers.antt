@@ -7,7 +7,7 @@ use Rattle.certificate.specs.declared.tree.Record.{Record}
 use Rattle.zero_one_rows.specs.Tightening.{IsQuiet}
 use Rattle.base_matrix.specs.Tightening.{Tightens}
 use Rattle.node_work.specs.Starts.{IsTight, HasSteps, IsAfterSteps}
-use Rattle.node_ends.specs.Work.{EndsClosed, Works}
+use Rattle.node_work.specs.Work.{EndsClosed, Works}
 use Rattle.node_work.proofs.Ends.{is_tight, violated_ends, after_steps}
 use Rattle.node_work.proofs.Trails.{pending}
 use Rattle.node_work.proofs.ending.end_box.Goals as goal

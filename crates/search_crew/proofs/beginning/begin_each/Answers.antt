@@ -15,11 +15,10 @@ loop-pass-preserved g c =
     let q = c.in_ok-push.ensures.items in
     record {
       maker = t.maker;
-      given = t.given;
       made = omega (arith, i.made, t.made, ap length e);
       passes = (subst (Every (IsPassAt c.args.rack.now)) e i.passes).1;
       fresh = (subst (Every IsFresh) e i.fresh).1;
-      posts = subst (Every (IsPosted g.M.Wanted.meets c.args.rack.now c.args.board.now c.args.like.now)) (sym q)
-          (every_append (IsPosted g.M.Wanted.meets c.args.rack.now c.args.board.now c.args.like.now) c.loop-pass.posts.items _ i.posts (t.post, tt));
+      posts = subst (Every (IsPosted g.M.Wanted.meets c.args.rack.now c.args.board.now c.args.tables.now)) (sym q)
+          (every_append (IsPosted g.M.Wanted.meets c.args.rack.now c.args.board.now c.args.tables.now) c.loop-pass.posts.items _ i.posts (t.post, tt));
       numbers = numbers_more c.loop-pass.posts.items _ c.in_ok-post.post c.loop-pass.pass-iterator.rest.items rest c.in-Some.pass _ q e t.number i.numbers;
     }

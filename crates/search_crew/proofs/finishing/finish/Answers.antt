@@ -4,7 +4,7 @@ use Rattle.search_crew.proofs.Rests.{rest_starts}
 use Rattle.search_crew.proofs.finishing.finish.Goals as goal
 
 pub finish_rest-requires-clause-rest : goal.finish_rest-requires-clause-rest
-finish_rest-requires-clause-rest g c κs within =
+finish_rest-requires-clause-rest g c =
     ((λ h. weigh (on_nodes c.args.desk.now h) c.args.todo.items), rest_starts c.args.desk.now c.args.board.now.start c.args.seat.now.view c.none.result c.args.todo.items c.requires.view c.none.ensures c.requires.nodes)
 
 pub returns-in-Ok-clause-done : goal.returns-in-Ok-clause-done

@@ -15,8 +15,8 @@ use Rattle.search_core.specs.Machine.{begins, IsTrail, is_full, price}
 use Rattle.search_core.specs.Machine as machine
 use Rattle.zero_one_rows.specs.Tightening.{IsQuiet, ForceAll}
 use Rattle.certificate.specs.Stuck.{IsStuck}
-use Rattle.node_ends.specs.declared.worked.Worked.{Worked}
-use Rattle.node_ends.specs.declared.worked.Worked.TheVariants.{Closed, Branched, Full, NoMemory}
+use Rattle.node_work.specs.declared.worked.Worked.{Worked}
+use Rattle.node_work.specs.declared.worked.Worked.TheVariants.{Closed, Branched, Full, NoMemory}
 
 abbrev pub is_root : Path → Bool
 is_root [] = true
