@@ -6,8 +6,8 @@ where the crate was checked before takes that check over).
     bench/gate.py [--at-once N] [--into FILE] [NAME..]
     bench/gate.py --watch [--into FILE] [NAME..]
 
-NAME is a crate as crates.txt has it; with none, all crates are measured. Every figure is user and system time of a run of `rt`
-with one job and from nothing, as the gate proves: `rt check`, `rt check --test`, `rt must-fail` (with `--anew`, which kits
+NAME is a crate as crates.txt has it; with none, all crates are measured. Every figure is user and system time of the prover's processes
+in a run of `rt` with one job and from nothing, as the gate proves, looked at twice a second: `rt check`, `rt check --test`, `rt must-fail` (with `--anew`, which kits
 that keep nothing pass over). All is done on copies in a temporary folder, so no out/ of the checkout is read or changed; the
 libraries below a crate are built first, and aren't counted. The table is sorted by the whole cost of a crate; below it stand the
 sums and the chain of crates whose proofs, one after the other, take longest.
