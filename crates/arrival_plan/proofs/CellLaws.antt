@@ -14,7 +14,7 @@ use Rattle.stow_data.proofs.Listed.{place_from}
 use Rattle.stow_data.proofs.Members.{Member, range_at, range_from}
 use Rattle.stow_data.proofs.PlanLookups.{held_is, is_held, is_place, place_is}
 use Rattle.stowage_rules.specs.Plan.{Fills}
-use Rattle.stowage_rules.specs.Departure.{meets}
+use Rattle.stow_data.specs.Near.{meets}
 use Rattle.stowage_rules.proofs.PlansHold.{meeting_half, meets_from}
 use Rattle.arrival_plan.specs.Cells.{IsTakenOn, cell_of, is_same_cell, is_taken, place_of}
 

@@ -5,7 +5,7 @@ use Rattle.std.specs.Str.{bytes_eq}
 use Rattle.stow_data.specs.declared.geometry.Place.{Place}
 use Rattle.stow_data.specs.Ship.{Ship, TakesSide, half_at, number_in, places}
 use Rattle.stow_data.specs.Plans.{Plan, held, no_stack, place_at, place_numbers}
-use Rattle.stowage_rules.specs.Departure.{meets}
+use Rattle.stow_data.specs.Near.{meets}
 use Rattle.stowage_rules.specs.Places.{IsTaken}
 
 -- bay, row and tier number of a place

@@ -1,13 +1,7 @@
 pub mod Summing
-pub mod Landing
-pub mod Freeing
-pub mod Walking
 pub mod Rows
-pub mod Steps
-pub mod Falling
-pub mod Calming
-pub mod Ones
-pub mod Idle
+pub mod BaseFirst
+pub mod GreatestValues
 mod Dividing
 mod There
 mod Numbered
@@ -20,4 +14,8 @@ mod MatrixLaws
 mod PartNumbers
 mod PlusRows
 mod Splitting
-pub mod Stepping
+mod Stepping
+pub mod Counts
+mod LeastLosses
+pub mod Moving
+mod Loosely

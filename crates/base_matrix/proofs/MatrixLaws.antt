@@ -7,8 +7,8 @@ use Rattle.stow_data.specs.Shipment.{IsCargo}
 use Rattle.zero_one_rows.specs.Variables.{Voyage, variables}
 use Rattle.zero_one_rows.specs.Ranges.{HasSmallCoefficients}
 use Rattle.zero_one_rows.specs.Rows.{whole, is_base, has}
-use Rattle.program_rows.specs.Counted.{base_rows}
-use Rattle.program_rows.specs.Ordered.{ListsBaseRows}
+use Rattle.zero_one_rows.specs.Counted.{base_rows}
+use Rattle.zero_one_rows.specs.Ordered.{ListsBaseRows}
 use Rattle.sum_matrix.specs.declared.numbering.Numbering.{Numbering}
 use Rattle.sum_matrix.specs.Numbers.{numbers}
 use Rattle.sum_matrix.specs.Held.{stands}

@@ -3,7 +3,7 @@ use Rattle.std.proofs.Common.{◌≡◌, ℕ, ◌<◌, false, List, [], length, 
 use Rattle.std.specs.Prelude.{slice_index_or}
 use Rattle.zero_one_rows.specs.Variables.{Voyage, variables}
 use Rattle.zero_one_rows.specs.Rows.{whole}
-use Rattle.program_rows.specs.Ordered.{ListsBaseRows}
+use Rattle.zero_one_rows.specs.Ordered.{ListsBaseRows}
 use Rattle.sum_matrix.specs.declared.numbering.Numbering.{Numbering}
 use Rattle.base_matrix.specs.Terms.{count, row_at}
 use Rattle.base_matrix.specs.Parted.{AreRowSums, AreSumsOf}

@@ -7,6 +7,7 @@ use borrow.Author.Differences.{ints}
 use Rattle.std.proofs.lemmas.Bool.Decides.{eqb_tells, nat_tests}
 use Rattle.std.proofs.lemmas.List.{get_or-take, length-take}
 use Rattle.std.proofs.lemmas.List.Folds.{list_any_none, list_any_more}
+use Rattle.std.proofs.lemmas.Grind.{common_steps}
 use Rattle.proof_trees.specs.Program.{sum_to, where_set}
 
 pub same_or_other : (a b : ℕ) → (a ≡ b) ⊎ (a ≢ b)
@@ -59,6 +60,9 @@ pub get_or_any : {X : Type 0} (xs : List X) (i : ℕ) (d e : X) → i < length x
 get_or_any [] i d e lt = absurd (omega arith)
 get_or_any (y ∷ xs) zero d e lt = refl
 get_or_any (y ∷ xs) (suc i) d e lt = get_or_any xs i d e (omega arith)
+
+pub all_taken : {X : Type 0} (xs : List X) (k : ℕ) → length xs ≤ k → take k xs ≡ xs
+all_taken xs k le = grind (arith, common_steps)
 
 pub any_here : (xs : List ℕ) (i v : ℕ) → i < length xs → v ≡ get_or xs i 0 → list_any (nat_eq v) (take (i + 1) xs) ≡ true
 any_here xs i v lt same = list_any_more (nat_eq v) xs i 0 lt ∙ ap (λ (b : Bool). list_any (nat_eq v) (take i xs) || b) (ap (λ (w : ℕ). nat_eq v w) (sym same) ∙ equal v) ∙ or_true (list_any (nat_eq v) (take i xs))

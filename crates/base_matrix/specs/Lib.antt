@@ -1,9 +1,3 @@
-pub mod Fixing
-pub mod Forced
-pub mod Full
-pub mod Packing
-pub mod Stopping
-pub mod Tightening
 pub mod Terms
 pub mod Parted
 pub mod Counted
@@ -11,3 +5,8 @@ pub mod Margins
 pub mod Signed
 pub mod Written
 pub mod Built
+pub mod Waiting
+pub mod Following
+pub mod Loose
+pub mod LooseRule
+pub mod Leaning

@@ -9,7 +9,7 @@ use Rattle.zero_one_rows.specs.declared.program.Row.{Row}
 use Rattle.zero_one_rows.specs.declared.program.Row.TheVariants.{Cell}
 use Rattle.zero_one_rows.specs.Variables.{Voyage, variables}
 use Rattle.zero_one_rows.specs.Rows.{whole}
-use Rattle.program_rows.specs.Counted.{base_rows}
+use Rattle.zero_one_rows.specs.Counted.{base_rows}
 use Rattle.base_matrix.specs.declared.entries.Term.{Term}
 use Rattle.base_matrix.specs.declared.entries.Loss.{Loss}
 use Rattle.base_matrix.specs.declared.entries.Share.{Share}

@@ -1,11 +1,10 @@
 //! The base rows by their numbers.
 ghost use Rattle.std.specs.Prelude.{◌≡◌, ◌<◌, Some, length, slice_get, true};
 ghost use Rattle.zero_one_rows.specs.Rows.{base, whole};
-ghost use Rattle.program_rows.specs.Counted.{base_rows};
+ghost use Rattle.zero_one_rows.specs.Counted.{base_rows};
 
-use program_rows::rows_are_listed;
 use zero_one_model::Model;
-use zero_one_rows::Row;
+use zero_one_rows::{Row, rows_are_listed};
 
 /// The base row with so many base rows before it.
 pub fn base_row(model: &Model, k: u64) -> Row

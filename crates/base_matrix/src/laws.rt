@@ -3,13 +3,12 @@ ghost use Rattle.stow_data.specs.Profile.{IsShip};
 ghost use Rattle.stow_data.specs.Shipment.{IsCargo};
 ghost use Rattle.zero_one_rows.specs.Listed.{ListsVariables};
 ghost use Rattle.zero_one_rows.specs.Ranges.{NamesWhatIsThere, HasSmallCoefficients, HasSmallRightSides};
-ghost use Rattle.program_rows.specs.Ordered.{ListsBaseRows};
+ghost use Rattle.zero_one_rows.specs.Ordered.{ListsBaseRows};
 ghost use Rattle.sum_matrix.specs.Laws.{HasParts, AreSums, ShareNone};
 
-use program_rows::rows_are_listed;
 use sum_matrix::rows_are_sums;
 use zero_one_model::Model;
-use zero_one_rows::{rows_are_in_range, variables_stand_once};
+use zero_one_rows::{rows_are_in_range, rows_are_listed, variables_stand_once};
 
 /// The laws that the matrix stands on. They cost nothing when they run.
 pub(crate) fn rows_obey_laws(model: &Model)

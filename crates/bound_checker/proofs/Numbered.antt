@@ -4,7 +4,7 @@ use Rattle.std.proofs.lemmas.Bool.Decides.{nat_tests}
 use Rattle.std.proofs.lemmas.List.Sums.{position_or_len_is}
 use Rattle.zero_one_rows.specs.declared.program.Var.{Var}
 use Rattle.zero_one_rows.specs.Variables.{Voyage, variables, var, no_var}
-use Rattle.program_rows.proofs.Rising.{rising_get}
+use Rattle.zero_one_rows.proofs.Rising.{rising_get}
 use Rattle.zero_one_model.proofs.Rising.{Precedes, by_put, by_kind, by_lifted, by_place, variables_rise}
 use Rattle.certificate.specs.Entries.{same_var, number_of}
 

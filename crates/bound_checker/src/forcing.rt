@@ -5,11 +5,11 @@ ghost use Rattle.zero_one_rows.specs.Variables.{variables};
 ghost use Rattle.zero_one_rows.specs.Rows.{whole};
 ghost use Rattle.base_matrix.specs.Terms.{AreTerms};
 ghost use Rattle.dual_bound.specs.Costs.{IsListed};
-ghost use Rattle.base_matrix.specs.Fixing.{Fixes};
-ghost use Rattle.base_matrix.specs.Forced.{stepped};
+ghost use Rattle.kept_box.specs.Fixing.{Fixes};
+ghost use Rattle.kept_box.specs.Forced.{stepped};
 
-use base_matrix::UndoList;
 use dual_bound::{Listed, Term};
+use kept_box::UndoList;
 use stow_data::NoMemory;
 use zero_one_model::{Box01, Model};
 use zero_one_rows::Row;
@@ -65,7 +65,7 @@ fn slack_of(model: &Model, b: &Box01, listed: Listed) -> i128
     most_of(model, b, listed.row, listed.terms) - listed.right as i128
 }
 
-#[tactic(auto, using(std::proofs::lemmas::Option::get_or_from_slice_get, base_matrix::proofs::Walking::not_stepped, base_matrix::proofs::Freeing::noted_none))]
+#[tactic(auto, using(std::proofs::lemmas::Option::get_or_from_slice_get, kept_box::proofs::Walking::not_stepped, kept_box::proofs::Freeing::noted_none))]
 // Fixes a term's variable where its row with this slack forces it, and notes it.
 fn note_one(b: &mut Box01, undo: &mut UndoList, slack: i128, term: Term) -> Result<(), NoMemory>
     requires { term.at < length b.old }
@@ -103,7 +103,7 @@ fn note_all(
     Ok(())
 }
 
-#[tactic(auto, using(base_matrix::proofs::Landing::tight_violated, base_matrix::proofs::Freeing::noted_none))]
+#[tactic(auto, using(kept_box::proofs::Landing::tight_violated, kept_box::proofs::Freeing::noted_none))]
 /// Fixes all variables that a row forces, at once, and notes what was fixed; a violated row fixes nothing. It takes the time of the row's terms.
 pub fn tighten_listed(
     model: &Model,

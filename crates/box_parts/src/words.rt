@@ -2,8 +2,8 @@
 ghost use Rattle.std.specs.Prelude.{◌≡◌, length};
 ghost use Rattle.zero_one_rows.specs.Variables.{variables};
 
-use base_matrix::Tightened;
 use itoa::{Buffer, Integer};
+use kept_box::Tightened;
 use stow_data::{Bytes, NoMemory, VarNo};
 use zero_one_model::{Box01, Model};
 

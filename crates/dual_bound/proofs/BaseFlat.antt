@@ -5,8 +5,8 @@ use borrow.Author.Differences.{ints}
 use Rattle.zero_one_rows.specs.declared.program.Row.{Row}
 use Rattle.zero_one_rows.specs.Variables.{Voyage}
 use Rattle.zero_one_rows.specs.Rows.{whole, is_base}
-use Rattle.program_rows.specs.Counted.{row_lists, base_rows, all_rows, base_in, rows_in, cross_rows}
-use Rattle.program_rows.proofs.EveryRow.{base_listed}
+use Rattle.zero_one_rows.specs.Counted.{row_lists, base_rows, all_rows, base_in, rows_in, cross_rows}
+use Rattle.zero_one_rows.proofs.EveryRow.{base_listed}
 use Rattle.proof_trees.specs.Boxes.{Box}
 use Rattle.proof_trees.specs.Multipliers.{Multipliers}
 use Rattle.dual_bound.specs.declared.costs.Costs.{Costs}

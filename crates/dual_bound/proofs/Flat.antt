@@ -7,8 +7,8 @@ use Rattle.stow_data.proofs.Members.{Member}
 use Rattle.zero_one_rows.specs.declared.program.Row.{Row}
 use Rattle.zero_one_rows.specs.Variables.{Voyage}
 use Rattle.zero_one_rows.specs.Rows.{whole}
-use Rattle.program_rows.specs.Counted.{all_rows}
-use Rattle.program_rows.proofs.EveryRow.{row_listed}
+use Rattle.zero_one_rows.specs.Counted.{all_rows}
+use Rattle.zero_one_rows.proofs.EveryRow.{row_listed}
 use Rattle.proof_trees.specs.Boxes.{Box}
 use Rattle.proof_trees.specs.Multipliers.{Multipliers, worth, amount_of}
 use Rattle.certificate.specs.Entries.{same_row}

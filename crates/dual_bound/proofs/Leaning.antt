@@ -5,11 +5,11 @@ use borrow.Author.Differences.{ints}
 use Rattle.zero_one_rows.specs.declared.program.Row.{Row}
 use Rattle.zero_one_rows.specs.Variables.{Voyage, variables}
 use Rattle.zero_one_rows.specs.Rows.{whole}
-use Rattle.program_rows.specs.Counted.{row_lists, base_rows, all_rows, base_in, rows_in, cross_rows}
+use Rattle.zero_one_rows.specs.Counted.{row_lists, base_rows, all_rows, base_in, rows_in, cross_rows}
 use Rattle.proof_trees.specs.Program.{sum_to}
 use Rattle.proof_trees.specs.Boxes.{Box, at, greatest, most, violated}
 use Rattle.proof_trees.specs.Multipliers.{Multipliers}
-use Rattle.kept_box.specs.Leaning.{cheaper, Leans}
+use Rattle.base_matrix.specs.Leaning.{cheaper, Leans}
 use Rattle.dual_bound.specs.declared.costs.Costs.{Costs}
 use Rattle.chain_gains.specs.Gaps.{number_at, gap}
 use Rattle.dual_bound.specs.Costs.{Priced, gaps_of}

@@ -6,7 +6,7 @@ use Rattle.std.proofs.lemmas.List.{get_or-set_same, get_or-set_other}
 use Rattle.zero_one_rows.specs.declared.program.Row.{Row}
 use Rattle.zero_one_rows.specs.Variables.{Voyage, variables, var, is_rehandled}
 use Rattle.zero_one_rows.specs.Rows.{whole, bit}
-use Rattle.program_rows.specs.Counted.{all_rows}
+use Rattle.zero_one_rows.specs.Counted.{all_rows}
 use Rattle.proof_trees.specs.Program.{sum_to}
 use Rattle.proof_trees.specs.Boxes.{Box, at}
 use Rattle.proof_trees.specs.Multipliers.{Multipliers, least, weighed, weighed_rhs, worth, amount_of, with_amount}

@@ -3,8 +3,8 @@ use Rattle.std.proofs.Common.{◌≡◌, ◌+◌, ◌≤◌, true, false, List, 
 use Rattle.stow_data.proofs.Members.{Member}
 use Rattle.zero_one_rows.specs.declared.program.Row.{Row}
 use Rattle.zero_one_rows.specs.Variables.{Voyage}
-use Rattle.program_rows.specs.Counted.{all_rows}
-use Rattle.program_rows.proofs.EveryRow.{row_listed}
+use Rattle.zero_one_rows.specs.Counted.{all_rows}
+use Rattle.zero_one_rows.proofs.EveryRow.{row_listed}
 use Rattle.proof_trees.specs.Multipliers.{Multipliers}
 use Rattle.certificate.specs.Entries.{same_row}
 use Rattle.dual_bound.specs.Raising.{Lacks, AreMultipliers}

@@ -13,7 +13,7 @@ use crate::costs::Costs;
 use crate::multipliers::{AddNo, Multipliers};
 use crate::raising::{Raised, raise_kept};
 use crate::table::RowTable;
-use kept_box::{BaseMatrix, LooseBox};
+use base_matrix::{BaseMatrix, LooseBox};
 use std::alloc::Global;
 use stow_data::{NoMemory, VarNo};
 use zero_one_model::{Box01, Model};

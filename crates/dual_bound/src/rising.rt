@@ -4,7 +4,7 @@ ghost use Rattle.proof_trees.specs.Multipliers.{Multipliers as Prices, worth};
 ghost use Rattle.zero_one_rows.specs.Variables.{variables};
 ghost use Rattle.zero_one_rows.specs.declared.program.Row.{Row as Rows};
 ghost use Rattle.zero_one_rows.specs.Rows.{whole};
-ghost use Rattle.program_rows.specs.Counted.{all_rows};
+ghost use Rattle.zero_one_rows.specs.Counted.{all_rows};
 ghost use Rattle.dual_bound.specs.Costs.{IsListed, Priced, PricedSome};
 ghost use Rattle.dual_bound.specs.Rising.{raised_by, IsFlat, RisesBy, Rises};
 

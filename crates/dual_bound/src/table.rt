@@ -1,7 +1,7 @@
 //! The terms of a program's rows, kept.
 ghost use Rattle.std.specs.Prelude.{◌≡◌, ◌+◌, ◌<◌, ◌≤◌, length, slice_get, Some, OnOk, IfSome};
 ghost use Rattle.zero_one_rows.specs.declared.program.Row.{Row as Rows};
-ghost use Rattle.program_rows.specs.Counted.{all_rows, base_rows};
+ghost use Rattle.zero_one_rows.specs.Counted.{all_rows, base_rows};
 ghost use Rattle.base_matrix.specs.Terms.{count, AreTerms};
 ghost use Rattle.dual_bound.specs.Costs.{IsListed};
 ghost use Rattle.dual_bound.specs.Kept.{AreRights, AreCrossing};

@@ -10,7 +10,7 @@ use Rattle.stow_data.specs.Ship.{Ship, places, Fits, FitsAt, LiesUnder}
 use Rattle.stow_data.specs.Shipment.{Cargo}
 use Rattle.stow_data.specs.Plans.{Plan}
 use Rattle.stowage_rules.specs.Plan.{Stands}
-use Rattle.stowage_rules.specs.Departure.{near}
+use Rattle.stow_data.specs.Near.{near}
 use Rattle.voyage_meaning.specs.Moves.{IsBare}
 use Rattle.greedy_loader.specs.Kept.{AreLaden}
 use Rattle.greedy_loader.specs.Rule.{AreSeparated, IsApartBy, IsOpen, IsOpenAt}

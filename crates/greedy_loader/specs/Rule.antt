@@ -9,7 +9,8 @@ use Rattle.stow_data.specs.Ship.{Ship, places, Fits, LiesUnder, StandsOn}
 use Rattle.stow_data.specs.Shipment.{Cargo}
 use Rattle.stow_data.specs.Plans.{Plan}
 use Rattle.stowage_rules.specs.Plan.{Stands}
-use Rattle.stowage_rules.specs.Departure.{stack_weight, near, has_column_in_common}
+use Rattle.stow_data.specs.Near.{near, has_column_in_common}
+use Rattle.stowage_rules.specs.Departure.{stack_weight}
 use Rattle.stowage_rules.specs.Faults.{IsLeast}
 use Rattle.voyage_meaning.specs.Moves.{IsBare}
 use Rattle.greedy_loader.specs.Sides.{IsEmptyOn, IsBorneOn}

@@ -1,7 +1,7 @@
 //! Whether a place is clean for a destination.
 ghost use Rattle.std.specs.Prelude.{◌≡◌, ◌↔◌, ◌<◌, ◌≤◌, ℕ, IsTrue, Some, length, slice_get};
 ghost use Rattle.stow_data.specs.Ship.{places, StandsOn};
-ghost use Rattle.stowage_rules.specs.Departure.{has_column_in_common};
+ghost use Rattle.stow_data.specs.Near.{has_column_in_common};
 ghost use Rattle.greedy_loader.specs.Rule.{IsClean, IsCleanAt, IsLowerThan, NoneEarlierAt, NoneEarlierUnder};
 ghost use Rattle.greedy_loader.specs.Kept.{IsKept};
 

@@ -11,8 +11,7 @@ ghost use Rattle.greedy_loader.specs.Kept.{IsKept};
 
 use crate::halves::{is_borne, is_empty};
 use crate::layout::Layout;
-use stow_data::{Cargo, Container, Name, Place, PlaceNo, Plan, Separation, Ship, StackNo};
-use stowage_rules::is_near;
+use stow_data::{Cargo, Container, Name, Place, PlaceNo, Plan, Separation, Ship, StackNo, is_near};
 
 /// Whether the stack of a place stays within its limit with one container more.
 fn is_within(ship: &Ship, cargo: &Cargo, layout: &Layout, x: &Container, place: &Place) -> bool

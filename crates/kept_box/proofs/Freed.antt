@@ -1,7 +1,7 @@
 -- What is free where variables were fixed was free before.
 use Rattle.std.proofs.Common.{◌≡◌, ℕ, zero, suc, List, [], ◌∷◌, None, set, refl, sym, ◌∙◌, ap}
 use Rattle.proof_trees.specs.Boxes.{Box, at}
-use Rattle.base_matrix.specs.Fixing.{freed, Fixes}
+use Rattle.kept_box.specs.Fixing.{freed, Fixes}
 
 set_none : (b : Box) (w v : ℕ) → at b v ≡ None → at (set b w None) v ≡ None
 set_none [] w v e = refl

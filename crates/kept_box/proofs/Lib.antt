@@ -1,7 +1,12 @@
-pub mod Counts
-pub mod Losing
-pub mod Moving
-pub mod Trails
-pub mod Looks
-mod Loosely
+pub mod Landing
+pub mod Freeing
+pub mod Walking
+mod Steps
+mod Falling
+mod Calming
+mod Ones
+mod Idle
+mod CalmRows
+mod Trails
+mod Looks
 mod Freed

@@ -9,20 +9,21 @@ use Rattle.proof_trees.specs.Boxes.{Box, at, tight, tight_at, violated}
 use Rattle.zero_one_rows.specs.declared.program.Row.{Row}
 use Rattle.zero_one_rows.specs.Variables.{Voyage, variables}
 use Rattle.zero_one_rows.specs.Rows.{whole}
-use Rattle.base_matrix.specs.Fixing.{free_in}
-use Rattle.base_matrix.specs.Forced.{forces, is_above}
+use Rattle.kept_box.specs.Fixing.{free_in}
+use Rattle.kept_box.specs.Forced.{forces, is_above}
 use Rattle.base_matrix.proofs.Summing.{same_or_other, unequal}
-use Rattle.base_matrix.proofs.Landing.{broken_is, landed, met_is, tight_by, tight_landed}
-use Rattle.base_matrix.proofs.Walking.{Partly, listed_all}
+use Rattle.kept_box.proofs.Landing.{broken_is, landed, met_is, tight_by, tight_landed}
+use Rattle.kept_box.proofs.Walking.{Partly, listed_all}
 use Rattle.base_matrix.specs.declared.entries.Term.{Term}
-use Rattle.kept_box.specs.declared.slacks.Slacks.{Slacks}
+use Rattle.base_matrix.specs.declared.slacks.Slacks.{Slacks}
 use Rattle.kept_box.specs.declared.desk.Desk.{Desk}
 use Rattle.base_matrix.specs.Terms.{count, row_at, slack_in, vars_in, AreTerms}
-use Rattle.kept_box.specs.Waiting.{number_at, waits_at, waiting_in}
-use Rattle.kept_box.specs.Desk.{CalmAt, Holds, IsWide, Marks, Rests, work}
+use Rattle.base_matrix.specs.Waiting.{number_at, waits_at, waiting_in}
+use Rattle.base_matrix.specs.Following.{Holds, IsWide, Marks}
+use Rattle.kept_box.specs.Desk.{CalmAt, Rests, work}
 use Rattle.kept_box.specs.Looking.{AnyForced, NoneForced}
-use Rattle.kept_box.proofs.Counts.{waiting_most, waiting_set}
-use Rattle.kept_box.proofs.Moving.{wide_calm}
+use Rattle.base_matrix.proofs.Counts.{waiting_most, waiting_set}
+use Rattle.kept_box.proofs.CalmRows.{wide_calm}
 
 -- ## The terms of a row
 

@@ -6,10 +6,10 @@ use Rattle.std.proofs.lemmas.List.{drop-append-le, get_or-set_same, get_or-set_o
 use Rattle.std.proofs.lemmas.List.Elements.{All-append, All-cons, All-nil}
 use Rattle.proof_trees.specs.Boxes.{Box, at, fixed}
 use Rattle.zero_one_rows.specs.Variables.{Voyage}
-use Rattle.base_matrix.specs.Fixing.{freed, free_in, released}
+use Rattle.kept_box.specs.Fixing.{freed, free_in, released}
 use Rattle.zero_one_rows.specs.Tightening.{IsQuiet}
 use Rattle.base_matrix.proofs.Summing.{same_or_other}
-use Rattle.base_matrix.proofs.Freeing.{fixed_back, freed_more, release_one}
+use Rattle.kept_box.proofs.Freeing.{fixed_back, freed_more, release_one}
 use Rattle.kept_box.specs.declared.desk.Desk.{Desk}
 use Rattle.kept_box.specs.Desk.{Trails}
 

@@ -1,26 +1,20 @@
 -- What holds of the parts of a kept box. No public clause cites this module.
-use Rattle.std.specs.Prelude.{◌≡◌, ◌⊎◌, ℕ, ◌+◌, ◌*◌, ◌<◌, ◌≤◌, true, false, All, None, length, slice_index_or, vec_capacity, ℤ, pos, ◌≤ℤ◌}
-use Rattle.std.specs.Int.RustNames.{unsigned_abs}
+use Rattle.std.specs.Prelude.{◌≡◌, ℕ, ◌+◌, ◌*◌, ◌<◌, ◌≤◌, true, false, All, None, length, slice_index_or, vec_capacity, ℤ, pos, ◌≤ℤ◌}
 use Rattle.proof_trees.specs.Boxes.{Box, at}
 use Rattle.zero_one_rows.specs.Variables.{Voyage, variables}
 use Rattle.zero_one_rows.specs.Rows.{whole}
-use Rattle.base_matrix.specs.Fixing.{free_in, released}
-use Rattle.base_matrix.specs.Forced.{forces}
+use Rattle.kept_box.specs.Fixing.{free_in, released}
+use Rattle.kept_box.specs.Forced.{forces}
 use Rattle.zero_one_rows.specs.Tightening.{IsQuiet}
-use Rattle.kept_box.specs.declared.slacks.Slacks.{Slacks}
+use Rattle.base_matrix.specs.declared.slacks.Slacks.{Slacks}
 use Rattle.kept_box.specs.declared.desk.Desk.{Desk}
-use Rattle.base_matrix.specs.Terms.{count, row_at, slack_in}
-use Rattle.kept_box.specs.Waiting.{number_at, waits_at, waiting_in, IsShort}
+use Rattle.base_matrix.specs.Terms.{count, row_at}
+use Rattle.base_matrix.specs.Waiting.{number_at, waits_at, waiting_in}
+use Rattle.base_matrix.specs.Following.{Holds}
 
 -- what is still to be done
 abbrev pub work : Voyage → Desk → ℕ
 work m d = free_in d.b * (count m + 1) + waiting_in d.slacks.waits.items
-
--- each slack is the row's greatest value over the box less its right side
-pub record Holds (m : Voyage) (b : Box) (s : Slacks) : Type 0 where
-  pub whole : length b ≡ length (variables m)
-  pub short : IsShort s (count m)
-  pub slack : (k : ℕ) → k < count m → number_at s.slack.items k ≡ slack_in m b k
 
 -- what was fixed is of the box, and has room for all that is free; and where a place of the list is marked quiet, the box was quiet when the list was so long
 pub record Trails (m : Voyage) (d : Desk) : Type 0 where
@@ -42,11 +36,3 @@ pub record CalmAt (m : Voyage) (b : Box) (s : ℤ) (k : ℕ) : Type 0 where
 -- rows that don't wait are calm
 abbrev pub Rests : Voyage → Box → Slacks → Type 0
 Rests m b s = (k : ℕ) → k < count m → waits_at s.waits.items k ≡ false → CalmAt m b (number_at s.slack.items k) k
-
--- no coefficient of row k passes the number
-abbrev pub IsWide : Voyage → ℤ → ℕ → Type 0
-IsWide m s k = (v : ℕ) → v < length (variables m) → pos (unsigned_abs ((whole m).coef (row_at m k) v)) ≤ℤ s
-
--- a row that doesn't wait now didn't wait before, and its slack is the same, or one that no coefficient passes
-abbrev pub Marks : Voyage → Slacks → Slacks → Type 0
-Marks m old new = (k : ℕ) → k < count m → waits_at new.waits.items k ≡ false → (waits_at old.waits.items k ≡ false) × ((number_at new.slack.items k ≡ number_at old.slack.items k) ⊎ ((pos 0 ≤ℤ number_at new.slack.items k) × IsWide m (number_at new.slack.items k) k))

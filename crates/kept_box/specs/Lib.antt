@@ -1,8 +1,10 @@
-pub mod Waiting
+pub mod Fixing
+pub mod Forced
+pub mod Full
+pub mod Packing
+pub mod Stopping
+pub mod Tightening
 pub mod Desk
 pub mod Looking
 pub mod Kept
 pub mod Keeping
-pub mod Loose
-pub mod LooseRule
-pub mod Leaning

@@ -3,9 +3,9 @@ use Rattle.std.specs.Prelude.{◌≡◌, ℕ, ◌<◌, true, false, All, List, l
 use Rattle.proof_trees.specs.Boxes.{Box, at, violated}
 use Rattle.zero_one_rows.specs.Variables.{Voyage}
 use Rattle.zero_one_rows.specs.Rows.{base, whole}
-use Rattle.base_matrix.specs.declared.tightening.Tightened.{Tightened}
-use Rattle.base_matrix.specs.declared.tightening.Tightened.TheVariants.{Quiet, Violated, NoMemory}
-use Rattle.base_matrix.specs.Forced.{forces}
+use Rattle.kept_box.specs.declared.tightening.Tightened.{Tightened}
+use Rattle.kept_box.specs.declared.tightening.Tightened.TheVariants.{Quiet, Violated, NoMemory}
+use Rattle.kept_box.specs.Forced.{forces}
 use Rattle.zero_one_rows.specs.Tightening.{IsQuiet}
 use Rattle.base_matrix.specs.declared.entries.Term.{Term}
 

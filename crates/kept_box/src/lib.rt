@@ -1,12 +1,20 @@
-//! A box that is kept from node to node of a search: what it fixes can be taken back, and tightening looks only at rows that may force something.
+//! Boxes that are tightened by base rows until none forces anything, and taken back.
+//!
+//! Functions over a plain box look at a row, or at all base rows in turn. The box of a search is kept from node to node: what it fixes can be taken back, and tightening looks only at rows that may force something.
 #![tactic(auto)]
 
 mod desk;
+mod forcing;
+mod full;
 mod kept;
 mod looking;
-mod loose;
-mod slacks;
+mod packing;
+mod tightening;
+mod trail;
 
 pub use base_matrix::BaseMatrix;
+pub use forcing::{force, tighten_by, violates};
+pub use full::{breaks_none, cost_of};
 pub use kept::KeptBox;
-pub use loose::LooseBox;
+pub use tightening::{Tightened, tighten};
+pub use trail::{UndoList, undo};

@@ -4,21 +4,22 @@ ghost use Rattle.proof_trees.specs.Boxes.{at, tight, violated};
 ghost use Rattle.zero_one_rows.specs.declared.program.Row.{Row};
 ghost use Rattle.zero_one_rows.specs.Variables.{variables};
 ghost use Rattle.zero_one_rows.specs.Rows.{base, whole};
-ghost use Rattle.base_matrix.specs.Fixing.{Fixes};
-ghost use Rattle.base_matrix.specs.Forced.{forces, is_above, stepped};
+ghost use Rattle.kept_box.specs.Fixing.{Fixes};
+ghost use Rattle.kept_box.specs.Forced.{forces, is_above, stepped};
 ghost use Rattle.zero_one_rows.specs.Tightening.{IsQuiet};
-ghost use Rattle.base_matrix.specs.Tightening.{Tightens};
+ghost use Rattle.kept_box.specs.Tightening.{Tightens};
 ghost use Rattle.base_matrix.specs.Terms.{count, row_at, slack_in, AreTerms};
-ghost use Rattle.kept_box.specs.Waiting.{waits_at};
-ghost use Rattle.kept_box.specs.Desk.{IsDesk, IsWide, Marks, Rests, work};
+ghost use Rattle.base_matrix.specs.Waiting.{waits_at};
+ghost use Rattle.base_matrix.specs.Following.{IsWide, Marks};
+ghost use Rattle.kept_box.specs.Desk.{IsDesk, Rests, work};
 ghost use Rattle.kept_box.specs.Looking.{AnyForced, Ends, NoneForced};
 
 use crate::desk::Desk;
-use base_matrix::{BaseMatrix, Term, Tightened};
-use program_rows::rows_are_listed;
+use crate::tightening::Tightened;
+use base_matrix::{BaseMatrix, Term};
 use stow_data::NoMemory;
 use zero_one_model::Box01;
-use zero_one_rows::RowList;
+use zero_one_rows::{RowList, rows_are_listed};
 
 // Whether a row with this slack forces a variable that is free.
 fn is_forced(allowed: Option<bool>, slack: i64, by: i32) -> bool

@@ -19,8 +19,8 @@ fn reads_texts(rt: HostRuntime) -> Result<(), Fail> {
     }
     assert!(rt; length_of_type(b"22G1") == Some(Length::Twenty));
     assert!(rt; length_of_type(b"42G1") == Some(Length::Forty));
-    assert!(rt; length_of_type(b"L5G1") == None);
-    assert!(rt; length_of_type(b"") == None);
+    assert!(rt; length_of_type(b"L5G1").is_none());
+    assert!(rt; length_of_type(b"").is_none());
     assert_eq!(rt; read_count(b"000000017"), Some(17));
     assert_eq!(rt; read_count(b"0000000017"), None);
     assert_eq!(rt; read_count(b""), None);

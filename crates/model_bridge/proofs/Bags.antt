@@ -9,7 +9,7 @@ use borrow.Author.Differences.{ints}
 use Rattle.proof_trees.specs.Program.{sum_to, where_set}
 use Rattle.stow_data.proofs.Members.{Member, range-more, range_at}
 use Rattle.stow_data.proofs.Distinct.{Each, each_at, each_from}
-use Rattle.zero_one_rows.proofs.Listing.{filter_at, get_member, member_get}
+use Rattle.zero_one_rows.proofs.VariableList.{filter_at, get_member, member_get}
 use Rattle.model_bridge.proofs.Match.{total, total_append, picked, total_picked}
 use Rattle.model_bridge.proofs.Sums.{same_sum}
 use Rattle.model_bridge.proofs.Sorting.{Rising}

@@ -24,7 +24,7 @@ use Rattle.stow_data.specs.declared.kind_list.Kind.{Kind}
 use Rattle.zero_one_rows.specs.declared.program.Row.TheVariants.{Cell, Support, Twenty}
 use Rattle.model_bridge.proofs.Words.{shown_kind}
 use Rattle.stow_data.specs.Kinds.{kind_of}
-use Rattle.zero_one_rows.proofs.KindFacts.{same_length_is}
+use Rattle.crossing_law.proofs.KindFacts.{same_length_is}
 use Rattle.zero_one_rows.specs.Variables.{Voyage, variables, var, kind, place}
 use Rattle.model_bridge.proofs.Words.{container, has_length, fits, at_half}
 use Rattle.zero_one_rows.specs.Rows.{active, half, covers, below, occ, occ20, is_twenty, is_call, IsSolution, bit, less}

@@ -22,9 +22,9 @@ use Rattle.zero_one_rows.specs.declared.program.Row.{Row}
 use Rattle.zero_one_rows.specs.declared.program.Row.TheVariants.{Flow, Start, Cell, Support, Twenty, Block, Hatch, Weight, Apart, Cross}
 use Rattle.zero_one_rows.specs.Variables.{Voyage, variables, var, kind, calls}
 use Rattle.zero_one_rows.specs.Rows.{base, half, stack, cover_joins, has, is_base, rhs, coef, is_call, is_filled, IsSolution, bit}
-use Rattle.zero_one_rows.proofs.Listing.{var_listed}
-use Rattle.zero_one_rows.proofs.Worlds.{total_to}
-use Rattle.zero_one_rows.proofs.KindFacts.{total_front}
+use Rattle.zero_one_rows.proofs.VariableList.{var_listed}
+use Rattle.crossing_law.proofs.Worlds.{total_to}
+use Rattle.crossing_law.proofs.KindFacts.{total_front}
 use Rattle.model_bridge.specs.Laws.{IsProblem, Solves, EachVoyageSolves, IsCostBound, IsVoyageBound}
 use Rattle.model_bridge.proofs.Words.{container, kind_at, begun, loads_are, box_at}
 use Rattle.model_bridge.proofs.Stays.{IsSailed, assignment}

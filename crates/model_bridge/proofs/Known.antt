@@ -23,8 +23,8 @@ use Rattle.zero_one_rows.specs.Rows.{has, is_filled, IsSolution, bit}
 use Rattle.model_bridge.proofs.Calls.{Facts}
 use Rattle.model_bridge.specs.Laws.{IsProblem, Sails, EachSolutionSails}
 use Rattle.plan_lifts.proofs.Whole.{ship_is_divided, cargo_in_order}
-use Rattle.zero_one_rows.proofs.Arrivals.{arrived_is}
-use Rattle.zero_one_rows.proofs.Listing.{var_listed}
+use Rattle.crossing_law.proofs.Arrivals.{arrived_is}
+use Rattle.zero_one_rows.proofs.VariableList.{var_listed}
 use Rattle.model_bridge.proofs.Sums.{found, none_sum, no_term, below_two, same_sum}
 use Rattle.model_bridge.proofs.Carry.{IsCarried, pairs_now, shows_plan, held_plan}
 use Rattle.model_bridge.proofs.Voyage.{voyage_from, costs}

@@ -36,7 +36,7 @@ use Rattle.std.specs.Cmp.Lexicographic.{pointwise}
 use Rattle.std.proofs.lemmas.Cmp.{lists_equiv}
 use Rattle.stow_data.specs.declared.geometry.Span.{Span}
 use Rattle.stow_data.specs.declared.geometry.Span.TheVariants.{Fore, Aft, Both}
-use Rattle.stowage_rules.specs.Departure.{near, near_by, meets, has_column_in_common}
+use Rattle.stow_data.specs.Near.{near, near_by, meets, has_column_in_common}
 
 pub neg_where : (n : ℕ) (t : ℕ → Bool) (f g : ℕ → ℤ) → ((v : ℕ) → v < n → where_set (t v) (f v) ≡ pos 0 -ℤ g v) → sum_to n (λ v. where_set (t v) (f v)) ≡ pos 0 -ℤ sum_to n g
 neg_where zero t f g h = refl

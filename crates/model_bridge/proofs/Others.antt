@@ -22,7 +22,8 @@ use Rattle.zero_one_rows.specs.Rows.{active, occ20, occ_class, is_twenty, below,
 use Rattle.stow_data.specs.Plans.{no_stack, no_place}
 use Rattle.std.specs.Option.{option_eq}
 use Rattle.std.specs.Cmp.Lexicographic.{pointwise, same_text}
-use Rattle.stowage_rules.specs.Departure.{IsTwenty, near}
+use Rattle.stow_data.specs.Near.{near}
+use Rattle.stowage_rules.specs.Departure.{IsTwenty}
 use Rattle.model_bridge.proofs.Stays.{kept, assignment}
 use Rattle.model_bridge.proofs.Sums.{same_sum}
 use Rattle.model_bridge.proofs.Match.{total}

@@ -16,7 +16,7 @@ use Rattle.stow_data.specs.Plans.{no_container, no_place}
 use Rattle.zero_one_rows.specs.Rows.{active, is_filled}
 use Rattle.model_bridge.proofs.Stays.{kept, is_kind, passes, assigned, assignment}
 use Rattle.model_bridge.proofs.Sums.{any_from, any_at}
-use Rattle.zero_one_rows.proofs.Listing.{var_listed, var_number, var_once}
+use Rattle.zero_one_rows.proofs.VariableList.{var_listed, var_number, var_once}
 use Rattle.model_bridge.specs.Laws.{IsProblem}
 use Rattle.model_bridge.proofs.Stays.{IsSailed}
 use Rattle.model_bridge.proofs.Known.{facts, some_of, some_of_is, length_to, plug_to}

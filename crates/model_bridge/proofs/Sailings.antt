@@ -24,9 +24,9 @@ use Rattle.plan_lifts.proofs.Whole.{least_count}
 use Rattle.zero_one_rows.specs.declared.program.Var.{Var}
 use Rattle.zero_one_rows.specs.Variables.{Voyage, variables, var, calls}
 use Rattle.zero_one_rows.specs.Rows.{base, IsSolution, is_filled}
-use Rattle.zero_one_rows.proofs.Listing.{var_listed}
-use Rattle.zero_one_rows.proofs.Worlds.{total_to}
-use Rattle.zero_one_rows.proofs.KindFacts.{total_front}
+use Rattle.zero_one_rows.proofs.VariableList.{var_listed}
+use Rattle.crossing_law.proofs.Worlds.{total_to}
+use Rattle.crossing_law.proofs.KindFacts.{total_front}
 use Rattle.model_bridge.specs.Laws.{IsProblem}
 use Rattle.model_bridge.proofs.Words.{kind_at}
 use Rattle.model_bridge.proofs.Stays.{IsSailed, kept, is_kind, assignment}

@@ -25,8 +25,8 @@ use Rattle.proof_trees.specs.Program.{sum_to}
 use Rattle.zero_one_rows.specs.declared.program.Var.{Var}
 use Rattle.zero_one_rows.specs.Variables.{Voyage, all_kinds, kind, place}
 use Rattle.zero_one_rows.specs.Rows.{bit, covers, stack}
-use Rattle.zero_one_rows.proofs.Worlds.{one_if, count_to}
-use Rattle.zero_one_rows.proofs.KindFacts.{kind_alike, kind_first, loads_total, same_length_is}
+use Rattle.crossing_law.proofs.Worlds.{one_if, count_to}
+use Rattle.crossing_law.proofs.KindFacts.{kind_alike, kind_first, loads_total, same_length_is}
 
 -- a number below n passes
 abbrev pub any_below : ℕ → (ℕ → Bool) → Bool

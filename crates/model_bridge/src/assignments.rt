@@ -13,11 +13,12 @@ ghost use Rattle.model_bridge.specs.Assigned.{AreStays, BreaksNoRow, Costs, IsBo
 
 use crate::begins::{BeginTable, begin_table, plan_after};
 use crate::pairs::{KindList, box_kinds};
+use crossing_law::crossing_rows_hold;
 use plan_lifts::Lifted;
 use std::alloc::Global;
 use stow_data::{CallNo, Cargo, KindNo, NoMemory, PlaceNo, Plan, PlanList, Ship, VarNo};
 use zero_one_model::{Box01, Model};
-use zero_one_rows::{Var, crossing_rows_hold};
+use zero_one_rows::Var;
 
 /// Whether a container of the kind stands at a place.
 fn is_of_kind(kinds: &KindList, plan: &Plan, p: PlaceNo, kind: KindNo) -> bool

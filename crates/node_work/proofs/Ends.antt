@@ -13,8 +13,8 @@ use Rattle.zero_one_rows.specs.declared.program.Row.{Row}
 use Rattle.zero_one_rows.specs.declared.program.Raise.{Raise}
 use Rattle.zero_one_rows.specs.Variables.{Voyage, variables, var, calls, is_rehandled}
 use Rattle.zero_one_rows.specs.Rows.{whole, base, is_base, has, bit}
-use Rattle.program_rows.specs.Counted.{base_rows}
-use Rattle.program_rows.proofs.EveryRow.{lists_base_rows}
+use Rattle.zero_one_rows.specs.Counted.{base_rows}
+use Rattle.zero_one_rows.proofs.EveryRow.{lists_base_rows}
 use Rattle.proof_trees.specs.Program.{Program, cost_of}
 use Rattle.proof_trees.specs.Boxes.{Box, at, violated, tightened, AreRows}
 use Rattle.proof_trees.specs.Multipliers.{Multipliers, Closes, raised_all}
@@ -26,15 +26,15 @@ use Rattle.certificate.specs.declared.tree.Record.{Record}
 use Rattle.certificate.specs.Entries.{same_row, raise_of, entry_of, end_of, number_of}
 use Rattle.search_core.specs.Journals.{NamesRows, EndAllowed, Anything, known, branches, multipliers_after}
 use Rattle.search_core.specs.Machine.{Divides, is_fixed, fixed_below, breaks_none, is_full, nat_of, price}
-use Rattle.base_matrix.specs.Full.{ones}
+use Rattle.kept_box.specs.Full.{ones}
 use Rattle.zero_one_rows.specs.Tightening.{IsQuiet, ForceAll}
-use Rattle.base_matrix.specs.Tightening.{Tightens}
+use Rattle.kept_box.specs.Tightening.{Tightens}
 use Rattle.certificate.specs.Stuck.{IsStuck}
 use Rattle.dual_bound.specs.Raising.{IsRaise, RiseAll, Raises}
-use Rattle.node_work.specs.declared.worked.Worked.{Worked}
-use Rattle.node_work.specs.declared.worked.Worked.TheVariants.{Closed, Branched, Full, NoMemory}
+use Rattle.node_ends.specs.declared.worked.Worked.{Worked}
+use Rattle.node_ends.specs.declared.worked.Worked.TheVariants.{Closed, Branched, Full, NoMemory}
 use Rattle.node_work.specs.Starts.{IsTight, HasSteps, IsAfterSteps}
-use Rattle.node_work.specs.Work.{most_rehandles, EachRises, IsLean, IsEarnest, Ends, EndsClosed, EndsBranched, EndsFull}
+use Rattle.node_ends.specs.Work.{most_rehandles, EachRises, IsLean, IsEarnest, Ends, EndsClosed, EndsBranched, EndsFull}
 use Rattle.node_work.proofs.Folds.{default_any}
 use Rattle.node_work.proofs.Numbered.{number_is}
 use Rattle.node_work.proofs.Values.{and_right, full_closes, violated_closes}

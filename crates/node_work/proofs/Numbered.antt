@@ -4,7 +4,7 @@ use Rattle.std.proofs.lemmas.Bool.Decides.{nat_tests}
 use Rattle.std.proofs.lemmas.List.Sums.{position_or_len_is}
 use Rattle.zero_one_rows.specs.declared.program.Var.{Var}
 use Rattle.zero_one_rows.specs.Variables.{Voyage, variables, var, no_var}
-use Rattle.zero_one_rows.proofs.Listing.{var_once}
+use Rattle.zero_one_rows.proofs.VariableList.{var_once}
 use Rattle.certificate.specs.Entries.{same_var, number_of}
 
 both : (a b : Bool) → (a && b) ≡ true → (a ≡ true) × (b ≡ true)

@@ -7,8 +7,8 @@ use Rattle.proof_trees.specs.Boxes.{Box, free_box, tightened}
 use Rattle.certificate.specs.Entries.{end_of, number_of}
 use Rattle.search_core.specs.Journals.{divided}
 use Rattle.search_core.specs.Machine.{Divides}
-use Rattle.base_matrix.specs.Fixing.{freed, released, Fixes}
-use Rattle.base_matrix.proofs.Freeing.{fixes_none}
+use Rattle.kept_box.specs.Fixing.{freed, released, Fixes}
+use Rattle.kept_box.proofs.Freeing.{fixes_none}
 use Rattle.kept_box.specs.Kept.{Kept}
 use Rattle.node_work.specs.declared.stands.Frame.{Frame}
 use Rattle.node_work.specs.declared.stands.Stand.{Stand}

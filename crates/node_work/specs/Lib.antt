@@ -4,4 +4,4 @@ pub mod Desks
 pub mod Scales
 pub mod Stands
 pub mod Starts
-pub mod Work
+pub mod Solvers

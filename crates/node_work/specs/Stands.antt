@@ -7,7 +7,7 @@ use Rattle.certificate.specs.declared.tree.Record.{Record}
 use Rattle.certificate.specs.Entries.{end_of, number_of}
 use Rattle.search_core.specs.Journals.{divided}
 use Rattle.search_core.specs.Machine.{Divides}
-use Rattle.base_matrix.specs.Fixing.{released}
+use Rattle.kept_box.specs.Fixing.{released}
 use Rattle.node_work.specs.declared.stands.Frame.{Frame}
 use Rattle.node_work.specs.declared.stands.Stand.{Stand}
 

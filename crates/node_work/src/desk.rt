@@ -3,15 +3,15 @@ ghost use Rattle.std.specs.Prelude.{◌≡◌, ◌≤◌, ◌+◌, IfOk};
 ghost use Rattle.stow_data.specs.Shipment.{IsCargo};
 ghost use Rattle.node_work.specs.Scales.{IsScale};
 ghost use Rattle.node_work.specs.Stands.{IsStand};
-ghost use Rattle.node_work.specs.Work.{IsNode, begins_at, most_at, most_rehandles, Works};
+ghost use Rattle.node_ends.specs.Work.{IsNode, begins_at, most_at, most_rehandles, Works};
 
 use crate::scale::Scale;
 use crate::stands::Stand;
 use crate::tables::Tables;
-use crate::worked::Worked;
 use crate::working::{most_raises, runs_at};
 use certificate::Node;
 use dual_bound::RowTable;
+use node_ends::Worked;
 use std::alloc::Global;
 use std::marker;
 use stow_data::NoMemory;

@@ -4,25 +4,23 @@ ghost use Rattle.stow_data.specs.Shipment.{IsCargo};
 ghost use Rattle.proof_trees.specs.Trees.{Pending};
 ghost use Rattle.zero_one_rows.specs.declared.program.Row.{Row as Rows};
 ghost use Rattle.zero_one_rows.specs.Variables.{variables};
-ghost use Rattle.base_matrix.specs.Fixing.{Fixes};
+ghost use Rattle.kept_box.specs.Fixing.{Fixes};
 ghost use Rattle.zero_one_rows.specs.Tightening.{IsQuiet};
 ghost use Rattle.node_work.specs.Scales.{IsScale};
 ghost use Rattle.node_work.specs.Starts.{IsTight, HasSteps, IsAfterSteps};
-ghost use Rattle.node_work.specs.Work.{most_rehandles, Works};
+ghost use Rattle.node_ends.specs.Work.{most_rehandles, Works};
 
 use crate::choosing::{first_free, planned_or};
 use crate::scale::Scale;
-use crate::worked::Worked;
-use base_matrix::{Tightened, cost_of};
 use certificate::{End, Record};
 use dual_bound::{Raised, RowTable};
-use kept_box::KeptBox;
-use program_rows::rows_are_listed;
+use kept_box::{KeptBox, Tightened, cost_of};
+use node_ends::Worked;
 use std::alloc::Global;
 use stow_data::{NoMemory, VarNo};
 use voyage_guess::{Planner, Wanted};
 use zero_one_model::{Box01, Model};
-use zero_one_rows::{Raise, RaiseList, Row, RowList};
+use zero_one_rows::{Raise, RaiseList, Row, RowList, rows_are_listed};
 
 // 16 times the most rehandles, and 1: a violated row raised by this closes at every cut.
 fn closing_amount(most_rehandles: u64) -> i64

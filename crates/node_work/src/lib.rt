@@ -6,14 +6,14 @@ mod desk;
 mod ending;
 mod retracing;
 mod scale;
+mod solving;
 mod stages;
 mod stands;
 mod tables;
-mod worked;
 mod working;
 
 pub use desk::Desk;
 pub use kept_box::BaseMatrix;
+pub use solving::TableSolver;
 pub use tables::Tables;
-pub use worked::Worked;
 pub use working::work;

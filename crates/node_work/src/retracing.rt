@@ -2,16 +2,15 @@
 ghost use Rattle.std.specs.Prelude.{◌≡◌, ℕ, ◌<◌, true, All, IfSome, OnOk, List, ◌++◌, Some, length, slice_get};
 ghost use Rattle.proof_trees.specs.Boxes.{tight, tightened};
 ghost use Rattle.zero_one_rows.specs.Rows.{whole};
-ghost use Rattle.program_rows.specs.Counted.{base_rows};
+ghost use Rattle.zero_one_rows.specs.Counted.{base_rows};
 ghost use Rattle.certificate.specs.Entries.{end_of, number_of};
 ghost use Rattle.search_core.specs.Journals.{divided};
 ghost use Rattle.search_core.specs.Machine.{Divides};
-ghost use Rattle.base_matrix.specs.Fixing.{Fixes};
+ghost use Rattle.kept_box.specs.Fixing.{Fixes};
 ghost use Rattle.node_work.specs.Adopting.{adopted};
 
-use base_matrix::{UndoList, tighten_by};
 use certificate::End;
-use kept_box::KeptBox;
+use kept_box::{KeptBox, UndoList, tighten_by};
 use std::alloc::Global;
 use stow_data::{NoMemory, VarNo};
 use zero_one_model::{Box01, Model};

@@ -1,13 +1,13 @@
 //! The work on one node.
 ghost use Rattle.std.specs.Prelude.{◌≡◌, ◌≤◌, ◌+◌, IfOk};
 ghost use Rattle.stow_data.specs.Shipment.{IsCargo};
-ghost use Rattle.node_work.specs.Work.{IsNode, begins_at, most_at, most_rehandles, Works};
+ghost use Rattle.node_ends.specs.Work.{IsNode, begins_at, most_at, most_rehandles, Works};
 
 use crate::desk::Desk;
 use crate::tables::Tables;
-use crate::worked::Worked;
 use certificate::Node;
 use kept_box::BaseMatrix;
+use node_ends::Worked;
 use std::alloc::Global;
 use stow_data::NoMemory;
 use voyage_guess::Planner;

@@ -6,8 +6,8 @@ use borrow.Author.Differences.{ints}
 use Rattle.zero_one_rows.specs.declared.program.Row.{Row}
 use Rattle.zero_one_rows.specs.Variables.{Voyage, variables}
 use Rattle.zero_one_rows.specs.Rows.{whole}
-use Rattle.program_rows.specs.Counted.{base_rows}
-use Rattle.program_rows.specs.Ordered.{ListsBaseRows}
+use Rattle.zero_one_rows.specs.Counted.{base_rows}
+use Rattle.zero_one_rows.specs.Ordered.{ListsBaseRows}
 use Rattle.proof_trees.specs.Boxes.{Box, at, tightened}
 use Rattle.proof_trees.specs.Multipliers.{Multipliers, worth, raised_all}
 use Rattle.proof_trees.specs.Trees.{End, Leaf, Left, Branch, Entry, Pending, begun, root, Proves}
@@ -24,7 +24,7 @@ use Rattle.search_core.specs.Along.{is_root, Begins, IsOfNode, HoldsAlong}
 use Rattle.search_core.proofs.Weights.{every_in}
 use Rattle.search_core.proofs.Along.{hold_more}
 use Rattle.node_ledger.specs.Gathered.{placed_entries, IsGathered}
-use Rattle.node_work.specs.Work as node
+use Rattle.node_ends.specs.Work as node
 use Rattle.steal_pool.specs.declared.found.Found.{Found}
 use Rattle.steal_pool.specs.Found.{IsWorked, HasBest, IsFound}
 use Rattle.plan_search.specs.Trees.{was_handled, handled}

@@ -8,7 +8,7 @@ use Rattle.certificate.specs.declared.tree.End.TheVariants.{Leaf, Left, Branch}
 use Rattle.certificate.specs.Entries.{same_row, entry_of}
 use Rattle.search_core.specs.Journals.{branches, Settled}
 use Rattle.search_core.specs.Along.{HoldsAlong}
-use Rattle.node_work.specs.Work as node
+use Rattle.node_ends.specs.Work as node
 
 abbrev pub was_handled : End → Bool
 was_handled Leaf = true

@@ -5,7 +5,7 @@ ghost use Rattle.plan_search.specs.Found.{IsCounted, IsPlanned, IsImproved};
 
 use crate::closing::plans_of;
 use crate::loaded::Counted;
-use base_matrix::breaks_none;
+use kept_box::breaks_none;
 use std::alloc::Global;
 use stow_data::{Cargo, NoMemory, Ship};
 use voyage_guess::{Planner, Wanted};

@@ -2,6 +2,7 @@
 #![tactic(auto)]
 
 mod closing;
+mod crew;
 mod improving;
 mod loaded;
 mod planning;

@@ -3,11 +3,10 @@ ghost use Rattle.std.specs.Prelude.{◌≡◌, ◌+◌, ◌≤◌, IfOk};
 ghost use Rattle.model_bridge.specs.Laws.{IsProblem, most_lifts};
 ghost use Rattle.plan_search.specs.Found.{IsSearched, one_leaf};
 
+use crate::crew::search_program;
 use certificate::{End, Few, Record, Tree};
 use node_ledger::gather;
-use program_rows::rows_are_listed;
 use search_core::records_are_of_nodes;
-use search_crew::search;
 use std::alloc::Global;
 use std::sync::Wait;
 use std::thread::Threads;
@@ -16,7 +15,7 @@ use stow_data::NoMemory;
 use stow_io::Gate;
 use voyage_guess::Planner;
 use zero_one_model::{Box01, Model};
-use zero_one_rows::Row;
+use zero_one_rows::{Row, rows_are_listed};
 
 /// The tree of a search, and the best that it found.
 #[derive(Drop)]
@@ -75,7 +74,7 @@ pub fn search_tree<G: Gate + Sync, R: Threads + Wait + Sync>(
         return one_leaf(alloc);
     }
     let workers = workers as usize;
-    let found = search(rt, alloc, model, planner, workers, budget, start, gate)?;
+    let found = search_program(rt, alloc, model, planner, workers, budget, start, gate)?;
     rows_are_listed();
     found_journals_prove();
     records_are_of_nodes::<Row>();

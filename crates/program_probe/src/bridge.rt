@@ -10,9 +10,9 @@ ghost use Rattle.model_bridge.specs.Sailed.{IsFull, BreaksNone};
 
 use crate::berth::write_voyage;
 use crate::words::{write_count, write_number, write_var};
-use base_matrix::{breaks_none, cost_of};
 use certificate::{End, Tree};
 use greedy_loader::load;
+use kept_box::{breaks_none, cost_of};
 use model_bridge::{assignment_of, plan_of};
 use plan_lifts::{LiftLists, Lifted, LiftsFault, lifts, moves_of};
 use std::alloc::Global;

@@ -9,7 +9,7 @@ use Rattle.zero_one_rows.specs.Rows.{whole}
 use Rattle.proof_trees.specs.Program.{cost_of, where_set}
 use Rattle.proof_trees.specs.Boxes.{Box, at, violated}
 use Rattle.search_core.specs.Machine.{bit_of, is_fixed, fixed_below, bits, nat_of, price, breaks_none}
-use Rattle.base_matrix.specs.Full.{is_one, ones}
+use Rattle.kept_box.specs.Full.{is_one, ones}
 use Rattle.dual_bound.proofs.Summing.{sum_same, same_or_other}
 use Rattle.record_judge.proofs.Ways.{there}
 use Rattle.record_judge.proofs.Listed.{rest_cons}

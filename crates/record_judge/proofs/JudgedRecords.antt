@@ -4,7 +4,7 @@ use borrow.Author.Differences.{ints}
 use Rattle.zero_one_rows.specs.declared.program.Row.{Row}
 use Rattle.zero_one_rows.specs.Variables.{Voyage}
 use Rattle.zero_one_rows.specs.Rows.{whole}
-use Rattle.program_rows.specs.Counted.{base_rows}
+use Rattle.zero_one_rows.specs.Counted.{base_rows}
 use Rattle.proof_trees.specs.Boxes.{Box}
 use Rattle.proof_trees.specs.Multipliers.{Multipliers, worth}
 use Rattle.certificate.specs.declared.tree.Record.{Record}

@@ -4,8 +4,8 @@ use Rattle.std.specs.Prelude.{Contains}
 use borrow.Author.Differences.{ints}
 use Rattle.zero_one_rows.specs.Variables.{Voyage, var, is_rehandled}
 use Rattle.zero_one_rows.specs.Rows.{bit, whole, CrossingRowsHold}
-use Rattle.program_rows.specs.Counted.{base_rows}
-use Rattle.program_rows.proofs.EveryRow.{lists_base_rows}
+use Rattle.zero_one_rows.specs.Counted.{base_rows}
+use Rattle.zero_one_rows.proofs.EveryRow.{lists_base_rows}
 use Rattle.proof_trees.specs.Program.{Meets}
 use Rattle.search_core.specs.Bags.{Every}
 use Rattle.search_core.specs.Machine.{BaseSolves, NoneNegative}

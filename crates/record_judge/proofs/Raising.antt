@@ -10,9 +10,9 @@ use Rattle.zero_one_rows.specs.declared.program.Row.{Row}
 use Rattle.zero_one_rows.specs.declared.program.Raise.{Raise}
 use Rattle.zero_one_rows.specs.Variables.{Voyage, variables}
 use Rattle.zero_one_rows.specs.Rows.{whole}
-use Rattle.program_rows.specs.Counted.{all_rows}
-use Rattle.program_rows.proofs.Found.{in_order, not_itself}
-use Rattle.program_rows.proofs.InOrder.{rows_rise}
+use Rattle.zero_one_rows.specs.Counted.{all_rows}
+use Rattle.zero_one_rows.proofs.Found.{in_order, not_itself}
+use Rattle.zero_one_rows.proofs.InOrder.{rows_rise}
 use Rattle.proof_trees.specs.Multipliers.{Multipliers, amount_of, with_amount, raised_all}
 use Rattle.certificate.specs.Entries.{same_row, raise_of}
 use Rattle.certificate.proofs.RowsAlike.{same_equal, same_itself}

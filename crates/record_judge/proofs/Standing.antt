@@ -16,7 +16,7 @@ use Rattle.search_core.specs.Told.{told}
 use Rattle.record_judge.specs.declared.event_nodes.Step.{Step}
 use Rattle.record_judge.specs.Nodes.{value_of, entry_in, along}
 use Rattle.record_judge.proofs.Ways.{entry_on, taken}
-use Rattle.program_rows.specs.Counted.{base_rows}
+use Rattle.zero_one_rows.specs.Counted.{base_rows}
 use Rattle.record_judge.specs.declared.tally.Tally.{Tally}
 use Rattle.record_judge.specs.Counting.{AreNamed, Leads, Tallies}
 use Rattle.record_judge.specs.Standing.{standing, IsWay}

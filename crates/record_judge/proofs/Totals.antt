@@ -7,7 +7,7 @@ use Rattle.std.proofs.lemmas.Int.{fits_signed_from_abs}
 use Rattle.zero_one_rows.specs.declared.program.Row.{Row}
 use Rattle.zero_one_rows.specs.Variables.{Voyage}
 use Rattle.zero_one_rows.specs.Rows.{whole}
-use Rattle.program_rows.specs.Counted.{all_rows}
+use Rattle.zero_one_rows.specs.Counted.{all_rows}
 use Rattle.proof_trees.specs.Multipliers.{Multipliers, dot, amount_of, with_amount}
 use Rattle.certificate.specs.Entries.{same_row}
 use Rattle.certificate.proofs.RowsTold.{same_turned}

@@ -4,7 +4,7 @@ use Rattle.zero_one_rows.specs.declared.program.Row.{Row}
 use Rattle.zero_one_rows.specs.declared.program.Raise.{Raise}
 use Rattle.zero_one_rows.specs.Variables.{Voyage, variables}
 use Rattle.zero_one_rows.specs.Rows.{whole}
-use Rattle.program_rows.specs.Counted.{all_rows}
+use Rattle.zero_one_rows.specs.Counted.{all_rows}
 use Rattle.proof_trees.specs.Multipliers.{Multipliers, amount_of, dot, raised_all}
 use Rattle.certificate.specs.Entries.{same_row, raise_of}
 use Rattle.chain_gains.specs.Gaps.{number_at}

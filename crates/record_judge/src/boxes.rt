@@ -11,8 +11,8 @@ ghost use Rattle.record_judge.specs.Nodes.{along};
 ghost use Rattle.record_judge.specs.Standing.{standing, IsWay};
 
 use crate::event_nodes::Step;
-use base_matrix::force;
 use certificate::{End, KeptRow, Record};
+use kept_box::force;
 use search_core::Done;
 use stow_data::VarNo;
 use zero_one_model::{Box01, Model};

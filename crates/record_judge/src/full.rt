@@ -2,13 +2,14 @@
 ghost use Rattle.std.specs.Prelude.{◌≡◌, length};
 ghost use Rattle.zero_one_rows.specs.Variables.{variables};
 ghost use Rattle.zero_one_rows.specs.Rows.{whole};
-ghost use Rattle.program_rows.specs.Counted.{base_rows};
+ghost use Rattle.zero_one_rows.specs.Counted.{base_rows};
 ghost use Rattle.search_core.specs.Machine.{fixed_below, breaks_none as breaks_none_of, is_full as is_full_in, price as price_in};
 
-use base_matrix::{base_row, cost_of, violates};
-use program_rows::rows_are_listed;
+use base_matrix::base_row;
+use kept_box::{cost_of, violates};
 use stow_data::VarNo;
 use zero_one_model::{Box01, Model};
+use zero_one_rows::rows_are_listed;
 
 // Whether each variable is fixed.
 fn fixes_all(model: &Model, b: &Box01) -> bool

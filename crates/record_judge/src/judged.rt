@@ -1,7 +1,7 @@
 //! Records of nodes in hand, judged.
 ghost use Rattle.std.specs.Prelude.{◌≡◌, IfOk, IfErr};
 ghost use Rattle.zero_one_rows.specs.Rows.{whole};
-ghost use Rattle.program_rows.specs.Counted.{base_rows};
+ghost use Rattle.zero_one_rows.specs.Counted.{base_rows};
 ghost use Rattle.certificate.specs.Entries.{same_row, entry_of};
 ghost use Rattle.search_core.specs.Refusals.{RefusesClose, RefusesDivide, RefusesOffer};
 ghost use Rattle.record_judge.specs.Cores.{state_at, IsCore, ClosesKey, BranchesKey, OffersPrice};

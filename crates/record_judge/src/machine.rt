@@ -1,7 +1,7 @@
 //! The search: its state, and its answer to each event.
 ghost use Rattle.std.specs.Prelude.{◌≡◌, ℕ, ◌+◌, ◌<◌, ◌≤◌, IfOk, IfErr, OnOk, OnErr, length, map, option_map};
 ghost use Rattle.zero_one_rows.specs.Rows.{whole, CrossingRowsHold};
-ghost use Rattle.program_rows.specs.Counted.{base_rows};
+ghost use Rattle.zero_one_rows.specs.Counted.{base_rows};
 ghost use Rattle.certificate.specs.Entries.{same_row, entry_of};
 ghost use Rattle.search_core.specs.Machine.{at_its_path, begin, worker as holder, IsWorker, Accepts, Push, Pop, Steal, Load, Offer, Draw, Close, Divide, ObeysRule};
 ghost use Rattle.search_core.specs.Refusals.{Refuses};

@@ -5,7 +5,7 @@ ghost use Rattle.proof_trees.specs.Trees.{begun};
 ghost use Rattle.zero_one_rows.specs.declared.program.Row.{Row as Rows};
 ghost use Rattle.zero_one_rows.specs.Variables.{variables};
 ghost use Rattle.zero_one_rows.specs.Rows.{whole};
-ghost use Rattle.program_rows.specs.Counted.{all_rows};
+ghost use Rattle.zero_one_rows.specs.Counted.{all_rows};
 ghost use Rattle.certificate.specs.Entries.{same_row, raise_of};
 ghost use Rattle.dual_bound.specs.Adding.{in_range};
 ghost use Rattle.chain_gains.specs.Gaps.{number_at};

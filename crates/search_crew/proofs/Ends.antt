@@ -19,19 +19,19 @@ use Rattle.node_racks.proofs.Dealing.{every_at}
 use Rattle.steal_pool.specs.Found.{IsFound}
 use Rattle.steal_pool.specs.UnderWay.{AllowedFrom}
 use Rattle.steal_pool.proofs.Findings.{IsBest, best_there, same_length}
-use Rattle.crew_turns.specs.declared.deeds.Deeds.{Deeds}
-use Rattle.crew_turns.specs.declared.job.Job.{Job}
+use Rattle.steal_pool.specs.declared.deeds.Deeds.{Deeds}
+use Rattle.steal_pool.specs.declared.job.Job.{Job}
 use Rattle.search_crew.specs.declared.places.Back.{Back}
 use Rattle.search_crew.specs.declared.places.Post.{Post}
 use Rattle.search_crew.specs.declared.joining.AllDeeds.{AllDeeds}
 use Rattle.search_crew.specs.declared.joining.Ended.{Ended}
-use Rattle.crew_turns.specs.Deeds.{box_of, no_deeds, Weight, on_nodes, IsDone}
-use Rattle.crew_turns.specs.Jobs.{seed, IsJob, IsServed, came_to, went_from}
+use Rattle.steal_pool.specs.Deeds.{box_of, no_deeds, Weight, on_nodes, IsDone}
+use Rattle.steal_pool.specs.Jobs.{seed, IsJob, IsServed, came_to, went_from}
 use Rattle.search_crew.specs.Starts.{seed_at, IsMaker, IsUnused}
 use Rattle.search_crew.specs.Together.{both}
 use Rattle.search_crew.specs.Ends.{deeds_of, found_of, pass_of, post_number, came_with, went_with, came_to_all, went_from_all, IsPosted, IsBack, IsReturned, IsJoined, IsEnd}
-use Rattle.crew_turns.proofs.Weights.{weigh_snoc}
-use Rattle.crew_turns.proofs.Handled.{rebalanced, nothing_done, split_off}
+use Rattle.steal_pool.proofs.Weights.{weigh_snoc}
+use Rattle.steal_pool.proofs.Handled.{rebalanced, nothing_done, split_off}
 use Rattle.search_crew.proofs.Together.{joins}
 
 length_map : {A B : Type 0} (f : A → B) (xs : List A) → length (map f xs) ≡ length xs
@@ -69,7 +69,7 @@ module _ {M : Type 0} where
   pub passes_many : (r : Rack M) (ps : List (Pass M)) → AreAll r ps → length ps ≡ length r.thieves.items
   passes_many r ps all = omega (arith, length_map number_of ps, ap length all, length_count 0 (length r.thieves.items))
 
-  pub posts_many : (ps : List (Post M)) (qs : List (Pass M)) → map post_number ps ≡ map number_of qs → length ps ≡ length qs
+  pub posts_many : {S : Type 0} → (ps : List (Post M S)) (qs : List (Pass M)) → map post_number ps ≡ map number_of qs → length ps ≡ length qs
   posts_many ps qs same = omega (arith, length_map post_number ps, length_map number_of qs, ap length same)
 
   pub seeds_are : (h : Weight) (r : Rack M) (ps : List (Pass M)) → AreAll r ps → 0 < length r.thieves.items → weigh (λ p. seed h p.number) ps ≡ h root_node
@@ -77,22 +77,23 @@ module _ {M : Type 0} where
 
   -- ## What workers are given
 
-  pub numbers_more : (ps qs : List (Post M)) (p : Post M) (xs rest : List (Pass M)) (x : Pass M) (all : List ℕ) → qs ≡ ps ++ p ∷ [] → xs ≡ x ∷ rest → p.pass.number ≡ x.number → map post_number ps ++ map number_of xs ≡ all
+  pub numbers_more : {S : Type 0} → (ps qs : List (Post M S)) (p : Post M S) (xs rest : List (Pass M)) (x : Pass M) (all : List ℕ) → qs ≡ ps ++ p ∷ [] → xs ≡ x ∷ rest → p.pass.number ≡ x.number → map post_number ps ++ map number_of xs ≡ all
       → map post_number qs ++ map number_of rest ≡ all
-  numbers_more ps qs p xs rest x all q e n before =
-      ap (λ (l : List (Post M)). map post_number l ++ map number_of rest) q
+  numbers_more {S = S} ps qs p xs rest x all q e n before =
+      ap (λ (l : List (Post M S)). map post_number l ++ map number_of rest) q
       ∙ (ap (λ (l : List ℕ). l ++ map number_of rest) (map-append post_number ps (p ∷ []))
       ∙ (snoc_shift (map post_number ps) p.pass.number (map number_of rest) ∙ (ap (λ (k : ℕ). map post_number ps ++ k ∷ map number_of rest) n ∙ (ap (λ (l : List (Pass M)). map post_number ps ++ map number_of l) (sym e) ∙ before))))
 
   module _ (meets : Node → Type 0) (r : Rack M) (b : BoardToken) (m : Voyage) where
-    pub posted : (o : SeatToken) (old : Pass M) (p : Post M) (asides : List Node) (found : ℕ) → IsMaker meets b m o → IsFresh old → IsPassAt r p.pass → p.pass.number ≡ old.number → p.seat.board ≡ o.board → p.seat.view ≡ new_seat (seen_at o.view found)
+    pub posted : {S : Type 0} → (o : SeatToken) (old : Pass M) (p : Post M S) (asides : List Node) (found : ℕ) → IsMaker meets b m o → IsFresh old → IsPassAt r p.pass → p.pass.number ≡ old.number → p.seat.board ≡ o.board → p.seat.view ≡ new_seat (seen_at o.view found) → p.desk ≡ m
         → Every meets p.aside.items → asides ≡ [] → ((h : Node → ℕ) → took_weight h p.pass ≡ took_weight h old)
         → ((h : Node → ℕ) → put_weight h p.pass + weigh h p.aside.items ≡ put_weight h old + weigh h asides + seed_at h old.number) → IsPosted meets r b m p
-    posted o old p asides found w fresh pass number board view aside none took bag = record {
+    posted o old p asides found w fresh pass number board view desk aside none took bag = record {
       means = w.means;
       cargo = w.cargo;
       low = w.low;
       top = w.top;
+      desk = desk;
       pass = pass;
       board = board ∙ w.board;
       unused = record { begun = ap (λ (v : View). v.start) view ∙ w.unused.begun; offered = ap (λ (v : View). v.offered) view; tickets = ap (λ (v : View). v.tickets) view; over = ap (λ (v : View). v.over) view };
@@ -112,7 +113,7 @@ module _ {M : Type 0} where
     -- ## Lists of what came back
 
     -- a worker on its desk, before its first turn
-    pub starts : (p : Post M) (j : Job M) → IsPosted meets r b m p → j.desk ≡ m → j.pass ≡ p.pass → j.seat ≡ p.seat → j.aside ≡ p.aside → j.deeds ≡ no_deeds → IsJob meets r b j.desk 0 [] j
+    pub starts : {S : Type 0} → (p : Post M S) (j : Job M S) → IsPosted meets r b m p → j.desk ≡ m → j.pass ≡ p.pass → j.seat ≡ p.seat → j.aside ≡ p.aside → j.deeds ≡ no_deeds → IsJob meets r b j.desk 0 [] j
     starts p j w desk pass seat aside deeds = subst (λ (x : Voyage). IsJob meets r b x 0 [] j) (sym desk) (record {
       means = w.means;
       cargo = w.cargo;
@@ -129,31 +130,31 @@ module _ {M : Type 0} where
           (λ h. omega (arith, w.bag h, ap (λ (q : Pass M). seed h q.number) pass, ap (put_weight (on_nodes m h)) pass, ap (took_weight (on_nodes m h)) pass, ap (λ x. weigh (on_nodes m h) x.items) aside))));
     })
 
-    pub all_returned : (ps : List (Post M)) (ks : List (Back M)) → Each (IsReturned meets r b m) ps ks → Every (IsBack meets b m) ks
+    pub all_returned : {S : Type 0} → (ps : List (Post M S)) (ks : List (Back M)) → Each (IsReturned meets r b m) ps ks → Every (IsBack meets b m) ks
     all_returned [] [] back = tt
     all_returned [] (k ∷ ks) back = absurd back
     all_returned (p ∷ ps) [] back = absurd back
     all_returned (p ∷ ps) (k ∷ ks) back = (back.0.back, all_returned ps ks back.1)
 
-    pub all_seated : (ps : List (Post M)) (ks : List (Back M)) → Each (IsReturned meets r b m) ps ks → Every (λ k. k.seat.board ≡ b.id) ks
+    pub all_seated : {S : Type 0} → (ps : List (Post M S)) (ks : List (Back M)) → Each (IsReturned meets r b m) ps ks → Every (λ k. k.seat.board ≡ b.id) ks
     all_seated [] [] back = tt
     all_seated [] (k ∷ ks) back = absurd back
     all_seated (p ∷ ps) [] back = absurd back
     all_seated (p ∷ ps) (k ∷ ks) back = (back.0.board, all_seated ps ks back.1)
 
-    pub all_passes : (ps : List (Post M)) (ks : List (Back M)) → Each (IsReturned meets r b m) ps ks → Every (IsPassAt r) (map pass_of ks)
+    pub all_passes : {S : Type 0} → (ps : List (Post M S)) (ks : List (Back M)) → Each (IsReturned meets r b m) ps ks → Every (IsPassAt r) (map pass_of ks)
     all_passes [] [] back = tt
     all_passes [] (k ∷ ks) back = absurd back
     all_passes (p ∷ ps) [] back = absurd back
     all_passes (p ∷ ps) (k ∷ ks) back = (back.0.pass, all_passes ps ks back.1)
 
-    pub all_numbers : (ps : List (Post M)) (ks : List (Back M)) → Each (IsReturned meets r b m) ps ks → map number_of (map pass_of ks) ≡ map post_number ps
+    pub all_numbers : {S : Type 0} → (ps : List (Post M S)) (ks : List (Back M)) → Each (IsReturned meets r b m) ps ks → map number_of (map pass_of ks) ≡ map post_number ps
     all_numbers [] [] back = refl
     all_numbers [] (k ∷ ks) back = absurd back
     all_numbers (p ∷ ps) [] back = absurd back
     all_numbers (p ∷ ps) (k ∷ ks) back = ap (λ (n : ℕ). n ∷ map number_of (map pass_of ks)) back.0.number ∙ ap (λ (l : List ℕ). p.pass.number ∷ l) (all_numbers ps ks back.1)
 
-    pub each_length : (ps : List (Post M)) (ks : List (Back M)) → Each (IsReturned meets r b m) ps ks → length ks ≡ length ps
+    pub each_length : {S : Type 0} → (ps : List (Post M S)) (ks : List (Back M)) → Each (IsReturned meets r b m) ps ks → length ks ≡ length ps
     each_length [] [] back = refl
     each_length [] (k ∷ ks) back = absurd back
     each_length (p ∷ ps) [] back = absurd back
@@ -161,7 +162,7 @@ module _ {M : Type 0} where
 
   module _ (meets : Node → Type 0) (r : Rack M) (b : BoardToken) where
     -- what a worker brings back after its last turn
-    pub comes_back : (j k : Job M) (o : Back M) → IsServed meets r b j k → o.pass ≡ k.pass → o.seat ≡ k.seat → o.deeds ≡ k.deeds → o.aside ≡ k.aside → IsBack meets b j.desk o × IsPassAt r o.pass × (o.pass.number ≡ j.pass.number) × (o.seat.board ≡ b.id)
+    pub comes_back : {S : Type 0} → (j k : Job M S) (o : Back M) → IsServed meets r b j k → o.pass ≡ k.pass → o.seat ≡ k.seat → o.deeds ≡ k.deeds → o.aside ≡ k.aside → IsBack meets b j.desk o × IsPassAt r o.pass × (o.pass.number ≡ j.pass.number) × (o.seat.board ≡ b.id)
     comes_back j k o served pass seat deeds aside =
         let m = j.desk in
         let job : IsJob meets r b m 0 [] k = served.job in

@@ -7,13 +7,13 @@ use Rattle.search_core.specs.Bags.{weigh, Every}
 use Rattle.search_core.proofs.Weights.{weigh_append, every_append, every_left, every_right}
 use Rattle.node_racks.specs.declared.view.View.{View}
 use Rattle.node_racks.specs.Rule.{with_ticket, one_over}
-use Rattle.node_work.specs.Work.{node_of, IsNode}
-use Rattle.crew_turns.specs.declared.deeds.Deeds.{Deeds}
-use Rattle.crew_turns.specs.declared.deeds.Halves.{Halves}
-use Rattle.crew_turns.specs.Deeds.{halves_weight, EachHalf, Flow, on_nodes, no_deeds, IsDone}
+use Rattle.node_ends.specs.Work.{node_of, IsNode}
+use Rattle.steal_pool.specs.declared.deeds.Deeds.{Deeds}
+use Rattle.steal_pool.specs.declared.deeds.Halves.{Halves}
+use Rattle.steal_pool.specs.Deeds.{halves_weight, EachHalf, Flow, on_nodes, no_deeds, IsDone}
 use Rattle.search_crew.specs.Starts.{IsUnused}
 use Rattle.search_crew.specs.Ends.{halves_in, IsRest}
-use Rattle.crew_turns.proofs.Handled.{rebalanced, ticket_drawn, node_left, node_left_too, nothing_done}
+use Rattle.steal_pool.proofs.Handled.{rebalanced, ticket_drawn, node_left, node_left_too, nothing_done}
 
 weigh_halves : (h : Node → ℕ) (o : Option Halves) → weigh h (halves_in o) ≡ halves_weight h o
 weigh_halves h None = refl

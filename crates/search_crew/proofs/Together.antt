@@ -5,7 +5,7 @@ use Rattle.std.proofs.lemmas.List.{map-append, length-append}
 use Rattle.zero_one_rows.specs.declared.program.Row.{Row}
 use Rattle.zero_one_rows.specs.Variables.{Voyage}
 use Rattle.zero_one_rows.specs.Rows.{whole}
-use Rattle.program_rows.specs.Counted.{base_rows}
+use Rattle.zero_one_rows.specs.Counted.{base_rows}
 use Rattle.certificate.specs.Entries.{same_row, number_of}
 use Rattle.search_core.specs.Bags.{In}
 use Rattle.search_core.specs.Journals.{Path, Placed}
@@ -17,9 +17,9 @@ use Rattle.node_racks.specs.declared.view.View.{View}
 use Rattle.node_racks.specs.Rule.{none_yet, joined}
 use Rattle.node_ledger.specs.Gathered.{placed}
 use Rattle.steal_pool.specs.UnderWay.{HasOffered, AllowedFrom}
-use Rattle.crew_turns.specs.declared.deeds.Deeds.{Deeds}
-use Rattle.crew_turns.specs.declared.deeds.Solution.{Solution}
-use Rattle.crew_turns.specs.Deeds.{box_of, Costs, Flow, IsDone}
+use Rattle.steal_pool.specs.declared.deeds.Deeds.{Deeds}
+use Rattle.steal_pool.specs.declared.deeds.Solution.{Solution}
+use Rattle.steal_pool.specs.Deeds.{box_of, Costs, Flow, IsDone}
 use Rattle.search_crew.specs.Together.{cheaper_of, both}
 
 in_first : {A : Type 0} (a : A) (xs ys : List A) → In a xs → In a (xs ++ ys)

@@ -12,17 +12,17 @@ use Rattle.node_racks.specs.declared.racks.Pass.{Pass}
 use Rattle.node_racks.specs.declared.racks.Rack.{Rack}
 use Rattle.node_racks.specs.Racks.{IsPassAt, took_weight, put_weight, all_took, all_put}
 use Rattle.steal_pool.specs.declared.found.Found.{Found}
-use Rattle.crew_turns.specs.declared.deeds.Deeds.{Deeds}
-use Rattle.crew_turns.specs.declared.deeds.Halves.{Halves}
+use Rattle.steal_pool.specs.declared.deeds.Deeds.{Deeds}
+use Rattle.steal_pool.specs.declared.deeds.Halves.{Halves}
 use Rattle.search_crew.specs.declared.joining.AllDeeds.{AllDeeds}
 use Rattle.search_crew.specs.declared.joining.Ended.{Ended}
 use Rattle.search_crew.specs.declared.places.Back.{Back}
 use Rattle.search_crew.specs.declared.places.Post.{Post}
 use Rattle.search_crew.specs.declared.places.Place.{Place}
 use Rattle.search_crew.specs.declared.places.Place.TheVariants.{Given, Done, Empty}
-use Rattle.node_work.specs.Work.{IsNode, most_rehandles}
-use Rattle.crew_turns.specs.Deeds.{box_of, Weight, Flow, on_nodes, IsDone}
-use Rattle.crew_turns.specs.Jobs.{Means, seed}
+use Rattle.node_ends.specs.Work.{IsNode, most_rehandles}
+use Rattle.steal_pool.specs.Deeds.{box_of, Weight, Flow, on_nodes, IsDone}
+use Rattle.steal_pool.specs.Jobs.{Means, seed}
 use Rattle.search_crew.specs.Starts.{IsUnused}
 
 -- what workers did, with all journals as one
@@ -61,7 +61,7 @@ module _ {M : Type 0} where
   abbrev pub pass_of : Back M → Pass M
   pass_of k = k.pass
 
-  abbrev pub post_number : Post M → ℕ
+  abbrev pub post_number : {S : Type 0} → Post M S → ℕ
   post_number p = p.pass.number
 
   -- what came to the worker with this pass: the root, and the nodes that it took
@@ -73,11 +73,12 @@ module _ {M : Type 0} where
   went_with m p aside h = put_weight (on_nodes m h) p + weigh (on_nodes m h) aside
 
   -- what a worker of the program's search is given, before it has handled a node
-  pub record IsPosted (meets : Node → Type 0) (r : Rack M) (b : BoardToken) (m : Voyage) (p : Post M) : Type 0 where
+  pub record IsPosted {S : Type 0} (meets : Node → Type 0) (r : Rack M) (b : BoardToken) (m : Voyage) (p : Post M S) : Type 0 where
     pub means : Means meets m
     pub cargo : IsCargo m.cargo
     pub low : b.start ≤ most_rehandles m + 1
     pub top : b.start ≤ none_yet
+    pub desk : p.desk ≡ m
     pub pass : IsPassAt r p.pass
     pub board : p.seat.board ≡ b.id
     pub unused : IsUnused b.start p.seat.view
@@ -98,20 +99,20 @@ module _ {M : Type 0} where
     pub done : IsDone m b.start k.seat.view 0 k.deeds (came_with m k.pass) (went_with m k.pass k.aside.items)
 
   -- and what it was given is among it
-  pub record IsReturned (meets : Node → Type 0) (r : Rack M) (b : BoardToken) (m : Voyage) (p : Post M) (k : Back M) : Type 0 where
+  pub record IsReturned {S : Type 0} (meets : Node → Type 0) (r : Rack M) (b : BoardToken) (m : Voyage) (p : Post M S) (k : Back M) : Type 0 where
     pub back : IsBack meets b m k
     pub pass : IsPassAt r k.pass
     pub number : k.pass.number ≡ p.pass.number
     pub board : k.seat.board ≡ b.id
 
   -- a place at which a worker is given what it begins with
-  abbrev pub IsGiven : (meets : Node → Type 0) (r : Rack M) (b : BoardToken) (m : Voyage) → Place M → Type 0
+  abbrev pub IsGiven : {S : Type 0} → (meets : Node → Type 0) (r : Rack M) (b : BoardToken) (m : Voyage) → Place M S → Type 0
   IsGiven meets r b m (Given p) = IsPosted meets r b m p
   IsGiven meets r b m (Done k) = ⊥
   IsGiven meets r b m Empty = ⊥
 
   -- and how its worker leaves it: with what it brings back, or empty
-  abbrev pub Brings : (meets : Node → Type 0) (r : Rack M) (b : BoardToken) (m : Voyage) → Place M → Place M → Type 0
+  abbrev pub Brings : {S : Type 0} → (meets : Node → Type 0) (r : Rack M) (b : BoardToken) (m : Voyage) → Place M S → Place M S → Type 0
   Brings meets r b m (Given p) (Given q) = ⊥
   Brings meets r b m (Given p) (Done k) = IsReturned meets r b m p k
   Brings meets r b m (Given p) Empty = Unit {0}

@@ -6,8 +6,8 @@ use Rattle.certificate.specs.declared.nodes.Node.{Node}
 use Rattle.node_racks.specs.declared.view.View.{View}
 use Rattle.node_racks.specs.Rule.{none_yet}
 use Rattle.node_racks.specs.Tokens.{BoardToken, SeatToken}
-use Rattle.node_work.specs.Work.{most_rehandles}
-use Rattle.crew_turns.specs.Jobs.{Means}
+use Rattle.node_ends.specs.Work.{most_rehandles}
+use Rattle.steal_pool.specs.Jobs.{Means}
 
 -- what is asked of a search: a cargo by the rules, 1 to 16 workers, at most 100,000 nodes, and a start of at most one more than the most rehandles
 pub record IsAsked (m : Voyage) (workers budget start : ℕ) : Type 0 where

@@ -1,7 +1,7 @@
 -- What two workers did together.
 use Rattle.std.specs.Prelude.{nat_lt, cond, Option, Some, None, ◌++◌}
-use Rattle.crew_turns.specs.declared.deeds.Deeds.{Deeds}
-use Rattle.crew_turns.specs.declared.deeds.Solution.{Solution}
+use Rattle.steal_pool.specs.declared.deeds.Deeds.{Deeds}
+use Rattle.steal_pool.specs.declared.deeds.Solution.{Solution}
 
 abbrev pub cheaper_of : Option Solution → Option Solution → Option Solution
 cheaper_of None other = other

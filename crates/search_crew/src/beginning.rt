@@ -6,14 +6,14 @@ ghost use Rattle.search_core.specs.Bags.{weigh, Every};
 ghost use Rattle.search_crew.specs.Ends.{IsPosted, post_number};
 ghost use Rattle.search_crew.specs.Starts.{IsMaker, first_node, seed_at};
 
+use crate::crew::Ground;
 use crate::places::Post;
 use certificate::{Node, Path, Trail};
-use crew_turns::lay;
-use node_racks::{Board, Owner, Pass, Rack, Wanted};
-use node_work::Tables;
+use node_ends::{Desk, Solver};
+use node_racks::{Owner, Pass, Rack, Wanted};
 use std::alloc::Global;
+use steal_pool::lay;
 use stow_data::NoMemory;
-use voyage_guess::Planner;
 
 // The root of the search.
 fn root(alloc: Global) -> Node
@@ -47,125 +47,93 @@ fn plant<M: Wanted>(
     Ok(())
 }
 
-// The planner that is given, once, and then others.
-fn next_planner(
-    alloc: Global,
-    tables: &Tables,
-    given: &mut Option<Planner>,
-) -> Result<Planner, NoMemory> {
-    match given.take() {
-        Some(planner) => Ok(planner),
-        None => Planner::new(alloc, tables.model()),
-    }
-}
-
-// What the first worker begins with, and a planner.
-fn plant_and_plan<M: Wanted>(
-    alloc: Global,
-    tables: &Tables,
-    rack: &Rack<M>,
-    pass: &mut Pass<M>,
-    aside: &mut Vec<Node>,
-    given: &mut Option<Planner>,
-) -> Result<Planner, NoMemory>
-    requires pass { IsPassAt rack.now pass.old }
-    requires aside { Every M.meets aside.old.items }
-    requires root { M.meets first_node }
-    ensures pass { IsPassAt rack.now pass.new }
-    ensures number { pass.new.number ≡ pass.old.number }
-    ensures aside { OnOk result (Every M.meets aside.new.items) }
-    ensures took { (h : Node → ℕ) → took_weight h pass.new ≡ took_weight h pass.old }
-    ensures bag { OnOk result ((h : Node → ℕ) → put_weight h pass.new + weigh h aside.new.items ≡ put_weight h pass.old + weigh h aside.old.items + seed_at h pass.old.number) }
-{
-    plant(alloc, rack, pass, aside)?;
-    next_planner(alloc, tables, given)
-}
-
 // What a worker is given.
-fn begin<M: Wanted>(
+fn begin<M: Wanted, S: Solver>(
     alloc: Global,
-    tables: &Tables,
-    rack: &Rack<M>,
-    board: &Board,
+    ground: &Ground<M, S>,
     owner: &mut Owner,
     pass: Pass<M>,
-    given: &mut Option<Planner>,
-) -> Result<Post<M>, NoMemory>
-    requires maker { IsMaker M.meets board.now tables.now owner.old }
+    desk: Desk<S>,
+) -> Result<Post<M, S>, NoMemory>
+    requires maker { IsMaker M.meets ground.now.board ground.now.spare owner.old }
     requires room { owner.old.view.made < 65536 }
-    requires pass { IsPassAt rack.now pass × IsFresh pass }
-    ensures post { IfOk result (IsPosted M.meets rack.now board.now tables.now) }
+    requires pass { IsPassAt ground.now.rack pass × IsFresh pass }
+    requires desk { desk ≡ ground.now.spare }
+    ensures post { IfOk result (IsPosted M.meets ground.now.rack ground.now.board ground.now.spare) }
     ensures number { IfOk result (λ post. post.pass.number ≡ pass.number) }
-    ensures maker { IsMaker M.meets board.now tables.now owner.new }
+    ensures maker { IsMaker M.meets ground.now.board ground.now.spare owner.new }
     ensures made { owner.new.view.made ≡ owner.old.view.made + 1 }
 {
-    let seat = board.split(owner);
+    let seat = ground.board.split(owner);
     let mut pass = pass;
     let mut aside = Vec::new(alloc);
-    match plant_and_plan(alloc, tables, rack, &mut pass, &mut aside, given) {
-        Ok(planner) => Ok(Post {
+    match plant(alloc, &ground.rack, &mut pass, &mut aside) {
+        Ok(()) => Ok(Post {
             pass,
             seat,
-            planner,
+            desk,
             aside,
         }),
         Err(no) => {
             drop(pass);
             drop(seat);
+            drop(desk);
             drop(aside);
             Err(no)
         }
     }
 }
 
-// What each worker is given: the first that needs a planner takes this one.
-fn begin_each<M: Wanted>(
+// What each worker is given: a pass, in their order, and a desk, the last one first.
+fn begin_each<M: Wanted, S: Solver>(
     alloc: Global,
-    tables: &Tables,
-    rack: &Rack<M>,
-    board: &Board,
+    ground: &Ground<M, S>,
     owner: &mut Owner,
     passes: Vec<Pass<M>>,
-    given: &mut Option<Planner>,
-) -> Result<Vec<Post<M>>, NoMemory>
-    requires maker { IsMaker M.meets board.now tables.now owner.old }
+    desks: &mut Vec<Desk<S>>,
+) -> Result<Vec<Post<M, S>>, NoMemory>
+    requires maker { IsMaker M.meets ground.now.board ground.now.spare owner.old }
     requires room { owner.old.view.made + length passes.items ≤ 65536 }
-    requires passes { Every (IsPassAt rack.now) passes.items }
+    requires passes { Every (IsPassAt ground.now.rack) passes.items }
     requires fresh { Every IsFresh passes.items }
-    ensures posts { IfOk result (λ posts. Every (IsPosted M.meets rack.now board.now tables.now) posts.items) }
+    requires desks { Every (λ desk. desk ≡ ground.now.spare) desks.old.items }
+    requires enough { length passes.items ≤ length desks.old.items }
+    ensures posts { IfOk result (λ posts. Every (IsPosted M.meets ground.now.rack ground.now.board ground.now.spare) posts.items) }
     ensures numbers { IfOk result (λ posts. map post_number posts.items ≡ map number_of passes.items) }
-    ensures maker { IsMaker M.meets board.now tables.now owner.new }
+    ensures maker { IsMaker M.meets ground.now.board ground.now.spare owner.new }
     ensures made { OnOk result (owner.new.view.made ≡ owner.old.view.made + length passes.items) }
 {
     let mut posts = Vec::new(alloc);
     for pass in passes {
-        let post = begin(alloc, tables, rack, board, owner, pass, given)?;
+        let Some(desk) = desks.pop() else {
+            unreachable!()
+        };
+        let post = begin(alloc, ground, owner, pass, desk)?;
         posts.push(post)?;
     }
     Ok(posts)
 }
 
-/// What each worker is given, one for each pass: the first has this planner.
-pub fn begin_all<M: Wanted>(
+/// What each worker is given, one for each pass: a desk each, the first worker the last one.
+pub fn begin_all<M: Wanted, S: Solver>(
     alloc: Global,
-    tables: &Tables,
-    rack: &Rack<M>,
-    board: &Board,
+    ground: &Ground<M, S>,
     owner: &mut Owner,
     passes: Vec<Pass<M>>,
-    planner: Planner,
-) -> Result<Vec<Post<M>>, NoMemory>
-    requires maker { IsMaker M.meets board.now tables.now owner.old }
+    mut desks: Vec<Desk<S>>,
+) -> Result<Vec<Post<M, S>>, NoMemory>
+    requires maker { IsMaker M.meets ground.now.board ground.now.spare owner.old }
     requires room { owner.old.view.made + length passes.items ≤ 65536 }
-    requires passes { Every (IsPassAt rack.now) passes.items }
+    requires passes { Every (IsPassAt ground.now.rack) passes.items }
     requires fresh { Every IsFresh passes.items }
-    ensures posts { IfOk result (λ posts. Every (IsPosted M.meets rack.now board.now tables.now) posts.items) }
+    requires desks { Every (λ desk. desk ≡ ground.now.spare) desks.items }
+    requires enough { length passes.items ≤ length desks.items }
+    ensures posts { IfOk result (λ posts. Every (IsPosted M.meets ground.now.rack ground.now.board ground.now.spare) posts.items) }
     ensures numbers { IfOk result (λ posts. map post_number posts.items ≡ map number_of passes.items) }
-    ensures maker { IsMaker M.meets board.now tables.now owner.new }
+    ensures maker { IsMaker M.meets ground.now.board ground.now.spare owner.new }
     ensures made { OnOk result (owner.new.view.made ≡ owner.old.view.made + length passes.items) }
 {
-    let mut given = Some(planner);
-    let posts = begin_each(alloc, tables, rack, board, owner, passes, &mut given);
-    drop(given);
+    let posts = begin_each(alloc, ground, owner, passes, &mut desks);
+    drop(desks);
     posts
 }

@@ -2,38 +2,39 @@
 ghost use Rattle.std.specs.Prelude.{◌≡◌, ℕ, ◌<◌, [], All, IfOk, length, map, slice_index_or};
 ghost use Rattle.node_racks.specs.Racks.{IsPassAt};
 ghost use Rattle.node_racks.specs.Rounds.{Each};
-ghost use Rattle.crew_turns.specs.Jobs.{IsJob};
+ghost use Rattle.steal_pool.specs.Jobs.{IsJob};
 ghost use Rattle.search_crew.specs.declared.places.Place.TheVariants.{Given, Done};
 ghost use Rattle.search_crew.specs.Ends.{IsPosted, IsBack, IsReturned, IsGiven, Brings};
 
 use crate::places::{Back, Place, Post};
-use crew_turns::{Deeds, Job, Signs, serve};
+use node_ends::{Desk, Solver};
 use node_racks::{Board, Rack, Wanted};
-use node_work::{Desk, Tables};
 use std::alloc::Global;
 use std::sync::Wait;
 use std::thread::Threads;
 use std::{mem, thread};
+use steal_pool::{Deeds, Job, Signs, serve};
 use stow_data::NoMemory;
 use stow_io::Gate;
 
 /// The most workers of a search.
 const MOST_WORKERS: usize = 16;
 
-/// What all workers of a search share.
+/// What all workers of a search share, and a desk for what they leave.
 #[derive(Drop)]
-pub struct Ground<M: Wanted> {
+pub struct Ground<M: Wanted, S: Solver> {
     pub rack: Rack<M>,
     pub board: Board,
     pub signs: Signs,
+    pub spare: Desk<S>,
 }
 
 // What a worker brings back, once its desk is put away.
-fn back_of<'a, M: Wanted>(job: Job<'a, M>) -> Back<M>
-    ensures pass { result.pass ≡ job.entry.pass }
-    ensures seat { result.seat ≡ job.entry.seat }
-    ensures deeds { result.deeds ≡ job.entry.deeds }
-    ensures aside { result.aside ≡ job.entry.aside }
+fn back_of<M: Wanted, S: Solver>(job: Job<M, S>) -> Back<M>
+    ensures pass { result.pass ≡ job.pass }
+    ensures seat { result.seat ≡ job.seat }
+    ensures deeds { result.deeds ≡ job.deeds }
+    ensures aside { result.aside ≡ job.aside }
 {
     let Job {
         pass,
@@ -53,16 +54,16 @@ fn back_of<'a, M: Wanted>(job: Job<'a, M>) -> Back<M>
 }
 
 // Takes a worker's turns, on the desk that it has.
-fn serve_on<'a, M: Wanted, G: Gate, R: Wait>(
+fn serve_on<M: Wanted, S: Solver, G: Gate, R: Wait>(
     rt: &R,
     alloc: Global,
-    ground: &Ground<M>,
+    ground: &Ground<M, S>,
     gate: &G,
-    job: Job<'a, M>,
+    job: Job<M, S>,
 ) -> Result<Back<M>, NoMemory>
     requires job { IsJob M.meets ground.now.rack ground.now.board job.desk 0 [] job }
     requires none_over { job.seat.view.over ≡ 0 }
-    ensures { IfOk result (λ back. IsBack M.meets ground.now.board job.entry.desk back × IsPassAt ground.now.rack back.pass × (back.pass.number ≡ job.entry.pass.number) × (back.seat.board ≡ ground.now.board.id)) }
+    ensures { IfOk result (λ back. IsBack M.meets ground.now.board job.desk back × IsPassAt ground.now.rack back.pass × (back.pass.number ≡ job.pass.number) × (back.seat.board ≡ ground.now.board.id)) }
 {
     let served = serve(
         rt,
@@ -76,69 +77,60 @@ fn serve_on<'a, M: Wanted, G: Gate, R: Wait>(
     Ok(back_of(served))
 }
 
-// Takes a worker's turns, on a desk of its own.
-fn take_turns<M: Wanted, G: Gate, R: Wait>(
+// Takes a worker's turns.
+fn take_turns<M: Wanted, S: Solver, G: Gate, R: Wait>(
     rt: &R,
     alloc: Global,
-    tables: &Tables,
-    ground: &Ground<M>,
+    ground: &Ground<M, S>,
     gate: &G,
-    post: Post<M>,
+    post: Post<M, S>,
 ) -> Result<Back<M>, NoMemory>
-    requires { IsPosted M.meets ground.now.rack ground.now.board tables.now post }
-    ensures { IfOk result (IsReturned M.meets ground.now.rack ground.now.board tables.now post) }
+    requires { IsPosted M.meets ground.now.rack ground.now.board ground.now.spare post }
+    ensures { IfOk result (IsReturned M.meets ground.now.rack ground.now.board ground.now.spare post) }
 {
     let Post {
         pass,
         seat,
-        planner,
+        desk,
         aside,
     } = post;
-    match Desk::fresh(alloc, tables, planner) {
-        Ok(desk) => {
-            let job = Job {
-                pass,
-                seat,
-                desk,
-                turns: 0,
-                deeds: Deeds::none(alloc),
-                aside,
-            };
-            serve_on(rt, alloc, ground, gate, job)
-        }
-        Err(no) => {
-            drop(pass);
-            drop(seat);
-            drop(aside);
-            Err(no)
-        }
-    }
+    let job = Job {
+        pass,
+        seat,
+        desk,
+        turns: 0,
+        deeds: Deeds::none(alloc),
+        aside,
+    };
+    serve_on(rt, alloc, ground, gate, job)
 }
 
 // A worker takes its turns, and leaves at its place what it brings back. Where memory is wanting to it, it tells the others to stop: what it had is gone, so they might wait for nodes that nobody has.
-fn man<M: Wanted, G: Gate, R: Wait>(
+fn man<M: Wanted, S: Solver, G: Gate, R: Wait>(
     rt: &R,
     alloc: Global,
-    tables: &Tables,
-    ground: &Ground<M>,
+    ground: &Ground<M, S>,
     gate: &G,
-    place: &mut Place<M>,
+    place: &mut Place<M, S>,
 )
-    requires { IsGiven M.meets ground.now.rack ground.now.board tables.now place.old }
-    ensures { Brings M.meets ground.now.rack ground.now.board tables.now place.old place.new }
+    requires { IsGiven M.meets ground.now.rack ground.now.board ground.now.spare place.old }
+    ensures { Brings M.meets ground.now.rack ground.now.board ground.now.spare place.old place.new }
 {
     let post = match mem::replace(place, Place::Empty) {
         Place::Given(post) => post,
         Place::Done(_) | Place::Empty => unreachable!(),
     };
-    match take_turns(rt, alloc, tables, ground, gate, post) {
+    match take_turns(rt, alloc, ground, gate, post) {
         Ok(back) => drop(mem::replace(place, Place::Done(back))),
         Err(NoMemory) => ground.signs.stop(),
     }
 }
 
 // A place for each worker.
-fn give_all<M: Wanted>(alloc: Global, posts: Vec<Post<M>>) -> Result<Vec<Place<M>>, NoMemory>
+fn give_all<M: Wanted, S: Solver>(
+    alloc: Global,
+    posts: Vec<Post<M, S>>,
+) -> Result<Vec<Place<M, S>>, NoMemory>
     ensures { IfOk result (λ places. places.items ≡ map (λ post. Given post) posts.items) }
 {
     let mut places = Vec::new(alloc);
@@ -149,7 +141,7 @@ fn give_all<M: Wanted>(alloc: Global, posts: Vec<Post<M>>) -> Result<Vec<Place<M
 }
 
 // What a worker brought back, where it came back.
-fn back_at<M: Wanted>(place: Place<M>) -> Result<Back<M>, NoMemory>
+fn back_at<M: Wanted, S: Solver>(place: Place<M, S>) -> Result<Back<M>, NoMemory>
     ensures { IfOk result (λ back. place ≡ Done back) }
 {
     match place {
@@ -163,7 +155,10 @@ fn back_at<M: Wanted>(place: Place<M>) -> Result<Back<M>, NoMemory>
 }
 
 // What the workers brought back, where all came back.
-fn all_back<M: Wanted>(alloc: Global, places: Vec<Place<M>>) -> Result<Vec<Back<M>>, NoMemory>
+fn all_back<M: Wanted, S: Solver>(
+    alloc: Global,
+    places: Vec<Place<M, S>>,
+) -> Result<Vec<Back<M>>, NoMemory>
     ensures { IfOk result (λ backs. places.items ≡ map (λ back. Done back) backs.items) }
 {
     let mut backs = Vec::new(alloc);
@@ -174,42 +169,40 @@ fn all_back<M: Wanted>(alloc: Global, places: Vec<Place<M>>) -> Result<Vec<Back<
 }
 
 // Each worker takes its turns in a thread, or, where none can be made, behind the others.
-fn man_all<M: Wanted + Send + Sync, G: Gate + Sync, R: Threads + Wait + Sync>(
+fn man_all<M: Wanted + Send + Sync, S: Solver, G: Gate + Sync, R: Threads + Wait + Sync>(
     rt: &R,
     alloc: Global,
-    tables: &Tables,
-    ground: &Ground<M>,
+    ground: &Ground<M, S>,
     gate: &G,
-    places: &mut [Place<M>],
+    places: &mut [Place<M, S>],
 )
-    requires { All (IsGiven M.meets ground.now.rack ground.now.board tables.now) places.old }
+    requires { All (IsGiven M.meets ground.now.rack ground.now.board ground.now.spare) places.old }
     ensures length { length places.new ≡ length places.old }
-    ensures each { (i : ℕ) (d : _) → i < length places.old → Brings M.meets ground.now.rack ground.now.board tables.now (slice_index_or places.old i d) (slice_index_or places.new i d) }
+    ensures each { (i : ℕ) (d : _) → i < length places.old → Brings M.meets ground.now.rack ground.now.board ground.now.spare (slice_index_or places.old i d) (slice_index_or places.new i d) }
 {
     thread::for_each_mut(
         rt,
         places,
         MOST_WORKERS,
-        &|_number: usize, place: &mut Place<M>|
-            requires { IsGiven M.meets ground.now.rack ground.now.board tables.now place.now }
-            ensures { Brings M.meets ground.entry.now.rack ground.entry.now.board tables.entry.now place.entry.now place.exit.now }
-        { man(rt, alloc, tables, ground, gate, place) },
+        &|_number: usize, place: &mut Place<M, S>|
+            requires { IsGiven M.meets ground.now.rack ground.now.board ground.now.spare place.now }
+            ensures { Brings M.meets ground.entry.now.rack ground.entry.now.board ground.entry.now.spare place.entry.now place.exit.now }
+        { man(rt, alloc, ground, gate, place) },
     );
 }
 
 /// Each worker takes its turns in a thread; where none can be made, one after another. Where memory is wanting to one, the others stop.
-pub fn serve_all<M: Wanted + Send + Sync, G: Gate + Sync, R: Threads + Wait + Sync>(
+pub fn serve_all<M: Wanted + Send + Sync, S: Solver, G: Gate + Sync, R: Threads + Wait + Sync>(
     rt: &R,
     alloc: Global,
-    tables: &Tables,
-    ground: &Ground<M>,
+    ground: &Ground<M, S>,
     gate: &G,
-    posts: Vec<Post<M>>,
+    posts: Vec<Post<M, S>>,
 ) -> Result<Vec<Back<M>>, NoMemory>
-    requires { All (IsPosted M.meets ground.now.rack ground.now.board tables.now) posts.items }
-    ensures { IfOk result (λ backs. Each (IsReturned M.meets ground.now.rack ground.now.board tables.now) posts.items backs.items) }
+    requires { All (IsPosted M.meets ground.now.rack ground.now.board ground.now.spare) posts.items }
+    ensures { IfOk result (λ backs. Each (IsReturned M.meets ground.now.rack ground.now.board ground.now.spare) posts.items backs.items) }
 {
     let mut places = give_all(alloc, posts)?;
-    man_all(rt, alloc, tables, ground, gate, places.as_mut_slice());
+    man_all(rt, alloc, ground, gate, places.as_mut_slice());
     all_back(alloc, places)
 }

@@ -1,20 +1,19 @@
 //! What is done when the threads have ended.
 ghost use Rattle.std.specs.Prelude.{◌≡◌, ◌<◌, ◌≤◌, ◌+◌, true, false, ◌++◌, ◌∷◌, [], IfOk, OnOk};
 ghost use Rattle.stow_data.specs.Shipment.{IsCargo};
-ghost use Rattle.node_work.specs.Work.{IsNode, most_rehandles};
+ghost use Rattle.node_ends.specs.Work.{IsNode, most_rehandles};
 ghost use Rattle.search_core.specs.Bags.{weigh, Every};
-ghost use Rattle.crew_turns.specs.Deeds.{Flow, IsDone, on_nodes};
+ghost use Rattle.steal_pool.specs.Deeds.{Flow, IsDone, on_nodes};
 ghost use Rattle.search_crew.specs.Ends.{IsRest, IsLive, halves_in};
 ghost use Rattle.search_crew.specs.Starts.{IsUnused};
 
 use certificate::Node;
-use crew_turns::{Deeds, Halves, handle};
+use node_ends::{Desk, Solver};
 use node_racks::{Board, Seat};
-use node_work::{Desk, Tables};
 use std::alloc::Global;
 use std::sync::Wait;
+use steal_pool::{Deeds, Halves, handle};
 use stow_data::NoMemory;
-use voyage_guess::Planner;
 
 /// What is still to do, and what was done.
 #[derive(Drop)]
@@ -37,10 +36,10 @@ impl Rest {
     }
 
     // Handles a node for which a ticket was drawn.
-    fn settle(
+    fn settle<S: Solver>(
         &mut self,
         alloc: Global,
-        desk: &mut Desk,
+        desk: &mut Desk<S>,
         board: &Board,
         seat: &mut Seat,
         node: Node,
@@ -59,10 +58,10 @@ impl Rest {
     }
 
     // Draws a ticket for a node while there are any, and else leaves it.
-    fn step(
+    fn step<S: Solver>(
         &mut self,
         alloc: Global,
-        desk: &mut Desk,
+        desk: &mut Desk<S>,
         board: &Board,
         seat: &mut Seat,
         node: Node,
@@ -90,10 +89,10 @@ impl Rest {
 }
 
 // Handles what is to do, until nothing is.
-fn finish_rest<R: Wait>(
+fn finish_rest<S: Solver, R: Wait>(
     rt: &R,
     alloc: Global,
-    desk: &mut Desk,
+    desk: &mut Desk<S>,
     board: &Board,
     seat: &mut Seat,
     rest: &mut Rest,
@@ -117,10 +116,10 @@ fn finish_rest<R: Wait>(
 }
 
 // Handles these nodes and what comes of them, until nothing is to do.
-fn finish<R: Wait>(
+fn finish<S: Solver, R: Wait>(
     rt: &R,
     alloc: Global,
-    desk: &mut Desk,
+    desk: &mut Desk<S>,
     board: &Board,
     seat: &mut Seat,
     todo: Vec<Node>,
@@ -143,43 +142,25 @@ fn finish<R: Wait>(
     }
 }
 
-// A desk with a planner of its own.
-fn fresh_desk<'a>(alloc: Global, tables: &'a Tables<'a>) -> Result<Desk<'a>, NoMemory>
-    ensures { IfOk result (λ desk. desk ≡ tables.now) }
-{
-    let planner = Planner::new(alloc, tables.model())?;
-    Desk::fresh(alloc, tables, planner)
-}
-
-/// Handles these nodes, while there are tickets, and leaves the others: on a desk of its own, by a seat that has done nothing.
-pub fn finish_all<R: Wait>(
+/// Handles these nodes, while there are tickets, and leaves the others: on this desk, by a seat that has done nothing.
+pub fn finish_all<S: Solver, R: Wait>(
     rt: &R,
     alloc: Global,
-    tables: &Tables,
+    desk: &mut Desk<S>,
     board: &Board,
     seat: &mut Seat,
     todo: Vec<Node>,
 ) -> Result<Deeds, NoMemory>
-    requires cargo { IsCargo tables.now.cargo }
-    requires start { board.now.start ≤ most_rehandles tables.now + 1 }
+    requires cargo { IsCargo desk.old.cargo }
+    requires start { board.now.start ≤ most_rehandles desk.old + 1 }
     requires seat { seat.old.board ≡ board.now.id }
     requires view { IsUnused board.now.start seat.old.view }
-    requires nodes { Every (IsNode tables.now) todo.items }
+    requires nodes { Every (IsNode desk.old) todo.items }
     ensures seat { seat.new.board ≡ seat.old.board }
-    ensures done { IfOk result (λ deeds. IsDone tables.now board.now.start seat.new.view 0 deeds (λ h. weigh (on_nodes tables.now h) todo.items) (λ h. 0)) }
+    ensures done { IfOk result (λ deeds. IsDone desk.old board.now.start seat.new.view 0 deeds (λ h. weigh (on_nodes desk.old h) todo.items) (λ h. 0)) }
 {
     if todo.is_empty() {
         return Ok(Deeds::none(alloc));
     }
-    match fresh_desk(alloc, tables) {
-        Ok(mut desk) => {
-            let deeds = finish(rt, alloc, &mut desk, board, seat, todo);
-            drop(desk);
-            deeds
-        }
-        Err(no) => {
-            drop(todo);
-            Err(no)
-        }
-    }
+    finish(rt, alloc, desk, board, seat, todo)
 }

@@ -3,16 +3,16 @@ ghost use Rattle.std.specs.Prelude.{◌≡◌, ◌+◌, ◌++◌, ◌∷◌, [],
 ghost use Rattle.zero_one_rows.specs.Variables.{Voyage};
 ghost use Rattle.search_core.specs.Bags.{Every};
 ghost use Rattle.node_racks.specs.Rule.{joined, none_yet};
-ghost use Rattle.crew_turns.specs.Deeds.{no_deeds};
+ghost use Rattle.steal_pool.specs.Deeds.{no_deeds};
 ghost use Rattle.search_crew.specs.Ends.{IsBack, IsEnd, deeds_of, pass_of};
 ghost use Rattle.search_crew.specs.Starts.{IsUnused};
 ghost use Rattle.search_crew.specs.Together.{both, cheaper_of};
 
 use crate::places::Back;
 use certificate::{JournalList, Node, PathList};
-use crew_turns::{Deeds, Solution};
 use node_racks::{Board, Owner, Pass, Wanted};
 use std::alloc::Global;
+use steal_pool::{Deeds, Solution};
 use stow_data::NoMemory;
 
 /// What several workers did.

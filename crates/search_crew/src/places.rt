@@ -1,16 +1,16 @@
-//! What a worker is given, and what it brings back. Neither has a desk, which is made where the worker runs.
+//! What a worker is given, and what it brings back.
 
 use certificate::Node;
-use crew_turns::Deeds;
+use node_ends::{Desk, Solver};
 use node_racks::{Pass, Seat, Wanted};
-use voyage_guess::Planner;
+use steal_pool::Deeds;
 
-/// What a worker is given: its pass to the rack, its seat at the board, a planner for its desk, and the nodes that its deque refused.
+/// What a worker is given: its pass to the rack, its seat at the board, its desk, and the nodes that its deque refused.
 #[derive(Drop)]
-pub struct Post<M: Wanted> {
+pub struct Post<M: Wanted, S: Solver> {
     pub pass: Pass<M>,
     pub seat: Seat,
-    pub planner: Planner,
+    pub desk: Desk<S>,
     pub aside: Vec<Node>,
 }
 
@@ -25,8 +25,8 @@ pub struct Back<M: Wanted> {
 
 /// A worker's place: what it is given, and then what it brings back. It is empty where memory was wanting to the worker.
 #[derive(Drop)]
-pub enum Place<M: Wanted> {
-    Given(Post<M>),
+pub enum Place<M: Wanted, S: Solver> {
+    Given(Post<M, S>),
     Done(Back<M>),
     Empty,
 }

@@ -6,7 +6,7 @@ use Rattle.std.proofs.lemmas.List.{map-append}
 use Rattle.zero_one_rows.specs.declared.program.Row.{Row}
 use Rattle.zero_one_rows.specs.Variables.{Voyage}
 use Rattle.zero_one_rows.specs.Rows.{whole}
-use Rattle.program_rows.specs.Counted.{base_rows}
+use Rattle.zero_one_rows.specs.Counted.{base_rows}
 use Rattle.proof_trees.specs.Boxes.{Box}
 use Rattle.proof_trees.specs.Multipliers.{Multipliers}
 use Rattle.proof_trees.specs.Trees.{End, Leaf, Left, Branch, Entry, root}
@@ -16,7 +16,7 @@ use Rattle.certificate.specs.Entries.{same_row, entry_of}
 use Rattle.search_core.specs.Journals.{Anything, EndAllowed, branches, box_after, multipliers_after}
 use Rattle.search_core.specs.Machine.{Divides, IsTrail}
 use Rattle.search_core.proofs.Trails.{trail_more}
-use Rattle.node_work.specs.Work.{IsNode, begins_at, EndsBranched}
+use Rattle.node_ends.specs.Work.{IsNode, begins_at, EndsBranched}
 
 module _ (m : Voyage) where
   divides_by : (value : ℕ) (b : Box) (o : Option (Multipliers Row)) (d : End) → branches d ≡ true → EndAllowed same_row (whole m) Anything value b o d → ((ms : Multipliers Row) × (o ≡ Some ms)) × Divides (whole m) b d

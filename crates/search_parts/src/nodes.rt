@@ -1,12 +1,13 @@
 //! Nodes of the search.
 ghost use Rattle.std.specs.Prelude.{◌≡◌, ℕ, ◌≤◌, ◌+◌, ◌++◌, ◌∷◌, [], IfOk, OnOk};
 ghost use Rattle.stow_data.specs.Shipment.{IsCargo};
-ghost use Rattle.node_work.specs.Work.{IsNode, EndsBranched, begins_at, most_rehandles};
+ghost use Rattle.node_ends.specs.Work.{IsNode, EndsBranched, begins_at, most_rehandles};
 ghost use Rattle.zero_one_rows.specs.Variables.{Voyage};
 
 use box_parts::write_count;
 use certificate::{Node, Path, Record, SharedRecord, Trail};
-use node_work::{BaseMatrix, Desk, Tables, Worked, work};
+use node_ends::Worked;
+use node_work::{BaseMatrix, Desk, Tables, work};
 use std::alloc::Global;
 use stow_data::{Bytes, NoMemory};
 use voyage_guess::Planner;

@@ -8,12 +8,12 @@ use crate::inputs::{Voyage, records_of, voyage_of};
 use crate::said::{say, say_cause, say_entry, say_number, say_path};
 use crate::stop::Stop;
 use certificate::Tree;
+use crossing_law::crossing_rows_hold;
 use record_judge::{Core, Ended, Event, RecordJudge};
 use std::alloc::Global;
 use stow_data::{Bytes, NoMemory, Word};
 use stow_io::Folder;
 use zero_one_model::{Model, ModelNo};
-use zero_one_rows::crossing_rows_hold;
 
 /// With what a search begins.
 #[derive(Clone, Copy)]

@@ -3,7 +3,7 @@ use Rattle.std.proofs.Common.{◌≡◌, ◌⊎◌, inl, inr, ℕ, ◌+◌, ◌<
 use Rattle.zero_one_rows.specs.declared.program.Row.{Row}
 use Rattle.zero_one_rows.specs.Variables.{Voyage}
 use Rattle.zero_one_rows.specs.Rows.{whole}
-use Rattle.program_rows.specs.Counted.{base_rows}
+use Rattle.zero_one_rows.specs.Counted.{base_rows}
 use Rattle.proof_trees.specs.Boxes.{Box}
 use Rattle.proof_trees.specs.Trees.{Entry, Pending, root}
 use Rattle.certificate.specs.declared.nodes.Node.{Node}
@@ -19,7 +19,7 @@ use Rattle.search_core.proofs.Weights.{every_more, every_in}
 use Rattle.search_core.proofs.EndedEntries.{allowed_lesser}
 use Rattle.search_core.proofs.Along.{hold_more}
 use Rattle.node_ledger.specs.Gathered.{placed, placed_entries, nodes_of, AreWhole}
-use Rattle.node_work.specs.Work.{node_of}
+use Rattle.node_ends.specs.Work.{node_of}
 use Rattle.steal_pool.specs.declared.found.Found.{Found}
 use Rattle.node_racks.specs.declared.view.View.{View}
 use Rattle.node_racks.specs.Rule.{none_yet, fresh, seen_at, after_split, joined}

@@ -5,7 +5,7 @@ use Rattle.std.proofs.lemmas.List.{map-append}
 use Rattle.zero_one_rows.specs.declared.program.Row.{Row}
 use Rattle.zero_one_rows.specs.Variables.{Voyage, variables}
 use Rattle.zero_one_rows.specs.Rows.{whole}
-use Rattle.program_rows.specs.Counted.{base_rows}
+use Rattle.zero_one_rows.specs.Counted.{base_rows}
 use Rattle.proof_trees.specs.Boxes.{Box}
 use Rattle.proof_trees.specs.Multipliers.{Multipliers, Closes}
 use Rattle.proof_trees.proofs.Duality.{length_tightened}
@@ -27,10 +27,10 @@ use Rattle.search_core.proofs.Searching.{searching_begins, searching_closes, sea
 use Rattle.node_racks.specs.declared.view.View.{View}
 use Rattle.node_racks.specs.Rule.{none_yet, seen_at, offered_at, with_ticket, one_over}
 use Rattle.node_ledger.specs.Gathered.{placed}
-use Rattle.node_work.specs.Work as work
-use Rattle.node_work.specs.Work.{node_of, IsNode, begins_at, most_at, most_raises, box_at, IsLean, IsEarnest, EndsClosed, EndsBranched, EndsFull, Works}
-use Rattle.node_work.specs.declared.worked.Worked.{Worked}
-use Rattle.node_work.specs.declared.worked.Worked.TheVariants.{Closed, Branched, Full, NoMemory}
+use Rattle.node_ends.specs.Work as work
+use Rattle.node_ends.specs.Work.{node_of, IsNode, begins_at, most_at, most_raises, box_at, IsLean, IsEarnest, EndsClosed, EndsBranched, EndsFull, Works}
+use Rattle.node_ends.specs.declared.worked.Worked.{Worked}
+use Rattle.node_ends.specs.declared.worked.Worked.TheVariants.{Closed, Branched, Full, NoMemory}
 use Rattle.steal_pool.specs.Found.{IsWorked, EachWorked, HasBest}
 use Rattle.steal_pool.specs.declared.opens.Open.{Open}
 use Rattle.steal_pool.specs.declared.opens.Open.TheVariants.{Root, Half}

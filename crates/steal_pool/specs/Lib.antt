@@ -1,3 +1,5 @@
 pub mod Found
 pub mod Opens
 pub mod UnderWay
+pub mod Deeds
+pub mod Jobs

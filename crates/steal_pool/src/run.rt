@@ -2,7 +2,7 @@
 ghost use Rattle.std.specs.Prelude.{◌≡◌, ◌≤◌, ◌<◌, ◌+◌, ◌↔◌, ℕ, IfOk, IsTrue, OnOk, [], ◌∷◌, ◌++◌, length, map};
 ghost use Rattle.stow_data.specs.Shipment.{IsCargo};
 ghost use Rattle.zero_one_rows.specs.Variables.{Voyage};
-ghost use Rattle.node_work.specs.Work.{most_rehandles};
+ghost use Rattle.node_ends.specs.Work.{most_rehandles};
 ghost use Rattle.search_core.specs.Bags.{Every};
 ghost use Rattle.steal_pool.specs.Opens.{path_at, AreBeside, IsOnWay};
 ghost use Rattle.steal_pool.specs.UnderWay.{IsUnderWay, Goes, Keeps, Tells, divided_by, entry_at, found_of, halves_of};
@@ -12,8 +12,8 @@ ghost use Rattle.node_racks.specs.Rule.{none_yet};
 use crate::found::Found;
 use crate::opens::Open;
 use certificate::{Entry, Journal, JournalList, Node, Path, PathList, Record, SharedRecord, Trail};
+use node_ends::{Desk, Solver, Worked};
 use node_racks::{Board, Seat};
-use node_work::{Desk, Worked};
 use std::alloc::Global;
 use std::mem;
 use stow_data::NoMemory;
@@ -55,8 +55,8 @@ fn paths(alloc: Global, way: &[bool], opens: &[Open]) -> Result<PathList, NoMemo
     Ok(found)
 }
 
-// Offers the cost of a full box.
-fn tell(board: &Board, seat: &mut Seat, ended: &Worked)
+/// Offers the cost of a full box.
+pub(crate) fn tell(board: &Board, seat: &mut Seat, ended: &Worked)
     requires { seat.old.board ≡ board.now.id }
     ensures seat { seat.new.board ≡ seat.old.board }
     ensures told { Tells ended.now seat.old.view seat.new.view }
@@ -154,10 +154,10 @@ impl Run {
     }
 
     /// Handles the node that was taken, for which a ticket was drawn.
-    pub fn handle(
+    pub fn handle<S: Solver>(
         &mut self,
         alloc: Global,
-        desk: &mut Desk,
+        desk: &mut Desk<S>,
         board: &Board,
         seat: &mut Seat,
     ) -> Result<(), NoMemory>

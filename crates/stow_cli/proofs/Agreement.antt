@@ -15,11 +15,11 @@ use Rattle.stow_io.specs.declared.files.Finding.TheVariants as finding
 use Rattle.stow_io.specs.Writing.{with_files}
 use Rattle.stow_io.specs.declared.files.NamedFile.{NamedFile}
 use Rattle.stow_io.specs.declared.files.Work.{Work}
-use Rattle.voyage_inputs.specs.declared.answer.Answer.{Answer}
-use Rattle.voyage_inputs.specs.declared.answer.Answer.TheVariants as answer
-use Rattle.voyage_inputs.specs.declared.voyage.BookedVoyage.{BookedVoyage}
-use Rattle.voyage_inputs.specs.Names.{Names, names_from}
-use Rattle.voyage_inputs.proofs.OneInput.{one_inputs, turned_one}
+use Rattle.voyage_files.specs.declared.answer.Answer.{Answer}
+use Rattle.voyage_files.specs.declared.answer.Answer.TheVariants as answer
+use Rattle.voyage_files.specs.declared.voyage.BookedVoyage.{BookedVoyage}
+use Rattle.voyage_files.specs.Names.{Names, names_from}
+use Rattle.voyage_files.proofs.OneInput.{one_inputs, turned_one}
 use Rattle.stow_words.specs.declared.order.Order.{Order}
 use Rattle.stow_words.specs.declared.order.Order.TheVariants.{Plan, Check, Show, Make}
 use Rattle.stow_cli.specs.Voyages.{Sails, voyage_of}

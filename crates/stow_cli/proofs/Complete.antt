@@ -9,10 +9,10 @@ use Rattle.stow_io.specs.declared.files.Work.{Work}
 use Rattle.stow_words.specs.declared.order.Order.{Order}
 use Rattle.stow_words.specs.declared.order.Order.TheVariants.{Plan, Check, Show, Make}
 use Rattle.stow_words.specs.declared.order.WordsNo.{WordsNo}
-use Rattle.voyage_inputs.specs.Names.{names_from}
-use Rattle.voyage_inputs.specs.declared.answer.Answer.{Answer}
-use Rattle.voyage_inputs.specs.declared.answer.Answer.TheVariants as answer
-use Rattle.voyage_inputs.specs.declared.voyage.BookedVoyage.{BookedVoyage}
+use Rattle.voyage_files.specs.Names.{names_from}
+use Rattle.voyage_files.specs.declared.answer.Answer.{Answer}
+use Rattle.voyage_files.specs.declared.answer.Answer.TheVariants as answer
+use Rattle.voyage_files.specs.declared.voyage.BookedVoyage.{BookedVoyage}
 use Rattle.stow_cli.specs.Answers.{IsAnswerTo, PlanWithin}
 use Rattle.stow_cli.specs.Made.{behind, made_files, made_names, only_made}
 use Rattle.stow_cli.specs.Voyages.{Overflows}

@@ -7,8 +7,8 @@ use Rattle.stow_words.specs.declared.order.Order.{Order}
 use Rattle.stow_words.specs.declared.order.WordsNo.{WordsNo}
 use Rattle.stow_io.specs.declared.files.Finding.{Finding}
 use Rattle.stow_io.specs.declared.files.Finding.TheVariants as finding
-use Rattle.voyage_inputs.specs.declared.answer.Answer.{Answer}
-use Rattle.voyage_inputs.specs.declared.answer.Answer.TheVariants as answer
+use Rattle.voyage_files.specs.declared.answer.Answer.{Answer}
+use Rattle.voyage_files.specs.declared.answer.Answer.TheVariants as answer
 use Rattle.stow_cli.specs.Answers.{IsAnswerTo}
 use Rattle.stow_cli.proofs.Agreement.{answers_agree}
 use Rattle.stow_cli.specs.declared.status.Status.{Status}

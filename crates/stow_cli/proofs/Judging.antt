@@ -3,16 +3,16 @@ use Rattle.std.proofs.Common.{◌≡◌, ℕ, ◌≤◌, List, Option, ap, subst
 use Rattle.std.specs.Prelude.{Result, Ok, Err, IfOk, IfErr}
 use Rattle.stow_io.specs.Files.{Files}
 use Rattle.stow_io.specs.Causes.{Rose}
-use Rattle.voyage_inputs.specs.declared.answer.Answer.{Answer}
-use Rattle.voyage_inputs.specs.declared.voyage.BookedVoyage.{BookedVoyage}
-use Rattle.voyage_inputs.specs.declared.reading.ReadStop.{ReadStop}
-use Rattle.voyage_inputs.specs.declared.reading.ReadStop.TheVariants.{Failed, FailedOwn, NoMemory}
-use Rattle.voyage_inputs.specs.declared.reading.Found.{Found}
-use Rattle.voyage_inputs.specs.declared.reading.Found.TheVariants.{Voyage}
+use Rattle.voyage_files.specs.declared.answer.Answer.{Answer}
+use Rattle.voyage_files.specs.declared.voyage.BookedVoyage.{BookedVoyage}
+use Rattle.voyage_files.specs.declared.reading.ReadStop.{ReadStop}
+use Rattle.voyage_files.specs.declared.reading.ReadStop.TheVariants.{Failed, FailedOwn, NoMemory}
+use Rattle.voyage_files.specs.declared.reading.Found.{Found}
+use Rattle.voyage_files.specs.declared.reading.Found.TheVariants.{Voyage}
 use Rattle.zero_one_model.specs.Building.{IsWithin}
-use Rattle.voyage_inputs.specs.Names.{Names}
-use Rattle.voyage_inputs.specs.Reading.{AreTaken, IsFound}
-use Rattle.voyage_inputs.specs.Named.{IsStop}
+use Rattle.voyage_files.specs.Names.{Names}
+use Rattle.voyage_files.specs.Reading.{AreTaken, IsFound}
+use Rattle.voyage_files.specs.Named.{IsStop}
 use Rattle.stow_cli.specs.Voyages.{voyage_of}
 use Rattle.stow_cli.specs.Checks.{IsWrittenRead}
 use Rattle.stow_cli.specs.Answers.{Judges, CheckOf, IsWrittenOf, IsCheckRead}

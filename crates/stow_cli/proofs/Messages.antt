@@ -11,8 +11,8 @@ use Rattle.baplie.specs.declared.parts.Message.{Message}
 use Rattle.plan_files.proofs.Departures.{reads_as}
 use Rattle.plan_files.proofs.Planned.{plan_whole}
 use Rattle.plan_files.proofs.ShownBy.{plan_shown}
-use Rattle.voyage_inputs.specs.declared.voyage.BookedVoyage.{BookedVoyage}
-use Rattle.voyage_inputs.specs.Booked.{IsBooked, WasRead}
+use Rattle.voyage_files.specs.declared.voyage.BookedVoyage.{BookedVoyage}
+use Rattle.voyage_files.specs.Booked.{IsBooked, WasRead}
 use Rattle.stow_cli.specs.Work.{files_of}
 use Rattle.stow_cli.specs.Voyages.{ReadAs}
 

@@ -12,16 +12,16 @@ use Rattle.stow_report.specs.Refusals.{refusal_text}
 use Rattle.stow_report.specs.Inputs.{limit_line}
 use Rattle.stow_report.specs.Listings.{listing_text}
 use Rattle.stow_report.specs.Verdicts.{file_line}
-use Rattle.voyage_inputs.specs.declared.answer.Answer.{Answer}
-use Rattle.voyage_inputs.specs.declared.answer.Answer.TheVariants as answer
-use Rattle.voyage_inputs.specs.declared.voyage.BookedVoyage.{BookedVoyage}
+use Rattle.voyage_files.specs.declared.answer.Answer.{Answer}
+use Rattle.voyage_files.specs.declared.answer.Answer.TheVariants as answer
+use Rattle.voyage_files.specs.declared.voyage.BookedVoyage.{BookedVoyage}
 use Rattle.stow_io.specs.declared.files.Work.{Work}
 use Rattle.stow_words.specs.declared.order.Order.{Order}
 use Rattle.stow_words.specs.declared.order.Order.TheVariants.{Check, Show}
-use Rattle.voyage_inputs.specs.Names.{Names, names_from}
-use Rattle.voyage_inputs.specs.Inputs.{TurnsDown}
-use Rattle.voyage_inputs.proofs.OneMessage.{message_not_fault, one_baplie_fault, one_message}
-use Rattle.voyage_inputs.proofs.OneInput.{one_content, one_inputs, accepted_not_refused, turned_one}
+use Rattle.voyage_files.specs.Names.{Names, names_from}
+use Rattle.voyage_files.specs.Inputs.{TurnsDown}
+use Rattle.voyage_files.proofs.OneMessage.{message_not_fault, one_baplie_fault, one_message}
+use Rattle.voyage_files.proofs.OneInput.{one_content, one_inputs, accepted_not_refused, turned_one}
 use Rattle.stow_cli.specs.Voyages.{voyage_of}
 use Rattle.stow_cli.specs.Answers.{Takes, Judges, IsTooLarge, IsLarge, CheckOf, Lists, ShowOf, IsAnswerTo}
 use Rattle.stow_cli.proofs.OneCheck.{work_same, reads_one}

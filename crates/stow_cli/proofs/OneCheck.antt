@@ -9,17 +9,17 @@ use Rattle.certificate.specs.declared.tree.Record.{Record}
 use Rattle.certificate.specs.Grammar.{IsCert}
 use Rattle.certificate.proofs.Determined.{one_tree, one_fault, no_fault}
 use Rattle.model_bridge.specs.Laws.{IsProblem}
-use Rattle.file_judge.specs.declared.refusals.JudgeNo.{JudgeNo}
-use Rattle.file_judge.specs.Lines.{line_of}
-use Rattle.file_judge.proofs.OneNo.{one_no, yes_or_no}
+use Rattle.voyage_files.specs.declared.refusals.JudgeNo.{JudgeNo}
+use Rattle.voyage_files.specs.Lines.{line_of}
+use Rattle.voyage_files.proofs.OneNo.{one_no, yes_or_no}
 use Rattle.stow_report.specs.Refusals.{refusal_text}
 use Rattle.stow_report.specs.Verdicts.{cert_line}
 use Rattle.stow_report.specs.Numbers.{yes_text}
-use Rattle.voyage_inputs.specs.declared.answer.Answer.{Answer}
-use Rattle.voyage_inputs.specs.declared.answer.Answer.TheVariants as answer
-use Rattle.voyage_inputs.specs.declared.voyage.BookedVoyage.{BookedVoyage}
-use Rattle.voyage_inputs.specs.Inputs.{IsContent}
-use Rattle.voyage_inputs.proofs.OneInput.{one_content}
+use Rattle.voyage_files.specs.declared.answer.Answer.{Answer}
+use Rattle.voyage_files.specs.declared.answer.Answer.TheVariants as answer
+use Rattle.voyage_files.specs.declared.voyage.BookedVoyage.{BookedVoyage}
+use Rattle.voyage_files.specs.Inputs.{IsContent}
+use Rattle.voyage_files.proofs.OneInput.{one_content}
 use Rattle.stow_io.specs.declared.files.Finding.{Finding}
 use Rattle.stow_io.specs.declared.files.NamedFile.{NamedFile}
 use Rattle.stow_io.specs.declared.files.Work.{Work}

@@ -9,12 +9,12 @@ use Rattle.stow_report.specs.declared.lines.Line.{Line}
 use Rattle.stow_report.specs.Refusals.{refusal_text}
 use Rattle.stow_io.specs.declared.files.Finding.TheVariants.{Fine}
 use Rattle.stow_io.specs.declared.files.Work.{Work}
-use Rattle.voyage_inputs.specs.declared.answer.Answer.{Answer}
-use Rattle.voyage_inputs.specs.declared.answer.Answer.TheVariants as answer
-use Rattle.voyage_inputs.specs.declared.voyage.BookedVoyage.{BookedVoyage}
-use Rattle.voyage_inputs.specs.Names.{Names, names_from}
-use Rattle.voyage_inputs.specs.Inputs.{AreInputs, IsNoBayPlan, IsUnsettled, TurnsDown, refused, refused_in}
-use Rattle.voyage_inputs.proofs.OneInput.{one_inputs, accepted_not_refused}
+use Rattle.voyage_files.specs.declared.answer.Answer.{Answer}
+use Rattle.voyage_files.specs.declared.answer.Answer.TheVariants as answer
+use Rattle.voyage_files.specs.declared.voyage.BookedVoyage.{BookedVoyage}
+use Rattle.voyage_files.specs.Names.{Names, names_from}
+use Rattle.voyage_files.specs.Inputs.{AreInputs, IsNoBayPlan, IsUnsettled, TurnsDown, refused, refused_in}
+use Rattle.voyage_files.proofs.OneInput.{one_inputs, accepted_not_refused}
 use Rattle.stow_words.specs.declared.order.Order.TheVariants.{Check, Show}
 use Rattle.stow_cli.specs.Voyages.{voyage_of}
 use Rattle.stow_cli.specs.Checks.{IsCertOf, RefusesText}

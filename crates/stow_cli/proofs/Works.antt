@@ -12,10 +12,10 @@ use Rattle.plan_files.proofs.Told.{same_rotation}
 use Rattle.plan_search.specs.declared.planning.Planned.{Planned}
 use Rattle.plan_search.specs.Certified.{HasPlans, Certifies}
 use Rattle.stow_io.specs.declared.files.NamedFile.{NamedFile}
-use Rattle.voyage_inputs.specs.declared.answer.Answer.{Answer}
-use Rattle.voyage_inputs.specs.declared.answer.Answer.TheVariants as answer
-use Rattle.voyage_inputs.specs.declared.voyage.BookedVoyage.{BookedVoyage}
-use Rattle.voyage_inputs.specs.Booked.{IsBooked}
+use Rattle.voyage_files.specs.declared.answer.Answer.{Answer}
+use Rattle.voyage_files.specs.declared.answer.Answer.TheVariants as answer
+use Rattle.voyage_files.specs.declared.voyage.BookedVoyage.{BookedVoyage}
+use Rattle.voyage_files.specs.Booked.{IsBooked}
 use Rattle.model_bridge.specs.Laws.{IsProblem}
 use Rattle.stow_cli.specs.Voyages.{Sail, Sails, voyage_of}
 use Rattle.stow_cli.specs.Work.{ArePlans, ArePlansOrNone, file_of, files_of, departure_files, IsShort, work_of, AreTextsOf}

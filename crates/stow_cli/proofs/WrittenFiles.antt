@@ -7,13 +7,13 @@ use Rattle.stow_io.specs.Causes.{Rose}
 use Rattle.certificate.specs.declared.tree.Head.{Head}
 use Rattle.certificate.specs.declared.tree.Record.{Record}
 use Rattle.certificate.specs.Grammar.{IsCert}
-use Rattle.voyage_inputs.specs.declared.answer.Answer.{Answer}
-use Rattle.voyage_inputs.specs.declared.answer.Answer.TheVariants as answer
-use Rattle.voyage_inputs.specs.declared.voyage.BookedVoyage.{BookedVoyage}
-use Rattle.voyage_inputs.specs.declared.reading.ReadStop.{ReadStop}
-use Rattle.voyage_inputs.specs.declared.reading.ReadStop.TheVariants.{Failed, FailedOwn, NoMemory}
-use Rattle.voyage_inputs.specs.Inputs.{IsContent}
-use Rattle.voyage_inputs.specs.Named.{IsStop}
+use Rattle.voyage_files.specs.declared.answer.Answer.{Answer}
+use Rattle.voyage_files.specs.declared.answer.Answer.TheVariants as answer
+use Rattle.voyage_files.specs.declared.voyage.BookedVoyage.{BookedVoyage}
+use Rattle.voyage_files.specs.declared.reading.ReadStop.{ReadStop}
+use Rattle.voyage_files.specs.declared.reading.ReadStop.TheVariants.{Failed, FailedOwn, NoMemory}
+use Rattle.voyage_files.specs.Inputs.{IsContent}
+use Rattle.voyage_files.specs.Named.{IsStop}
 use Rattle.stow_cli.specs.declared.verdict.CertText.TheVariants.{Refused}
 use Rattle.stow_cli.specs.Checks.{AreBeside, AreTexts, IsCertOf, IsCertText, IsDepartureRead, IsFileName, IsWrittenRead, JudgedAs, ReadsCert, ReadsFiles, files_beside}
 use Rattle.stow_cli.specs.Voyages.{voyage_of}

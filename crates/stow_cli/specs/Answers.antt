@@ -12,15 +12,15 @@ use Rattle.baplie.specs.Reading.{IsBaplieFault}
 use Rattle.stow_report.specs.Refusals.{refusal_text}
 use Rattle.stow_report.specs.Inputs.{limit_line}
 use Rattle.stow_report.specs.Listings.{listing_text}
-use Rattle.voyage_inputs.specs.declared.answer.Answer.{Answer}
-use Rattle.voyage_inputs.specs.declared.answer.Answer.TheVariants as answer
+use Rattle.voyage_files.specs.declared.answer.Answer.{Answer}
+use Rattle.voyage_files.specs.declared.answer.Answer.TheVariants as answer
 use Rattle.stow_io.specs.declared.files.Work.{Work}
 use Rattle.stow_io.specs.declared.files.Finding.TheVariants.{Fine}
 use Rattle.stow_words.specs.declared.order.Order.{Order}
 use Rattle.stow_words.specs.declared.order.Order.TheVariants.{Plan, Check, Show, Make}
-use Rattle.voyage_inputs.specs.Names.{Names, names_from}
-use Rattle.voyage_inputs.specs.declared.voyage.BookedVoyage.{BookedVoyage}
-use Rattle.voyage_inputs.specs.Inputs.{IsContent, AreInputs, TurnsDown, IsReadBy}
+use Rattle.voyage_files.specs.Names.{Names, names_from}
+use Rattle.voyage_files.specs.declared.voyage.BookedVoyage.{BookedVoyage}
+use Rattle.voyage_files.specs.Inputs.{IsContent, AreInputs, TurnsDown, IsReadBy}
 use Rattle.stow_report.specs.Verdicts.{file_line}
 use Rattle.model_bridge.specs.Laws.{IsProblem}
 use Rattle.stow_cli.specs.Voyages.{Sails, Overflows, voyage_of}

@@ -7,17 +7,17 @@ use Rattle.certificate.specs.declared.tree.Head.{Head}
 use Rattle.certificate.specs.declared.tree.Record.{Record}
 use Rattle.certificate.specs.Grammar.{IsCert}
 use Rattle.certificate.specs.FirstFault.{HasFault}
-use Rattle.file_judge.specs.declared.refusals.JudgeNo.{JudgeNo}
-use Rattle.file_judge.specs.declared.refusals.JudgeNo.TheVariants.{NoMemory}
-use Rattle.file_judge.specs.Judged.{Bounds, Holds, IsNo}
-use Rattle.file_judge.specs.Lines.{line_of}
+use Rattle.voyage_files.specs.declared.refusals.JudgeNo.{JudgeNo}
+use Rattle.voyage_files.specs.declared.refusals.JudgeNo.TheVariants.{NoMemory}
+use Rattle.voyage_files.specs.Judged.{Bounds, Holds, IsNo}
+use Rattle.voyage_files.specs.Lines.{line_of}
 use Rattle.stow_report.specs.Refusals.{refusal_text}
 use Rattle.stow_report.specs.Verdicts.{cert_line}
 use Rattle.stow_report.specs.Numbers.{yes_text}
-use Rattle.voyage_inputs.specs.declared.answer.Answer.{Answer}
-use Rattle.voyage_inputs.specs.declared.answer.Answer.TheVariants as answer
-use Rattle.voyage_inputs.specs.declared.voyage.BookedVoyage.{BookedVoyage}
-use Rattle.voyage_inputs.specs.Inputs.{IsContent}
+use Rattle.voyage_files.specs.declared.answer.Answer.{Answer}
+use Rattle.voyage_files.specs.declared.answer.Answer.TheVariants as answer
+use Rattle.voyage_files.specs.declared.voyage.BookedVoyage.{BookedVoyage}
+use Rattle.voyage_files.specs.Inputs.{IsContent}
 use Rattle.stow_io.specs.declared.files.Finding.TheVariants.{Fine}
 use Rattle.stow_io.specs.declared.files.Work.{Work}
 use Rattle.stow_cli.specs.declared.verdict.CertText.{CertText}

@@ -10,8 +10,8 @@ use Rattle.stow_io.specs.declared.files.Work.{Work}
 use Rattle.stow_words.specs.declared.order.Order.{Order}
 use Rattle.stow_words.specs.declared.order.WordsNo.{WordsNo}
 use Rattle.stow_words.specs.declared.order.WordsNo.TheVariants.{NotTaken, Workers, Budget, Number, NoMemory}
-use Rattle.voyage_inputs.specs.declared.answer.Answer.{Answer}
-use Rattle.voyage_inputs.specs.declared.answer.Answer.TheVariants as answer
+use Rattle.voyage_files.specs.declared.answer.Answer.{Answer}
+use Rattle.voyage_files.specs.declared.answer.Answer.TheVariants as answer
 use Rattle.stow_cli.specs.Answers.{IsAnswerTo, IsReadFor}
 use Rattle.stow_cli.specs.Law.{Agree}
 use Rattle.stow_cli.specs.declared.status.Status.{Status}

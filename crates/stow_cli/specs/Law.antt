@@ -3,8 +3,8 @@ use Rattle.std.specs.Prelude.{◌≡◌, ◌⊎◌, Some}
 use Rattle.stow_io.specs.Files.{Files}
 use Rattle.stow_io.specs.declared.files.Finding.{Finding}
 use Rattle.stow_io.specs.declared.files.Finding.TheVariants.{Fine, Gap, NoPlan, Undecided}
-use Rattle.voyage_inputs.specs.declared.answer.Answer.{Answer}
-use Rattle.voyage_inputs.specs.declared.answer.Answer.TheVariants as answer
+use Rattle.voyage_files.specs.declared.answer.Answer.{Answer}
+use Rattle.voyage_files.specs.declared.answer.Answer.TheVariants as answer
 use Rattle.stow_words.specs.declared.order.Order.{Order}
 use Rattle.stow_words.specs.declared.order.Order.TheVariants as order
 use Rattle.stow_cli.specs.Answers.{IsAnswerTo}

@@ -5,9 +5,9 @@ use Rattle.stow_gen.specs.Profile.{profile_text}
 use Rattle.stow_gen.specs.Bookings.{bookings_text}
 use Rattle.stow_io.specs.Writing.{with_files}
 use Rattle.stow_io.specs.declared.files.NamedFile.{NamedFile}
-use Rattle.voyage_inputs.specs.Names.{Names, names_from}
-use Rattle.voyage_inputs.specs.declared.answer.Answer.{Answer}
-use Rattle.voyage_inputs.specs.declared.answer.Answer.TheVariants as answer
+use Rattle.voyage_files.specs.Names.{Names, names_from}
+use Rattle.voyage_files.specs.declared.answer.Answer.{Answer}
+use Rattle.voyage_files.specs.declared.answer.Answer.TheVariants as answer
 
 -- the names of a made profile and of made bookings
 abbrev pub profile_name : List ℕ → List ℕ

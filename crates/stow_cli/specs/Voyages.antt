@@ -12,7 +12,7 @@ use Rattle.zero_one_rows.specs.Variables.{Voyage}
 use Rattle.certificate.specs.declared.tree.Head.{Head}
 use Rattle.certificate.specs.declared.tree.Record.{Record}
 use Rattle.plan_search.specs.Certified.{Certifies}
-use Rattle.voyage_inputs.specs.declared.voyage.BookedVoyage.{BookedVoyage}
+use Rattle.voyage_files.specs.declared.voyage.BookedVoyage.{BookedVoyage}
 use Rattle.stow_cli.specs.Work.{files_of, cert_file, finding_of, IsShort, IsOverlong}
 
 -- the voyage whose 0-1 program is the question

@@ -3,8 +3,8 @@ ghost use Rattle.std.specs.Prelude.{◌≡◌, ◌≤◌, IfOk, IfErr};
 ghost use Rattle.stow_io.specs.Causes.{Rose};
 ghost use Rattle.stow_words.specs.Orders.{IsInRange};
 ghost use Rattle.stow_cli.specs.Answers.{IsAnswerTo, IsReadFor};
-ghost use Rattle.voyage_inputs.specs.Named.{names_of, IsStop, IsQuiet};
-ghost use Rattle.voyage_inputs.specs.Names.{names_from};
+ghost use Rattle.voyage_files.specs.Named.{names_of, IsStop, IsQuiet};
+ghost use Rattle.voyage_files.specs.Names.{names_from};
 
 use crate::checking::check;
 use crate::making::make;
@@ -16,7 +16,7 @@ use std::thread::Threads;
 use stow_data::{NoMemory, Word};
 use stow_io::{Folder, Gate};
 use stow_words::Order;
-use voyage_inputs::{Answer, Inputs, ReadStop};
+use voyage_files::{Answer, Inputs, ReadStop};
 
 /// What an order is answered. Nothing is written. A search for plans comes to the gate before each of its nodes.
 pub fn answer_to<'a, F: Folder, G: Gate + Sync, R: Threads + Wait + Sync>(

@@ -5,8 +5,8 @@ ghost use Rattle.zero_one_model.specs.Building.{IsWithin};
 ghost use Rattle.model_bridge.specs.Laws.{IsProblem};
 ghost use Rattle.stow_cli.specs.Answers.{Judges, CheckOf, IsCheckRead};
 ghost use Rattle.stow_cli.specs.Checks.{IsFileName, IsWrittenRead, ReadsCert, ReadsFiles, files_beside};
-ghost use Rattle.voyage_inputs.specs.Booked.{IsBooked};
-ghost use Rattle.voyage_inputs.specs.Named.{names_of, IsStop, IsQuiet};
+ghost use Rattle.voyage_files.specs.Booked.{IsBooked};
+ghost use Rattle.voyage_files.specs.Named.{names_of, IsStop, IsQuiet};
 ghost use Rattle.stow_cli.specs.Voyages.{voyage_of};
 
 use crate::departures::{read_departures, read_own};
@@ -18,7 +18,7 @@ use certificate::{Head, Tree};
 use std::alloc::Global;
 use stow_data::NoMemory;
 use stow_io::Folder;
-use voyage_inputs::{Answer, BookedVoyage, Found, Inputs, ReadStop, read_inputs};
+use voyage_files::{Answer, BookedVoyage, Found, Inputs, ReadStop, read_inputs};
 use zero_one_model::{Model, ModelNo};
 
 /// What the certificate and the departure files beside it are answered.

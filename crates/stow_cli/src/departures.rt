@@ -1,17 +1,16 @@
 //! The reads of the files beside the inputs.
 ghost use Rattle.std.specs.Prelude.{◌≡◌, ◌≤◌, ◌<◌, ◌+◌, ◌^◌, All, IfOk, IfErr, length};
 ghost use Rattle.stow_io.specs.Causes.{Rose};
-ghost use Rattle.voyage_inputs.specs.Inputs.{IsContent};
-ghost use Rattle.voyage_inputs.specs.Named.{IsStop, IsQuiet};
+ghost use Rattle.voyage_files.specs.Inputs.{IsContent};
+ghost use Rattle.voyage_files.specs.Named.{IsStop, IsQuiet};
 ghost use Rattle.stow_cli.specs.Checks.{AreTexts, IsFileName};
 ghost use Rattle.stow_cli.specs.Work.{file_name};
 
 use crate::work::file_name;
-use file_judge::TextList;
 use std::alloc::Global;
 use stow_data::{Bytes, NoMemory, Word};
 use stow_io::{Folder, FolderNo};
-use voyage_inputs::ReadStop;
+use voyage_files::{ReadStop, TextList};
 
 /// The bytes under a name that was made.
 pub fn read_own<'a, F: Folder>(folder: &mut F, name: Word) -> Result<Bytes, ReadStop<'a>>

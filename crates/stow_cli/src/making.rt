@@ -3,7 +3,7 @@ ghost use Rattle.std.specs.Prelude.{◌≡◌, ◌≤◌, ◌∷◌, [], IfOk, N
 ghost use Rattle.stow_io.specs.Writing.{with_files};
 ghost use Rattle.stow_cli.specs.Answers.{IsMade, IsPlanTo};
 ghost use Rattle.stow_cli.specs.Made.{behind, bookings_name, made_files, no_files, profile_name};
-ghost use Rattle.voyage_inputs.specs.Names.{names_from};
+ghost use Rattle.voyage_files.specs.Names.{names_from};
 
 use crate::planning::plan;
 use std::alloc::Global;
@@ -12,7 +12,7 @@ use std::thread::Threads;
 use stow_data::{NoMemory, Word};
 use stow_gen::{make_bookings, make_profile};
 use stow_io::{FileList, Folder, Gate, NamedFile, SureFolder, Work};
-use voyage_inputs::{Answer, Inputs};
+use voyage_files::{Answer, Inputs};
 
 /// How many nodes a search for the plans of a made ship may have.
 const BUDGET: u64 = 50;

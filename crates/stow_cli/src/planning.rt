@@ -3,10 +3,10 @@ ghost use Rattle.std.specs.Prelude.{◌≡◌, ◌≤◌, IfOk, IfErr};
 ghost use Rattle.stow_io.specs.Causes.{Rose};
 ghost use Rattle.zero_one_model.specs.Building.{IsWithin};
 ghost use Rattle.stow_cli.specs.Answers.{Judges, PlanOf, PlanWithin};
-ghost use Rattle.voyage_inputs.specs.Booked.{IsBooked};
+ghost use Rattle.voyage_files.specs.Booked.{IsBooked};
 ghost use Rattle.stow_cli.specs.Voyages.{voyage_of};
-ghost use Rattle.voyage_inputs.specs.Inputs.{IsReadBy};
-ghost use Rattle.voyage_inputs.specs.Named.{names_of, IsStop, IsQuiet};
+ghost use Rattle.voyage_files.specs.Inputs.{IsReadBy};
+ghost use Rattle.voyage_files.specs.Named.{names_of, IsStop, IsQuiet};
 
 use crate::refusing::limit_text;
 use crate::work::texts_of;
@@ -16,7 +16,7 @@ use std::sync::Wait;
 use std::thread::Threads;
 use stow_data::NoMemory;
 use stow_io::{Folder, Gate};
-use voyage_inputs::{Answer, BookedVoyage, Found, Inputs, ReadStop, read_inputs};
+use voyage_files::{Answer, BookedVoyage, Found, Inputs, ReadStop, read_inputs};
 use zero_one_model::{Model, ModelNo};
 
 /// The plans of the voyage of the inputs, found by a search of at most so many nodes, with their certificate; or why

@@ -3,7 +3,7 @@ ghost use Rattle.std.specs.Prelude.{◌≡◌, ◌≤◌, ◌^◌, [], length, I
 ghost use Rattle.stow_report.specs.Listings.{AreListable, listing_text};
 ghost use Rattle.stow_io.specs.Causes.{Rose};
 ghost use Rattle.stow_cli.specs.Answers.{IsShown, ShowOf};
-ghost use Rattle.voyage_inputs.specs.Named.{IsStop, IsQuiet};
+ghost use Rattle.voyage_files.specs.Named.{IsStop, IsQuiet};
 
 use crate::refusing::file_text;
 use baplie::{BaplieFault, Message, read_baplie};
@@ -11,7 +11,7 @@ use std::alloc::Global;
 use stow_data::NoMemory;
 use stow_io::{FileList, Finding, Folder, Work};
 use stow_report::listing;
-use voyage_inputs::{Answer, ReadStop, read};
+use voyage_files::{Answer, ReadStop, read};
 
 /// The list of the bay plan in the file, or its fault.
 pub fn show<'a, F: Folder>(

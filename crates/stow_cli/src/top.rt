@@ -15,7 +15,7 @@ use std::thread::Threads;
 use stow_data::WordList;
 use stow_io::{Folder, Gate, Sink, say, say_name};
 use stow_words::{Order, read_words};
-use voyage_inputs::{Answer, ReadStop};
+use voyage_files::{Answer, ReadStop};
 
 /// Does what the words ask for, over the folder's files, and prints into the sink.
 pub fn stow<R: Threads + Wait + Sync, F: Folder, K: Sink, G: Gate + Sync>(

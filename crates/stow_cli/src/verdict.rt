@@ -7,12 +7,11 @@ ghost use Rattle.stow_cli.specs.Voyages.{voyage_of};
 
 use crate::refusing::cert_text as refused_cert;
 use certificate::{CertFault, Head, Tree, read_cert};
-use file_judge::{JudgeNo, judge, line_of};
 use std::alloc::Global;
 use stow_data::{Bytes, NoMemory};
 use stow_io::{FileList, Finding, Work};
 use stow_report::{confirmed, refusal};
-use voyage_inputs::{Answer, BookedVoyage};
+use voyage_files::{Answer, BookedVoyage, JudgeNo, judge, line_of};
 use zero_one_model::Model;
 
 /// What the text of a certificate is.

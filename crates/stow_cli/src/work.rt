@@ -2,7 +2,7 @@
 ghost use Rattle.std.specs.Prelude.{◌≡◌, ◌<◌, ◌++◌, ◌∷◌, [], IfOk, length};
 ghost use Rattle.stowage_rules.specs.Plan.{IsWellFormed};
 ghost use Rattle.arrival_plan.specs.Settled.{groups_of};
-ghost use Rattle.voyage_inputs.specs.Booked.{IsBooked};
+ghost use Rattle.voyage_files.specs.Booked.{IsBooked};
 ghost use Rattle.stow_cli.specs.Work.{ArePlans, ArePlansOrNone, file_name, file_of, files_of, departure_files, cert_name, cert_file, finding_of, work_of, AreTextsOf};
 
 use crate::refusing::limit_text;
@@ -14,7 +14,7 @@ use std::alloc::Global;
 use stow_data::{Limit, NoMemory, Plan, PlanList, Word};
 use stow_io::{FileList, Finding, NamedFile, Work};
 use stow_report::report;
-use voyage_inputs::{Answer, BookedVoyage};
+use voyage_files::{Answer, BookedVoyage};
 
 /// The greatest number of bytes of a certificate.
 const MOST_BYTES: u64 = 536_870_912;

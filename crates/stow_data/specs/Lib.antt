@@ -1,4 +1,5 @@
 pub mod Ship
+pub mod Near
 pub mod Profile
 pub mod CellTable
 pub mod CoverTable

@@ -15,7 +15,8 @@ use Rattle.stow_data.specs.Plans.{Plan}
 use Rattle.stowage_rules.specs.declared.faults.RuleBroken.{RuleBroken}
 use Rattle.stowage_rules.specs.declared.faults.RuleBroken.TheVariants.{Support, TwentyOnForty, NoPlug, StackWeight, Separation}
 use Rattle.stowage_rules.specs.Plan.{Fills, Stands, IsWellFormed}
-use Rattle.stowage_rules.specs.Departure.{half_of, IsTwenty, IsSupported, IsTwentyOnTwenty, IsWithinLimits, near, stack_weight}
+use Rattle.stow_data.specs.Near.{near}
+use Rattle.stowage_rules.specs.Departure.{half_of, IsTwenty, IsSupported, IsTwentyOnTwenty, IsWithinLimits, stack_weight}
 use Rattle.stowage_rules.specs.Faults.{IsUnsupported, IsTwentyOnForty as IsOnForty, IsUnplugged, IsOverweight, AreTooNear, IsUnseparated, OfHalf, IsFault, MeetsRules, rank, IsLess, IsFirstFault, IsLeast, IsFirstHeavy, IsFirstUnseparated}
 use Rattle.stowage_rules.proofs.Standing.{filled_or_not, half_number}
 

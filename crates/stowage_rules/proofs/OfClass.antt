@@ -9,7 +9,7 @@ use Rattle.stow_data.specs.Ship.{Ship, places}
 use Rattle.stow_data.specs.Shipment.{Cargo}
 use Rattle.stow_data.specs.Plans.{Plan}
 use Rattle.stow_data.proofs.InOrder.{split_get, get_left, get_right}
-use Rattle.stowage_rules.specs.Departure.{near}
+use Rattle.stow_data.specs.Near.{near}
 use Rattle.stowage_rules.specs.Faults.{HasClassAt, AreTooNear}
 use Rattle.stowage_rules.specs.Places.{AreOfClass}
 use Rattle.stowage_rules.proofs.Items.{slice_get_in}

@@ -12,7 +12,8 @@ use Rattle.stow_data.specs.Ship.{Ship, places, HasHalf, HasLength, TakesSide, ha
 use Rattle.stow_data.specs.Shipment.{Cargo}
 use Rattle.stow_data.specs.Plans.{Plan}
 use Rattle.stowage_rules.specs.Plan.{Holds, IsWellFormed}
-use Rattle.stowage_rules.specs.Departure.{HoldsAboard, has_column_in_common, meets}
+use Rattle.stow_data.specs.Near.{has_column_in_common, meets}
+use Rattle.stowage_rules.specs.Departure.{HoldsAboard}
 use Rattle.stowage_rules.specs.Places.{FitsAt, StandsAlone, StandsAloneAt, IsSomewhere, AboardAt}
 use Rattle.stowage_rules.proofs.Fillers.{from}
 

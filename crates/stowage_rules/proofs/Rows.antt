@@ -8,7 +8,8 @@ use Rattle.stow_data.specs.declared.geometry.Length.TheVariants as long
 use Rattle.stow_data.specs.declared.cargoes.Origin.TheVariants as origin
 use Rattle.stow_data.specs.Ship.{Ship, places}
 use Rattle.stow_data.specs.Shipment.{Cargo}
-use Rattle.stowage_rules.specs.Departure.{near, stack_weight}
+use Rattle.stow_data.specs.Near.{near}
+use Rattle.stowage_rules.specs.Departure.{stack_weight}
 
 -- A hold stack of one tier, a deck stack of one; a reefer of 20,500 kg.
 abbrev ship : Ship

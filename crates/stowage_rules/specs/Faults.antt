@@ -11,7 +11,8 @@ use Rattle.stow_data.specs.Plans.{Plan}
 use Rattle.stowage_rules.specs.declared.faults.RuleBroken.{RuleBroken}
 use Rattle.stowage_rules.specs.declared.faults.RuleBroken.TheVariants.{Support, TwentyOnForty, NoPlug, StackWeight, Separation}
 use Rattle.stowage_rules.specs.Plan.{Holds, Fills, Stands}
-use Rattle.stowage_rules.specs.Departure.{half_of, IsTwenty, IsSupported, IsTwentyOnTwenty, IsPlugged, IsWithinLimits, IsSeparated, stack_weight, near}
+use Rattle.stow_data.specs.Near.{near}
+use Rattle.stowage_rules.specs.Departure.{half_of, IsTwenty, IsSupported, IsTwentyOnTwenty, IsPlugged, IsWithinLimits, IsSeparated, stack_weight}
 
 -- a half-cell above the lowest tier is filled, and the one directly below it isn't
 pub record IsUnsupported (ship : Ship) (plan : Plan) (half : Half) : Type 0 where

@@ -7,8 +7,9 @@ ghost use Rattle.stowage_rules.specs.Departure.{HoldsAboard, IsDeparture};
 ghost use Rattle.stowage_rules.specs.Places.{AboardAt, FitsAt, IsSomewhere, StandsAlone, StandsAloneAt};
 
 use crate::faults::departure_fault;
-use crate::separation::shares_half;
-use stow_data::{CallNo, Cargo, Container, ContainerNo, Length, PlaceNo, Plan, Ship, Span};
+use stow_data::{
+    CallNo, Cargo, Container, ContainerNo, Length, PlaceNo, Plan, Ship, Span, shares_half,
+};
 
 /// Whether the span takes a container of this length.
 fn has_length(span: Span, long: Length) -> bool

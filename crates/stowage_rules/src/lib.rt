@@ -14,6 +14,5 @@ mod weights;
 pub use departures::{holds_aboard, is_aboard, is_departure, is_well_formed};
 pub use faults::{RuleBroken, departure_fault};
 pub use half_cells::{filler, filler_near, is_taken, is_twenty, takes_side};
-pub use separation::{is_near, shares_half};
 pub use supports::is_filled;
 pub use tiers::first_of_tier;

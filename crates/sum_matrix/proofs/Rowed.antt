@@ -8,7 +8,7 @@ use Rattle.stow_data.specs.declared.geometry.Place.{Place}
 use Rattle.stow_data.specs.declared.geometry.Half.{Half}
 use Rattle.stow_data.specs.declared.geometry.Span.{Span}
 use Rattle.stow_data.specs.declared.geometry.Span.TheVariants.{Fore, Aft, Both}
-use Rattle.stowage_rules.specs.Departure.{near, near_by, meets, has_column_in_common}
+use Rattle.stow_data.specs.Near.{near, near_by, meets, has_column_in_common}
 use Rattle.proof_trees.specs.Program.{where_set}
 use Rattle.zero_one_rows.specs.declared.program.Var.{Var}
 use Rattle.zero_one_rows.specs.declared.program.Row.{Row}

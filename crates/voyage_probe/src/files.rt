@@ -1,7 +1,7 @@
 //! Departure files: their texts, the plans that they show, and their check.
 ghost use Rattle.std.specs.Prelude.{◌≡◌, ◌≤◌, ◌^◌, ◌+◌, All, IfOk, IfSome, length};
 ghost use Rattle.arrival_plan.specs.Settled.{AreRead, groups_of};
-ghost use Rattle.voyage_inputs.specs.Booked.{IsBooked};
+ghost use Rattle.voyage_files.specs.Booked.{IsBooked};
 
 use crate::plans::{comes_in_stowed, is_sound};
 use crate::said::{say, say_call, say_count, say_line, say_number, say_plan, say_plan_no};
@@ -13,7 +13,7 @@ use std::alloc::Global;
 use stow_data::{Bytes, CallNo, Cargo, ContainerNo, NoMemory, Plan, PlanList, Seq, Ship, Word};
 use stow_io::{Folder, MOST_READ, SureFolder};
 use stow_report::file_line;
-use voyage_inputs::BookedVoyage;
+use voyage_files::BookedVoyage;
 
 /// The messages of departure files.
 type MessageList = Seq<Message>;

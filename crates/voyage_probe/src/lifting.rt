@@ -4,7 +4,7 @@ ghost use Rattle.stowage_rules.specs.Departure.{HasArrival};
 ghost use Rattle.voyage_meaning.specs.Berths.{BelongsTo};
 ghost use Rattle.voyage_meaning.specs.Voyage.{HasCount};
 ghost use Rattle.plan_lifts.specs.Lifted.{ArePlans, IsLifted};
-ghost use Rattle.voyage_inputs.specs.Booked.{IsBooked};
+ghost use Rattle.voyage_files.specs.Booked.{IsBooked};
 
 use crate::berths::{say_move, say_unfinished};
 use crate::plans::{are_plans, comes_in_stowed, is_sound};
@@ -12,7 +12,7 @@ use crate::said::{say, say_call, say_count, say_number, say_rule};
 use plan_lifts::{LiftList, Lifted, LiftsFault, lifts, moves_of};
 use std::alloc::Global;
 use stow_data::{Bytes, CallNo, Cargo, NoMemory, PlaceNo, Plan, PlanList, Ship};
-use voyage_inputs::BookedVoyage;
+use voyage_files::BookedVoyage;
 use voyage_meaning::{Berth, Move, MoveList};
 
 /// The lifts of departures, computed so many times.

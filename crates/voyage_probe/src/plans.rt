@@ -3,7 +3,7 @@ ghost use Rattle.std.specs.Prelude.{◌≡◌, ◌+◌, ◌<◌, ◌^◌, IsTrue
 ghost use Rattle.stowage_rules.specs.Plan.{IsWellFormed};
 ghost use Rattle.stowage_rules.specs.Departure.{HasArrival};
 ghost use Rattle.plan_lifts.specs.Lifted.{ArePlans};
-ghost use Rattle.voyage_inputs.specs.Booked.{IsBooked};
+ghost use Rattle.voyage_files.specs.Booked.{IsBooked};
 
 use crate::said::{say, say_call, say_plan, say_rule};
 use crate::stop::Stop;
@@ -11,7 +11,7 @@ use greedy_loader::load;
 use std::alloc::Global;
 use stow_data::{Bytes, CallNo, Cargo, ContainerNo, NoMemory, PlaceNo, Plan, PlanList, Ship, Word};
 use stowage_rules::{RuleBroken, departure_fault, holds_aboard, is_well_formed};
-use voyage_inputs::BookedVoyage;
+use voyage_files::BookedVoyage;
 
 /// The place and the container of a word such as `4:0`.
 fn pair_of(word: &str) -> Option<(PlaceNo, ContainerNo)> {

@@ -1,5 +1,5 @@
 //! The questions of lines, and their answers.
-ghost use Rattle.voyage_inputs.specs.Booked.{IsBooked};
+ghost use Rattle.voyage_files.specs.Booked.{IsBooked};
 
 use crate::berths::say_moves;
 use crate::files::{say_cargo, say_check, say_file, say_own, say_shown, settle_often};
@@ -10,7 +10,7 @@ use crate::stop::Stop;
 use std::alloc::Global;
 use stow_data::{Bytes, CallNo, PlanList, Word, WordList};
 use stow_io::{Folder, SureFolder};
-use voyage_inputs::{Answer, BookedVoyage, Found, Inputs, ReadStop, read_inputs};
+use voyage_files::{Answer, BookedVoyage, Found, Inputs, ReadStop, read_inputs};
 
 /// The voyage that is asked about.
 #[derive(Drop)]

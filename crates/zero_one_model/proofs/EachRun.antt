@@ -16,12 +16,12 @@ use Rattle.zero_one_rows.specs.declared.program.Var.{Var}
 use Rattle.zero_one_rows.specs.Variables.{Voyage, calls, place, variables, var}
 use Rattle.zero_one_rows.specs.Crossing.{tallest, length_of, columns, is_length}
 use Rattle.zero_one_rows.specs.Rows.{half, covers, below, above, coef, has}
-use Rattle.zero_one_rows.proofs.Listing.{var_listed, filter_at, filter_from, member_get}
-use Rattle.program_rows.specs.Counted.{base_rows, all_chains}
-use Rattle.program_rows.specs.Ordered.{Precedes}
-use Rattle.program_rows.proofs.EveryRow.{base_listed, both}
-use Rattle.program_rows.proofs.EveryChain.{chain_from, chain_by_test, chains_rise, not_both}
-use Rattle.program_rows.proofs.Rising.{Rising, rising_append, rising_flat, rising_map, rising_filter, rising_get, rising_pairs}
+use Rattle.zero_one_rows.proofs.VariableList.{var_listed, filter_at, filter_from, member_get}
+use Rattle.zero_one_rows.specs.Counted.{base_rows, all_chains}
+use Rattle.zero_one_rows.specs.Ordered.{Precedes}
+use Rattle.zero_one_rows.proofs.EveryRow.{base_listed, both}
+use Rattle.zero_one_rows.proofs.EveryChain.{chain_from, chain_by_test, chains_rise, not_both}
+use Rattle.zero_one_rows.proofs.Rising.{Rising, rising_append, rising_flat, rising_map, rising_filter, rising_get, rising_pairs}
 use Rattle.zero_one_model.specs.declared.filing.RowFiles.{RowFiles}
 use Rattle.zero_one_model.specs.Indexed.{Touches, half_shelf, place_key}
 use Rattle.zero_one_model.specs.Runs.{at_call, call_of, lead, is_shelved, leads, first_shelf, second_shelf, no_shelf, first_file, second_file, IsFiled, no_row, base_row, calls_for, run_of, meets, named_runs, chain_runs, runs_for}

@@ -7,12 +7,12 @@ use Rattle.stow_data.proofs.Members.{Member}
 use Rattle.zero_one_rows.specs.declared.program.Row.{Row}
 use Rattle.zero_one_rows.specs.Variables.{Voyage}
 use Rattle.zero_one_rows.specs.Rows.{has, is_base}
-use Rattle.program_rows.specs.Counted.{row_lists, base_rows, base_in, rows_in, cross_rows}
-use Rattle.program_rows.specs.declared.row_lists.RowLists.{RowLists}
-use Rattle.program_rows.specs.Ordered.{Precedes}
-use Rattle.program_rows.proofs.EveryRow.{lists_base_rows, right_of}
-use Rattle.program_rows.proofs.InOrder.{all_rise}
-use Rattle.program_rows.proofs.Rising.{Rising}
+use Rattle.zero_one_rows.specs.Counted.{row_lists, base_rows, base_in, rows_in, cross_rows}
+use Rattle.zero_one_rows.specs.declared.row_lists.RowLists.{RowLists}
+use Rattle.zero_one_rows.specs.Ordered.{Precedes}
+use Rattle.zero_one_rows.proofs.EveryRow.{lists_base_rows, right_of}
+use Rattle.zero_one_rows.proofs.InOrder.{all_rise}
+use Rattle.zero_one_rows.proofs.Rising.{Rising}
 use Rattle.stow_data.proofs.Distinct.{Each}
 use Rattle.zero_one_model.proofs.Touched.{contains_from}
 

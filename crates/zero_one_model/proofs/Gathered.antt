@@ -14,10 +14,10 @@ use Rattle.zero_one_rows.specs.declared.program.Row.TheVariants.{Cross}
 use Rattle.zero_one_rows.specs.Variables.{Voyage, var, kind, is_rehandled}
 use Rattle.zero_one_rows.specs.Crossing.{crosses, tallest, length_of}
 use Rattle.zero_one_rows.specs.Rows.{bit, has}
-use Rattle.zero_one_rows.proofs.Listing.{get_member}
-use Rattle.program_rows.specs.Counted.{base_rows}
-use Rattle.program_rows.specs.Grouping.{IsGrouped}
-use Rattle.program_rows.proofs.Filters.{filter_same, filter_none}
+use Rattle.zero_one_rows.proofs.VariableList.{get_member}
+use Rattle.zero_one_rows.specs.Counted.{base_rows}
+use Rattle.zero_one_rows.specs.Grouping.{IsGrouped}
+use Rattle.zero_one_rows.proofs.Filters.{filter_same, filter_none}
 use Rattle.zero_one_model.specs.Runs.{run_of, meets, no_row}
 use Rattle.zero_one_model.proofs.Touched.{group_at}
 

@@ -5,12 +5,12 @@ use Rattle.std.proofs.lemmas.Option.{slice_get-get_or}
 use Rattle.zero_one_rows.specs.declared.program.Row.{Row}
 use Rattle.zero_one_rows.specs.Variables.{Voyage}
 use Rattle.zero_one_rows.specs.Rows.{whole}
-use Rattle.zero_one_rows.proofs.Listing.{member_get}
-use Rattle.program_rows.specs.Counted.{all_rows}
+use Rattle.zero_one_rows.proofs.VariableList.{member_get}
+use Rattle.zero_one_rows.specs.Counted.{all_rows}
 use Rattle.zero_one_rows.specs.Chains.{IsBefore}
-use Rattle.program_rows.specs.Ordered.{Precedes, family, numbers}
-use Rattle.program_rows.proofs.EveryRow.{row_listed}
-use Rattle.program_rows.proofs.EveryChain.{not_both}
+use Rattle.zero_one_rows.specs.Ordered.{Precedes, family, numbers}
+use Rattle.zero_one_rows.proofs.EveryRow.{row_listed}
+use Rattle.zero_one_rows.proofs.EveryChain.{not_both}
 
 pub differ : (r s : Row) → Precedes r s → r ≢ s
 differ r s h e = ⊎_elim

@@ -10,8 +10,8 @@ use Rattle.zero_one_rows.specs.declared.program.Row.TheVariants.{Flow, Start, Ce
 use Rattle.zero_one_rows.specs.declared.program.Var.{Var}
 use Rattle.zero_one_rows.specs.Variables.{Voyage, calls}
 use Rattle.zero_one_rows.specs.Rows.{has, is_base, is_call}
-use Rattle.program_rows.proofs.EveryRow.{both}
-use Rattle.program_rows.proofs.Rising.{Rising, rising_map, rising_range}
+use Rattle.zero_one_rows.proofs.EveryRow.{both}
+use Rattle.zero_one_rows.proofs.Rising.{Rising, rising_map, rising_range}
 use Rattle.zero_one_model.specs.Runs.{at_call, call_of, lead, is_shelved, leads, first_shelf, second_shelf, no_shelf, first_file, second_file, calls_for, run_of}
 use Rattle.zero_one_model.proofs.Sized.{first_true, second_true}
 

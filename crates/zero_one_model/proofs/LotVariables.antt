@@ -16,11 +16,11 @@ use Rattle.stow_data.specs.Ship.{same_length}
 use Rattle.zero_one_rows.specs.Chains.{is_pair}
 use Rattle.zero_one_rows.specs.Crossing.{crosses, length_of}
 use Rattle.zero_one_rows.specs.Rows.{bit, coef}
-use Rattle.zero_one_rows.proofs.Listing.{filter_at, filter_from, var_listed, get_member}
-use Rattle.program_rows.specs.Grouping.{IsGrouped}
-use Rattle.program_rows.proofs.Added.{flat_more}
-use Rattle.program_rows.proofs.Filters.{filter_same, filter_none}
-use Rattle.program_rows.proofs.Rising.{Rising, rising_flat, rising_filter, rising_range, rising_get}
+use Rattle.zero_one_rows.proofs.VariableList.{filter_at, filter_from, var_listed, get_member}
+use Rattle.zero_one_rows.specs.Grouping.{IsGrouped}
+use Rattle.zero_one_rows.proofs.Added.{flat_more}
+use Rattle.zero_one_rows.proofs.Filters.{filter_same, filter_none}
+use Rattle.zero_one_rows.proofs.Rising.{Rising, rising_flat, rising_filter, rising_range, rising_get}
 use Rattle.zero_one_model.specs.Indexed.{IsCandidates, lot, lot_of, stands}
 use Rattle.zero_one_model.proofs.Touched.{contains_from, get_mapped_or, rising_weaker}
 

@@ -6,7 +6,7 @@ use Rattle.stow_data.specs.Ship.{places}
 use Rattle.stow_data.proofs.Members.{Member, flat_at, map_at}
 use Rattle.zero_one_rows.specs.declared.program.Var.{Var}
 use Rattle.zero_one_rows.specs.Variables.{Voyage, calls, all_kinds, is_var, variables}
-use Rattle.program_rows.proofs.Rising.{Rising, rising_flat, rising_map, rising_range, rising_filter}
+use Rattle.zero_one_rows.proofs.Rising.{Rising, rising_flat, rising_map, rising_range, rising_filter}
 
 -- by put, kind, lifted, place
 pub data Precedes (a b : Var) : Type 0 where

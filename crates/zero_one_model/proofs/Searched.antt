@@ -12,7 +12,7 @@ use Rattle.std.specs.declared.cmp.Ordering.{Ordering}
 use Rattle.std.specs.declared.cmp.Ordering.TheVariants.{Less, Equal, Greater}
 use Rattle.zero_one_rows.specs.declared.program.Var.{Var}
 use Rattle.zero_one_model.proofs.Rising.{Precedes, by_put, by_kind, by_lifted, by_place}
-use Rattle.program_rows.proofs.Rising.{Rising, rising_get}
+use Rattle.zero_one_rows.proofs.Rising.{Rising, rising_get}
 
 abbrev pub var_cmp : Var → Var → Ordering
 var_cmp a b = ordering_then (nat_cmp a.put b.put) (ordering_then (nat_cmp a.kind b.kind) (ordering_then (nat_cmp a.lifted b.lifted) (nat_cmp a.place b.place)))

@@ -13,7 +13,7 @@ use Rattle.zero_one_rows.specs.declared.program.Row.{Row}
 use Rattle.zero_one_rows.specs.declared.program.Var.{Var}
 use Rattle.zero_one_rows.specs.Variables.{Voyage, variables, var, no_var}
 use Rattle.zero_one_rows.specs.Rows.{coef}
-use Rattle.zero_one_rows.proofs.Listing.{filter_at, filter_from, var_listed}
+use Rattle.zero_one_rows.proofs.VariableList.{filter_at, filter_from, var_listed}
 use Rattle.zero_one_rows.specs.Rows.{whole}
 use Rattle.zero_one_model.specs.Indexed.{Touches, IsIndex, IsCandidates, is_keyed, first_of, second_of, stands}
 use Rattle.zero_one_model.specs.declared.index.Index.{Index}

@@ -13,10 +13,10 @@ use Rattle.zero_one_rows.specs.declared.program.Row.{Row}
 use Rattle.zero_one_rows.specs.declared.program.Row.TheVariants.{Flow, Start, Cell, Support, Twenty, Block, Hatch, Weight, Apart}
 use Rattle.zero_one_rows.specs.Variables.{Voyage, place, kind, variables, var, no_var}
 use Rattle.zero_one_rows.specs.Rows.{half, covers, below, above, bit, turned, coef, is_twenty}
-use Rattle.zero_one_rows.proofs.Listing.{filter_at, filter_from, get_member, member_get}
-use Rattle.program_rows.specs.Grouping.{with_key, IsGrouped}
+use Rattle.zero_one_rows.proofs.VariableList.{filter_at, filter_from, get_member, member_get}
+use Rattle.zero_one_rows.specs.Grouping.{with_key, IsGrouped}
 use Rattle.zero_one_model.specs.Indexed.{Touches, IsCandidates, other_of}
-use Rattle.program_rows.proofs.Rising.{Rising, rising_append, rising_filter, rising_range, rising_get}
+use Rattle.zero_one_rows.proofs.Rising.{Rising, rising_append, rising_filter, rising_range, rising_get}
 use Rattle.zero_one_model.proofs.Sized.{first_true, second_true}
 
 pub get_any : {X : Type 0} (xs : List X) (k : ℕ) (d e : X) → k < length xs → slice_index_or xs k d ≡ slice_index_or xs k e

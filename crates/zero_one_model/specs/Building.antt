@@ -6,8 +6,8 @@ use Rattle.zero_one_rows.specs.declared.program.Var.{Var}
 use Rattle.zero_one_rows.specs.Variables.{Voyage, variables}
 use Rattle.zero_one_model.specs.declared.refusals.ModelNo.{ModelNo}
 use Rattle.zero_one_model.specs.declared.refusals.ModelNo.TheVariants.{TooLarge, NoMemory}
-use Rattle.program_rows.specs.declared.counts.RowCounts.{RowCounts}
-use Rattle.program_rows.specs.Counted.{base_rows, all_rows}
+use Rattle.zero_one_rows.specs.declared.counts.RowCounts.{RowCounts}
+use Rattle.zero_one_rows.specs.Counted.{base_rows, all_rows}
 
 -- within the limits of variables and rows
 pub record IsWithin (m : Voyage) : Type 0 where

@@ -7,7 +7,7 @@ use Rattle.zero_one_model.specs.declared.model.Model.TheInside.{Inside}
 use Rattle.zero_one_model.specs.Building.{IsWithin}
 use Rattle.zero_one_model.specs.Indexed.{IsIndex}
 use Rattle.zero_one_model.specs.Runs.{IsFiled}
-use Rattle.program_rows.specs.Counted.{row_lists, base_rows, all_rows}
+use Rattle.zero_one_rows.specs.Counted.{row_lists, base_rows, all_rows}
 
 abbrev pub voyage_of : Inside → Voyage
 voyage_of a = record { ship = a.ship.now; cargo = a.cargo.now }

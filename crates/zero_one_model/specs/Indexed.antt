@@ -11,7 +11,7 @@ use Rattle.zero_one_rows.specs.declared.program.Row.TheVariants.{Flow, Start, Ce
 use Rattle.zero_one_rows.specs.Variables.{Voyage, calls, all_kinds, variables, var}
 use Rattle.stow_data.specs.Plans.{no_place, no_half}
 use Rattle.zero_one_rows.specs.Rows.{coef, whole, below, above}
-use Rattle.program_rows.specs.Grouping.{IsGrouped, with_key}
+use Rattle.zero_one_rows.specs.Grouping.{IsGrouped, with_key}
 use Rattle.zero_one_model.specs.declared.index.Index.{Index}
 
 -- the number of a tier of a stack, of which no stack has more than 40

@@ -2,7 +2,7 @@
 use Rattle.std.specs.Prelude.{◌≡◌, ◌≤◌, List, length, Result, Ok, Err}
 use Rattle.zero_one_rows.specs.declared.program.Var.{Var}
 use Rattle.zero_one_rows.specs.Variables.{Voyage, variables}
-use Rattle.program_rows.specs.Counted.{row_lists}
+use Rattle.zero_one_rows.specs.Counted.{row_lists}
 use Rattle.zero_one_model.specs.declared.building.Tables.{Tables}
 use Rattle.zero_one_model.specs.declared.refusals.ModelNo.{ModelNo}
 use Rattle.zero_one_model.specs.declared.refusals.ModelNo.TheVariants.{TooLarge, NoMemory}

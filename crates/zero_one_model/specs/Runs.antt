@@ -8,8 +8,8 @@ use Rattle.zero_one_rows.specs.declared.program.Row.TheVariants.{Flow, Start, Ce
 use Rattle.zero_one_rows.specs.Variables.{Voyage, calls, place}
 use Rattle.zero_one_rows.specs.Crossing.{tallest, length_of}
 use Rattle.zero_one_rows.specs.Rows.{has}
-use Rattle.program_rows.specs.Counted.{base_rows, all_chains}
-use Rattle.program_rows.specs.Grouping.{IsGrouped}
+use Rattle.zero_one_rows.specs.Counted.{base_rows, all_chains}
+use Rattle.zero_one_rows.specs.Grouping.{IsGrouped}
 use Rattle.zero_one_model.specs.Indexed.{stands, half_key, place_key, below_key, above_key}
 use Rattle.zero_one_model.specs.declared.filing.RowFiles.{RowFiles}
 

@@ -3,8 +3,8 @@ ghost use Rattle.std.specs.Prelude.{◌≡◌, ◌+◌, ◌<◌, ◌≤◌, IfOk
 ghost use Rattle.stow_data.specs.Kinds.{AreKinds};
 ghost use Rattle.stow_data.specs.Ship.{places};
 ghost use Rattle.zero_one_rows.specs.Variables.{variables};
-ghost use Rattle.program_rows.specs.Counted.{row_lists, base_in, base_rows, all_rows};
-ghost use Rattle.program_rows.specs.Enumerated.{IsListing};
+ghost use Rattle.zero_one_rows.specs.Counted.{row_lists, base_in, base_rows, all_rows};
+ghost use Rattle.zero_one_rows.specs.Enumerated.{IsListing};
 ghost use Rattle.zero_one_model.specs.Building.{BuildsVariables, AreCounts, BuildsCounts};
 ghost use Rattle.zero_one_model.specs.Parts.{AreTables, BuildsTables, BuildsParts};
 ghost use Rattle.zero_one_model.specs.Runs.{AreFiled};
@@ -12,12 +12,11 @@ ghost use Rattle.zero_one_model.specs.Runs.{AreFiled};
 use crate::filing::{RowFiles, file_rows};
 use crate::index::{Index, index_of};
 use crate::refusals::ModelNo;
-use program_rows::{
-    Listing, RowCounts, RowLists, count_rows, gather_offers, list_rows, list_variables,
-};
 use std::alloc::Global;
 use stow_data::{Cargo, Kinds, Limit, NoMemory, Seq, Ship};
-use zero_one_rows::Var;
+use zero_one_rows::{
+    Listing, RowCounts, RowLists, Var, count_rows, gather_offers, list_rows, list_variables,
+};
 
 /// The greatest number of variables.
 const MOST_VARS: u64 = 200_000;

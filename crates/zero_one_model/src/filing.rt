@@ -1,16 +1,15 @@
 //! The base rows by the tiers of their half-cells and places, one row for each run of calls.
 ghost use Rattle.std.specs.Prelude.{◌≡◌, ℕ, ◌<◌, ◌≤◌, IfOk, length, map, slice_get, Some};
 ghost use Rattle.zero_one_rows.specs.declared.program.Row.{Row};
-ghost use Rattle.program_rows.specs.Counted.{base_in, rows_in};
-ghost use Rattle.program_rows.specs.Grouping.{IsGrouped};
+ghost use Rattle.zero_one_rows.specs.Counted.{base_in, rows_in};
+ghost use Rattle.zero_one_rows.specs.Grouping.{IsGrouped};
 ghost use Rattle.zero_one_model.specs.Indexed.{NamesCells};
 ghost use Rattle.zero_one_model.specs.Runs.{leads, first_shelf, second_shelf, no_shelf, first_file, second_file, AreFiled};
 
 use crate::index::{TIERS, key_above, key_below, key_of_half, key_of_place};
-use program_rows::{Groups, RowLists, group};
 use std::alloc::Global;
 use stow_data::{NoMemory, Seq, Ship};
-use zero_one_rows::Row;
+use zero_one_rows::{Groups, Row, RowLists, group};
 
 /// The numbers of the base rows of the first call, by the first tier that a row names and by the second.
 #[derive(Drop)]

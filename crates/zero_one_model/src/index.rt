@@ -2,13 +2,12 @@
 ghost use Rattle.std.specs.Prelude.{◌≡◌, ℕ, ◌+◌, ◌*◌, ◌<◌, ◌≤◌, ◌^◌, IfOk, All, [], length, map, slice_index_or};
 ghost use Rattle.stow_data.specs.Ship.{halves, places};
 ghost use Rattle.stow_data.specs.Plans.{no_place};
-ghost use Rattle.program_rows.specs.Grouping.{IsGrouped};
+ghost use Rattle.zero_one_rows.specs.Grouping.{IsGrouped};
 ghost use Rattle.zero_one_model.specs.Indexed.{shelf, lot, place_shelf, half_key, place_key, below_key, above_key, other_of, IsIndexOf, NamesCells, is_keyed, first_of, second_of};
 
-use program_rows::{Groups, group};
 use std::alloc::Global;
 use stow_data::{CallNo, HalfNo, KindNo, NoMemory, PlaceNo, Seq, Ship, StackNo};
-use zero_one_rows::{Row, Var, half_at, place_at, under};
+use zero_one_rows::{Groups, Row, Var, group, half_at, place_at, under};
 
 /// Tiers that a stack has at most.
 pub const TIERS: usize = 40;

@@ -8,10 +8,9 @@ use crate::index::{Index, has_keys, key_of_place};
 use crate::lots::{may_cross, may_touch};
 use crate::refusals::ModelNo;
 use crate::runs::at_call;
-use program_rows::RowLists;
 use std::alloc::Global;
 use stow_data::{CallNo, Cargo, KindNo, Kinds, NoMemory, Place, Seq, Ship, VarNo, kinds};
-use zero_one_rows::{Chain, Row, RowList, Var, VarList, is_crossing_variable, place_at};
+use zero_one_rows::{Chain, Row, RowList, RowLists, Var, VarList, is_crossing_variable, place_at};
 
 /// Appends a variable's number where it is wanted.
 fn push_var(list: &mut VarList, x: VarNo, wanted: bool) -> Result<(), NoMemory>
@@ -52,7 +51,7 @@ impl<'a> Model<'a> {
     ghost use Rattle.zero_one_rows.specs.Variables.{Voyage, calls, variables, var, place, all_kinds, kind as kind_of, is_rehandled};
     ghost use Rattle.zero_one_rows.specs.Crossing.{crosses, tallest, length_of};
     ghost use Rattle.zero_one_rows.specs.Rows.{bit, coef, rhs, has, whole};
-    ghost use Rattle.program_rows.specs.Counted.{base_rows, all_rows};
+    ghost use Rattle.zero_one_rows.specs.Counted.{base_rows, all_rows};
     ghost use Rattle.zero_one_model.specs.Indexed.{Touches, stands, is_keyed, lot_of, place_key};
     ghost use Rattle.zero_one_model.specs.Runs.{calls_for, run_of, meets, base_row, named_runs, chain_runs};
     ghost use Rattle.zero_one_model.specs.Building.{Builds};

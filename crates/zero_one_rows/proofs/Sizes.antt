@@ -33,7 +33,7 @@ use Rattle.zero_one_rows.specs.Variables.{Voyage, calls, all_kinds, kind, no_kin
 use Rattle.zero_one_rows.specs.Crossing.{columns_in, columns, tiers_for, tallest, length_of, is_length as is_foot, is_of_load, load_of, is_crossing}
 use Rattle.zero_one_rows.specs.Rows.{stack, bit, turned, coef, rhs, has, is_filled}
 use Rattle.zero_one_rows.specs.Ranges.{InRange}
-use Rattle.zero_one_rows.proofs.Listing.{filter_at, get_member}
+use Rattle.zero_one_rows.proofs.VariableList.{filter_at, get_member}
 use Rattle.zero_one_rows.proofs.FewColumns.{few_tiers, columns_few}
 
 first_true : (a b : Bool) → (a && b) ≡ true → a ≡ true

@@ -8,3 +8,9 @@ pub mod Rows
 pub mod Ranges
 pub mod Listed
 pub mod Tightening
+pub mod Grouping
+pub mod Offering
+pub mod Enumerated
+pub mod Counted
+pub mod Ordered
+pub mod Levels

@@ -16,7 +16,7 @@ use Rattle.stow_data.specs.declared.geometry.Separation.{Separation}
 use Rattle.stow_data.specs.Ship.{places, halves}
 use Rattle.stow_data.specs.Kinds.{loading}
 use Rattle.stow_data.specs.Plans.{no_half, no_stack}
-use Rattle.stowage_rules.specs.Departure.{near}
+use Rattle.stow_data.specs.Near.{near}
 use Rattle.zero_one_rows.specs.declared.program.Var.{Var}
 use Rattle.zero_one_rows.specs.declared.program.Row.{Row}
 use Rattle.zero_one_rows.specs.declared.program.Row.TheVariants.{Flow, Start, Cell, Support, Twenty as TwentyOn, Block, Hatch, Weight, Apart, Cross}

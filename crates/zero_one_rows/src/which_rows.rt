@@ -2,7 +2,7 @@
 ghost use Rattle.std.specs.Prelude.{◌≡◌, ◌+◌, ◌<◌, ◌&&◌, ◌==◌, None, nat_lt, nat_le, nat_eq, length, slice_index_or};
 ghost use Rattle.std.specs.List.{list_any};
 ghost use Rattle.stow_data.specs.Ship.{halves, places};
-ghost use Rattle.stowage_rules.specs.Departure.{near};
+ghost use Rattle.stow_data.specs.Near.{near};
 ghost use Rattle.zero_one_rows.specs.Variables.{Voyage, all_kinds, kind, place};
 ghost use Rattle.zero_one_rows.specs.Rows.{has, is_filled as is_filled_of, is_call as is_call_of, is_half, is_place, half, stack, separation, cover_joins};
 
@@ -11,8 +11,8 @@ use crate::crossing::is_crossing;
 use crate::program::Row;
 use stow_data::{
     CallNo, Cargo, Cover, CoverNo, Half, HalfNo, KindNo, Kinds, PlaceNo, Ship, StackList, StackNo,
+    is_near,
 };
-use stowage_rules::is_near;
 
 /// Whether rows speak of the call: one but the last.
 fn is_call(cargo: &Cargo, call: CallNo) -> bool

@@ -1,4 +1,4 @@
-use Rattle.base_matrix.proofs.Calming.{base_has, base_place, base_within}
+use Rattle.base_matrix.proofs.BaseFirst.{base_has, base_place, base_within}
 use Rattle.base_matrix.proofs.base_rows.base_row.Goals as goal
 
 pub row_at-requires : goal.row_at-requires

@@ -3,7 +3,7 @@ use Rattle.std.proofs.lemmas.Option.{get_or_from_slice_get}
 use Rattle.zero_one_rows.specs.declared.program.Row.{Row}
 use Rattle.zero_one_rows.specs.declared.program.Row.TheVariants.{Cell}
 use Rattle.zero_one_rows.specs.Rows.{is_base, whole}
-use Rattle.program_rows.specs.Counted.{base_rows}
+use Rattle.zero_one_rows.specs.Counted.{base_rows}
 use Rattle.base_matrix.specs.Terms.{row_at}
 use Rattle.base_matrix.specs.Margins.{IsMargin}
 use Rattle.base_matrix.proofs.Filing.{empty_is, margins_more}

@@ -5,7 +5,7 @@ use Rattle.stow_data.proofs.KindLemmas.{on_push}
 use Rattle.zero_one_rows.specs.declared.program.Row.{Row}
 use Rattle.zero_one_rows.specs.declared.program.Row.TheVariants.{Cell}
 use Rattle.zero_one_rows.specs.Variables.{Voyage}
-use Rattle.program_rows.specs.Counted.{base_rows}
+use Rattle.zero_one_rows.specs.Counted.{base_rows}
 use Rattle.base_matrix.specs.Terms.{row_at}
 use Rattle.base_matrix.specs.Parted.{AreSumsOf}
 use Rattle.base_matrix.proofs.Filing.{listed}

@@ -7,9 +7,8 @@ use Rattle.proof_trees.specs.Program.{sum_to, where_set}
 use Rattle.proof_trees.specs.Boxes.{at, greatest}
 use Rattle.zero_one_rows.specs.Variables.{variables}
 use Rattle.zero_one_rows.specs.Rows.{whole}
-use Rattle.base_matrix.proofs.Summing.{none_yet, further, all_of}
+use Rattle.base_matrix.proofs.Summing.{none_yet, further, all_of, all_taken}
 use Rattle.base_matrix.proofs.Rows.{one_inside, coef_none, brings_none, read}
-use Rattle.base_matrix.proofs.Walking.{all_taken}
 use Rattle.base_matrix.proofs.slack.most_among.Goals as goal
 
 pub loop-x-init : goal.loop-x-init

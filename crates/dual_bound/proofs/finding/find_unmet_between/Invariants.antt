@@ -1,7 +1,7 @@
 use Rattle.std.proofs.Common.{◌≡◌, ◌≤◌, ◌<◌, ℕ, Some}
 use Rattle.std.specs.Prelude.{slice_get}
 use Rattle.zero_one_rows.specs.declared.program.Row.{Row}
-use Rattle.program_rows.specs.Counted.{all_rows}
+use Rattle.zero_one_rows.specs.Counted.{all_rows}
 use Rattle.dual_bound.specs.Rising.{IsFlat}
 use Rattle.dual_bound.proofs.finding.find_unmet_between.Given as goal
 

@@ -3,7 +3,7 @@ use Rattle.std.specs.Prelude.{slice_get}
 use Rattle.zero_one_rows.specs.Variables.{Voyage}
 use Rattle.zero_one_rows.specs.Rows.{whole}
 use Rattle.proof_trees.specs.Boxes.{violated}
-use Rattle.program_rows.specs.Counted.{base_rows}
+use Rattle.zero_one_rows.specs.Counted.{base_rows}
 use Rattle.dual_bound.proofs.BaseFlat.{base_few}
 use Rattle.dual_bound.proofs.Leaning.{base_there, met_flat}
 use Rattle.dual_bound.proofs.finding.look_unmet.Goals as goal

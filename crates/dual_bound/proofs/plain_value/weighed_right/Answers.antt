@@ -3,7 +3,7 @@ use Rattle.std.specs.Int.{w128}
 use Rattle.std.proofs.lemmas.Int.{to_z-of_z}
 use Rattle.zero_one_rows.specs.declared.program.Row.{Row}
 use Rattle.zero_one_rows.specs.Rows.{whole}
-use Rattle.program_rows.specs.Counted.{all_rows}
+use Rattle.zero_one_rows.specs.Counted.{all_rows}
 use Rattle.proof_trees.specs.Multipliers.{Multipliers, dot}
 use Rattle.dual_bound.proofs.Multiplied.{named_here, dot_here, all_read}
 use Rattle.dual_bound.proofs.RowsListed.{few_multipliers}

@@ -1,6 +1,6 @@
 use Rattle.std.proofs.Common.{subst}
 use Rattle.zero_one_rows.specs.declared.program.Row.{Row}
-use Rattle.program_rows.specs.Counted.{all_rows}
+use Rattle.zero_one_rows.specs.Counted.{all_rows}
 use Rattle.dual_bound.specs.Rising.{IsFlat}
 use Rattle.dual_bound.proofs.Flat.{same_place}
 use Rattle.dual_bound.proofs.rising.look.Goals as goal

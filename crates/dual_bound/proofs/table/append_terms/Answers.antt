@@ -1,6 +1,6 @@
 use Rattle.std.proofs.Common.{rules, ◌≡◌, ℕ, ◌+◌, ◌∙◌, List, [], ◌∷◌, ◌++◌, Some, length, ap, sym, subst}
 use Rattle.std.specs.Prelude.{slice_get}
-use Rattle.program_rows.specs.Counted.{all_rows, base_rows}
+use Rattle.zero_one_rows.specs.Counted.{all_rows, base_rows}
 use Rattle.base_matrix.specs.declared.entries.Term.{Term}
 use Rattle.base_matrix.specs.Terms.{AreTerms}
 use Rattle.dual_bound.specs.Kept.{AreCrossing}

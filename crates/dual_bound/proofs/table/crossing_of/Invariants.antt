@@ -1,5 +1,5 @@
 use Rattle.std.proofs.Common.{◌≡◌, ◌+◌, length}
-use Rattle.program_rows.specs.Counted.{base_rows}
+use Rattle.zero_one_rows.specs.Counted.{base_rows}
 use Rattle.dual_bound.specs.Kept.{AreCrossing}
 use Rattle.dual_bound.proofs.table.crossing_of.Given as goal
 

@@ -1,6 +1,6 @@
 use Rattle.std.proofs.Common.{◌≡◌, ℕ, ◌<◌, false, get_or}
 use Rattle.proof_trees.specs.Boxes.{at}
-use Rattle.base_matrix.specs.Forced.{forces}
+use Rattle.kept_box.specs.Forced.{forces}
 use Rattle.base_matrix.specs.declared.entries.Term.{Term}
 use Rattle.kept_box.proofs.looking.forces_any.Given as goal
 

@@ -3,7 +3,7 @@ use Rattle.std.specs.Prelude.{slice_get}
 use Rattle.std.proofs.lemmas.List.{append-nil}
 use Rattle.stow_data.specs.Shipment.{Cargo}
 use Rattle.zero_one_rows.specs.declared.program.Var.{Var}
-use Rattle.zero_one_rows.proofs.Listing.{var_listed}
+use Rattle.zero_one_rows.proofs.VariableList.{var_listed}
 use Rattle.zero_one_rows.specs.Variables.{var}
 use Rattle.model_bridge.specs.Pairs.{pair_at_arrival}
 use Rattle.model_bridge.proofs.Lists.{pair_is, pushed}

@@ -2,7 +2,7 @@ use Rattle.std.proofs.Common.{◌≡◌, ◌∙◌, ◌-◌, ◌∷◌, ℕ, Som
 use Rattle.std.specs.Prelude.{slice_set}
 use Rattle.stow_data.specs.Plans.{Plan}
 use Rattle.zero_one_rows.specs.declared.program.Var.{Var}
-use Rattle.zero_one_rows.proofs.Listing.{var_listed}
+use Rattle.zero_one_rows.proofs.VariableList.{var_listed}
 use Rattle.zero_one_rows.specs.Variables.{var, variables}
 use Rattle.model_bridge.specs.Pairs.{plan_of_pairs}
 use Rattle.model_bridge.proofs.Lists.{long_plan, drop_get, all_at}

@@ -1,4 +1,4 @@
-use Rattle.zero_one_rows.proofs.Crossed.{every_cross}
+use Rattle.crossing_law.proofs.Crossed.{every_cross}
 use Rattle.model_bridge.proofs.Final.{voyage_bound, cost_bound, none_sails}
 use Rattle.model_bridge.proofs.solutions.bounds_are_of_voyages.Goals as goal
 

@@ -6,7 +6,7 @@ use Rattle.proof_trees.specs.Trees.{Pending, root}
 use Rattle.certificate.specs.declared.tree.Record.{Record}
 use Rattle.node_work.specs.Scales.{AreNamed}
 use Rattle.node_work.specs.Starts.{InRange}
-use Rattle.node_work.specs.Work.{Works, most_at}
+use Rattle.node_ends.specs.Work.{Works, most_at}
 use Rattle.node_work.proofs.Trails.{pending}
 use Rattle.node_work.proofs.Pricing.{in_range, named_along, begun_is}
 use Rattle.node_work.proofs.desk.work_on_stand.Goals as goal

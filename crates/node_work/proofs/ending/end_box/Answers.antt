@@ -5,9 +5,9 @@ use Rattle.zero_one_rows.specs.Rows.{base, whole}
 use Rattle.proof_trees.specs.Boxes.{Box, violated}
 use Rattle.certificate.specs.declared.tree.Record.{Record}
 use Rattle.zero_one_rows.specs.Tightening.{IsQuiet}
-use Rattle.base_matrix.specs.Tightening.{Tightens}
+use Rattle.kept_box.specs.Tightening.{Tightens}
 use Rattle.node_work.specs.Starts.{IsTight, HasSteps, IsAfterSteps}
-use Rattle.node_work.specs.Work.{EndsClosed, Works}
+use Rattle.node_ends.specs.Work.{EndsClosed, Works}
 use Rattle.node_work.proofs.Ends.{is_tight, violated_ends, after_steps}
 use Rattle.node_work.proofs.Trails.{pending}
 use Rattle.node_work.proofs.ending.end_box.Goals as goal

@@ -8,7 +8,7 @@ use Rattle.dual_bound.specs.declared.raising.Raised.{Raised}
 use Rattle.dual_bound.specs.Raising.{Raises}
 use Rattle.dual_bound.specs.Rising.{Ends}
 use Rattle.certificate.specs.declared.tree.Record.{Record}
-use Rattle.node_work.specs.Work.{EndsBranched, EndsClosed}
+use Rattle.node_ends.specs.Work.{EndsBranched, EndsClosed}
 use Rattle.node_work.proofs.Ends.{reached_ends, stuck_ends}
 use Rattle.node_work.proofs.ending.end_open.Goals as goal
 

@@ -4,8 +4,8 @@ use Rattle.std.proofs.lemmas.Option.{get_or_from_slice_get, slice_get_within}
 use Rattle.proof_trees.specs.Boxes.{Box}
 use Rattle.zero_one_rows.specs.Variables.{Voyage, variables}
 use Rattle.kept_box.specs.Kept.{Kept}
-use Rattle.base_matrix.specs.Fixing.{Fixes}
-use Rattle.base_matrix.proofs.Freeing.{fixes_one}
+use Rattle.kept_box.specs.Fixing.{Fixes}
+use Rattle.kept_box.proofs.Freeing.{fixes_one}
 use Rattle.node_work.proofs.Halves.{always_numbered, is_free, half_is}
 use Rattle.node_work.proofs.retracing.halve.Goals as goal
 

@@ -3,7 +3,7 @@ use Rattle.std.specs.Prelude.{slice_get}
 use Rattle.std.proofs.lemmas.Result.{on_ok_weaker}
 use Rattle.zero_one_rows.specs.Variables.{Voyage}
 use Rattle.zero_one_rows.specs.Rows.{whole}
-use Rattle.program_rows.specs.Counted.{base_rows}
+use Rattle.zero_one_rows.specs.Counted.{base_rows}
 use Rattle.proof_trees.specs.Boxes.{tight}
 use Rattle.node_work.proofs.retracing.tighten_one.Goals as goal
 

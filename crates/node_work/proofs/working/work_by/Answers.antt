@@ -1,6 +1,6 @@
 use Rattle.std.proofs.Common.{sym, subst}
 use Rattle.zero_one_rows.specs.Variables.{Voyage}
-use Rattle.node_work.specs.Work.{IsNode, begins_at, most_at, Works}
+use Rattle.node_ends.specs.Work.{IsNode, begins_at, most_at, Works}
 use Rattle.node_work.proofs.working.work_by.Goals as goal
 
 pub work-requires-clause-trail : goal.work-requires-clause-trail

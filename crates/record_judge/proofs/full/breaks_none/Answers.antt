@@ -1,5 +1,5 @@
 use Rattle.std.proofs.Common.{arith, sym, ◌∙◌}
-use Rattle.program_rows.specs.Counted.{base_rows}
+use Rattle.zero_one_rows.specs.Counted.{base_rows}
 use Rattle.record_judge.proofs.Fixed.{none_more, one_broken, none_left}
 use Rattle.record_judge.proofs.full.breaks_none.Goals as goal
 

@@ -5,7 +5,7 @@ use Rattle.std.proofs.lemmas.Int.{to_z-of_z}
 use borrow.Author.Differences.{ints}
 use Rattle.zero_one_rows.specs.Variables.{variables}
 use Rattle.zero_one_rows.specs.Rows.{whole}
-use Rattle.program_rows.specs.Counted.{all_rows}
+use Rattle.zero_one_rows.specs.Counted.{all_rows}
 use Rattle.proof_trees.specs.Boxes.{at}
 use Rattle.proof_trees.specs.Multipliers.{least, weighed, weighed_rhs}
 use Rattle.dual_bound.proofs.Summing.{value_step}

@@ -1,10 +1,10 @@
 use Rattle.search_core.specs.Bags.{weigh}
-use Rattle.crew_turns.specs.Deeds.{on_nodes}
+use Rattle.steal_pool.specs.Deeds.{on_nodes}
 use Rattle.search_crew.proofs.Rests.{rest_starts}
 use Rattle.search_crew.proofs.finishing.finish.Goals as goal
 
 pub finish_rest-requires-clause-rest : goal.finish_rest-requires-clause-rest
-finish_rest-requires-clause-rest g c =
+finish_rest-requires-clause-rest g c κs within =
     ((λ h. weigh (on_nodes c.args.desk.now h) c.args.todo.items), rest_starts c.args.desk.now c.args.board.now.start c.args.seat.now.view c.none.result c.args.todo.items c.requires.view c.none.ensures c.requires.nodes)
 
 pub returns-in-Ok-clause-done : goal.returns-in-Ok-clause-done

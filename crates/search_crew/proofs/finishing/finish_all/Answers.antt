@@ -2,15 +2,11 @@ use Rattle.std.proofs.Common.{◌≡◌, IfOk, length, subst, arith}
 use Rattle.std.proofs.lemmas.Bool.Decides.{nat_tests}
 use Rattle.zero_one_rows.specs.Variables.{Voyage}
 use Rattle.search_core.specs.Bags.{weigh}
-use Rattle.crew_turns.specs.Deeds.{IsDone, on_nodes}
+use Rattle.steal_pool.specs.Deeds.{IsDone, on_nodes}
 use Rattle.search_crew.proofs.Rests.{none_done, no_items}
 use Rattle.search_crew.proofs.finishing.finish_all.Goals as goal
 
 pub returns-then-is_empty-clause-done : goal.returns-then-is_empty-clause-done
 returns-then-is_empty-clause-done g c =
     let empty : length c.args.todo.items ≡ 0 = grind (arith, nat_tests) in
-    none_done c.args.tables.now c.args.board.now.start c.args.seat.now.view c.none.result c.args.todo.items c.requires.view c.none.ensures (no_items c.args.todo.items empty)
-
-pub returns-in-Ok-clause-done : goal.returns-in-Ok-clause-done
-returns-in-Ok-clause-done g c =
-    subst (λ (m : Voyage). IfOk c.finish-deeds.result (λ deeds. IsDone m c.args.board.now.start c.finish-deeds.new.seat.view 0 deeds (λ h. weigh (on_nodes m h) c.args.todo.items) (λ h. 0))) c.in-Ok.ensures c.finish-deeds.ensures.done
+    none_done c.args.desk.now c.args.board.now.start c.args.seat.now.view c.none.result c.args.todo.items c.requires.view c.none.ensures (no_items c.args.todo.items empty)

@@ -1,4 +1,7 @@
-use Rattle.std.proofs.Common.{◌≡◌, ◌++◌, ◌∷◌, [], refl, ◌∙◌, rules}
+use Rattle.std.proofs.Common.{◌≡◌, ◌++◌, ◌∷◌, [], List, refl, subst, ◌∙◌, rules}
+use Rattle.certificate.specs.declared.nodes.Node.{Node}
+use Rattle.search_core.specs.Bags.{weigh}
+use Rattle.steal_pool.specs.Deeds.{IsDone, on_nodes}
 use Rattle.search_crew.proofs.Rests.{rest_at, rest_next}
 use Rattle.search_crew.proofs.finishing.finish_rest.Goals as goal
 
@@ -13,7 +16,7 @@ loop-init g c = record {
 }
 
 pub step-requires-clause-rest : goal.step-requires-clause-rest
-step-requires-clause-rest g c =
+step-requires-clause-rest g c κs within =
     let e : c.loop.rest.todo.items ≡ c.pop.new.self.items ++ c.in-Some-pop.node ∷ [] = search rules in
     let all = c.requires.rest.0 in
     (all, rest_at c.args.desk.now c.loop.desk c.args.board.now.start c.loop.seat.view all c.loop.rest.todo.items (c.pop.new.self.items ++ c.in-Some-pop.node ∷ []) c.loop.rest.deeds c.loop.invariant.desk e (c.loop.invariant.rest all c.requires.rest.1))
@@ -30,3 +33,8 @@ loop-preserved g c =
           c.loop.invariant.desk e (c.in_ok-live.ensures.rest all) (c.loop.invariant.rest all first);
       live = c.in_ok-live.ensures.live;
     }
+
+pub returns-in_default-clause-done : goal.returns-in_default-clause-done
+returns-in_default-clause-done g c all first =
+    let empty : c.loop.rest.todo.items ≡ [] = search rules in
+    subst (λ (xs : List Node). IsDone c.args.desk.now c.args.board.now.start c.loop.seat.view 0 c.loop.rest.deeds all (λ h. weigh (on_nodes c.args.desk.now h) xs)) empty (c.loop.invariant.rest all first).done

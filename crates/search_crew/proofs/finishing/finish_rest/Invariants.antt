@@ -1,5 +1,5 @@
 use Rattle.std.proofs.Common.{◌≡◌}
-use Rattle.crew_turns.specs.Deeds.{Flow}
+use Rattle.steal_pool.specs.Deeds.{Flow}
 use Rattle.search_crew.specs.Ends.{IsRest, IsLive}
 use Rattle.search_crew.proofs.finishing.finish_rest.Given as goal
 

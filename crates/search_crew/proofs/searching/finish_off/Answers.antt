@@ -1,14 +1,14 @@
 use Rattle.std.proofs.Common.{sym, subst}
 use Rattle.search_core.specs.Bags.{Every}
 use Rattle.search_core.proofs.Weights.{every_append, every_more}
-use Rattle.node_work.specs.Work.{IsNode}
+use Rattle.node_ends.specs.Work.{IsNode}
 use Rattle.steal_pool.proofs.Steps.{if_ok}
 use Rattle.search_crew.proofs.Ends.{finished}
 use Rattle.search_crew.proofs.searching.finish_off.Goals as goal
 
 pub finish_seated-requires-clause-nodes : goal.finish_seated-requires-clause-nodes
-finish_seated-requires-clause-nodes g c =
-    let m = c.args.tables.now in
+finish_seated-requires-clause-nodes g c κs within =
+    let m = c.args.desk.now in
     let t = c.in-Ok.ensures in
     subst (Every (IsNode m)) (sym t.1)
     (every_append (IsNode m) t.0 c.args.ended.aside.items (every_more g.M.Wanted.meets (IsNode m) t.0 c.requires.owner.means.node t.2)
@@ -18,5 +18,5 @@ pub returns-in-Ok-finish_seated-clause-done : goal.returns-in-Ok-finish_seated-c
 returns-in-Ok-finish_seated-clause-done g c =
     let t = c.in-Ok.ensures in
     let f = c.in-Ok-finish_seated.ensures.done in
-    if_ok c.with_more.result _ _ (λ all deeds. finished g.M.Wanted.meets c.args.board.now c.args.tables.now c.args.owner.now f.0 f.1 c.finish_seated.new.owner.view c.args.ended c.args.rack t.0 c.in-Ok.todo.items c.in-Ok-finish_seated.deeds all
+    if_ok c.with_more.result _ _ (λ all deeds. finished g.M.Wanted.meets c.args.board.now c.args.desk.now c.args.owner.now f.0 f.1 c.finish_seated.new.owner.view c.args.ended c.args.rack t.0 c.in-Ok.todo.items c.in-Ok-finish_seated.deeds all
     c.requires.owner c.requires.all c.requires.workers c.requires.end f.2 f.3 t.3 t.1 f.4 deeds) c.with_more.ensures

@@ -9,28 +9,31 @@ use Rattle.search_crew.proofs.searching.work_all.Goals as goal
 pub begin_all-requires-clause-room : goal.begin_all-requires-clause-room
 begin_all-requires-clause-room g c = omega (arith, c.requires.none, passes_many c.args.ground.now.rack c.args.passes.items c.requires.all, c.requires.few)
 
+pub begin_all-requires-clause-enough : goal.begin_all-requires-clause-enough
+begin_all-requires-clause-enough g c = omega (arith, c.requires.enough, passes_many c.args.ground.now.rack c.args.passes.items c.requires.all)
+
 pub take_in_all-requires-clause-seats : goal.take_in_all-requires-clause-seats
-take_in_all-requires-clause-seats g c = all_seated g.M.Wanted.meets c.args.ground.now.rack c.args.ground.now.board c.args.tables.now c.in_ok-posts.posts.items c.in_ok-backs.backs.items c.in_ok-backs.ensures
+take_in_all-requires-clause-seats g c = all_seated g.M.Wanted.meets c.args.ground.now.rack c.args.ground.now.board c.args.ground.now.spare c.in_ok-posts.posts.items c.in_ok-backs.backs.items c.in_ok-backs.ensures
 
 pub returns-clause-owner : goal.returns-clause-owner
 returns-clause-owner g c =
     let many : length c.args.passes.items ≡ length c.args.ground.now.rack.thieves.items = passes_many c.args.ground.now.rack c.args.passes.items c.requires.all in
     let first : c.begin_all.new.owner.view.made ≡ length c.args.passes.items = omega (arith, c.requires.none, c.in_ok-posts.ensures.made) in
     let same : length c.in_ok-backs.backs.items ≡ length c.args.passes.items
-    = each_length g.M.Wanted.meets c.args.ground.now.rack c.args.ground.now.board c.args.tables.now c.in_ok-posts.posts.items c.in_ok-backs.backs.items c.in_ok-backs.ensures ∙ posts_many c.in_ok-posts.posts.items c.args.passes.items c.in_ok-posts.ensures.numbers in
+    = each_length g.M.Wanted.meets c.args.ground.now.rack c.args.ground.now.board c.args.ground.now.spare c.in_ok-posts.posts.items c.in_ok-backs.backs.items c.in_ok-backs.ensures ∙ posts_many c.in_ok-posts.posts.items c.args.passes.items c.in_ok-posts.ensures.numbers in
     let few : length c.args.passes.items ≤ 16 = omega (arith, many, c.requires.few) in
-    on_ok c.take_in_all.result (λ taken. all_joined g.M.Wanted.meets c.args.ground.now.board c.args.tables.now c.begin_all.new.owner c.take_in_all.new.owner (length c.args.passes.items) (length c.in_ok-backs.backs.items) c.in_ok-posts.ensures.maker c.take_in_all.ensures.owner
+    on_ok c.take_in_all.result (λ taken. all_joined g.M.Wanted.meets c.args.ground.now.board c.args.ground.now.spare c.begin_all.new.owner c.take_in_all.new.owner (length c.args.passes.items) (length c.in_ok-backs.backs.items) c.in_ok-posts.ensures.maker c.take_in_all.ensures.owner
     c.take_in_all.ensures.made taken first same few) c.take_in_all.ensures.taken
 
 pub returns-clause-passes : goal.returns-clause-passes
 returns-clause-passes g c = if_ok c.take_in_all.result _ _
-    (λ ended is. subst (Every (IsPassAt c.args.ground.now.rack)) (sym is) (all_passes g.M.Wanted.meets c.args.ground.now.rack c.args.ground.now.board c.args.tables.now c.in_ok-posts.posts.items c.in_ok-backs.backs.items c.in_ok-backs.ensures)) c.take_in_all.ensures.passes
+    (λ ended is. subst (Every (IsPassAt c.args.ground.now.rack)) (sym is) (all_passes g.M.Wanted.meets c.args.ground.now.rack c.args.ground.now.board c.args.ground.now.spare c.in_ok-posts.posts.items c.in_ok-backs.backs.items c.in_ok-backs.ensures)) c.take_in_all.ensures.passes
 
 pub returns-clause-all : goal.returns-clause-all
 returns-clause-all g c = if_ok c.take_in_all.result _ _
     (λ ended is. ap (λ (l : List (Pass g.row.M.Denot)). map number_of l) is
-    ∙ (all_numbers g.M.Wanted.meets c.args.ground.now.rack c.args.ground.now.board c.args.tables.now c.in_ok-posts.posts.items c.in_ok-backs.backs.items c.in_ok-backs.ensures ∙ (c.in_ok-posts.ensures.numbers ∙ c.requires.all))) c.take_in_all.ensures.passes
+    ∙ (all_numbers g.M.Wanted.meets c.args.ground.now.rack c.args.ground.now.board c.args.ground.now.spare c.in_ok-posts.posts.items c.in_ok-backs.backs.items c.in_ok-backs.ensures ∙ (c.in_ok-posts.ensures.numbers ∙ c.requires.all))) c.take_in_all.ensures.passes
 
 pub returns-clause-end : goal.returns-clause-end
 returns-clause-end g c = if_ok c.take_in_all.result _ _
-    (λ ended end. end c.args.tables.now (all_returned g.M.Wanted.meets c.args.ground.now.rack c.args.ground.now.board c.args.tables.now c.in_ok-posts.posts.items c.in_ok-backs.backs.items c.in_ok-backs.ensures)) c.take_in_all.ensures.end
+    (λ ended end. end c.args.ground.now.spare (all_returned g.M.Wanted.meets c.args.ground.now.rack c.args.ground.now.board c.args.ground.now.spare c.in_ok-posts.posts.items c.in_ok-backs.backs.items c.in_ok-backs.ensures)) c.take_in_all.ensures.end

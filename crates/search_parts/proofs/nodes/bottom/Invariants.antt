@@ -1,5 +1,5 @@
 use Rattle.std.proofs.Common.{◌≡◌}
-use Rattle.node_work.specs.Work.{IsNode}
+use Rattle.node_ends.specs.Work.{IsNode}
 use Rattle.search_parts.proofs.nodes.bottom.Given as goal
 
 abbrev pub invariant-loop : goal.invariant-loop

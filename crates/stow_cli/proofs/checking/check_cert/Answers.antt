@@ -1,6 +1,6 @@
 use native.Mathlib.Omega.{arith}
 use Rattle.std.proofs.Common.{◌≤◌, ℕ, List, length, sym, subst}
-use Rattle.voyage_inputs.specs.Inputs.{IsContent}
+use Rattle.voyage_files.specs.Inputs.{IsContent}
 use Rattle.stow_cli.specs.declared.verdict.CertText.{CertText}
 use Rattle.stow_cli.specs.declared.verdict.CertText.TheVariants.{Certificate, Refused}
 use Rattle.stow_cli.specs.Checks.{IsCertText}

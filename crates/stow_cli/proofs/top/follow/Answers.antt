@@ -1,5 +1,5 @@
 use Rattle.std.proofs.Common.{inl, inr, subst}
-use Rattle.voyage_inputs.specs.Named.{IsStop}
+use Rattle.voyage_files.specs.Named.{IsStop}
 use Rattle.stow_cli.proofs.top.follow.Goals as goal
 
 pub returns-in-Err-Failed-clause-follows : goal.returns-in-Err-Failed-clause-follows

@@ -1,6 +1,6 @@
 use Rattle.std.proofs.Common.{subst}
 use Rattle.zero_one_rows.specs.Variables.{Voyage}
-use Rattle.file_judge.specs.Judged.{Bounds, Holds}
+use Rattle.voyage_files.specs.Judged.{Bounds, Holds}
 use Rattle.stow_cli.proofs.verdict.judged.Goals as goal
 
 pub returns-in_ok-confirmation-in-Ok : goal.returns-in_ok-confirmation-in-Ok

@@ -1,8 +1,8 @@
 use Rattle.std.proofs.Common.{◌≡◌, ◌≤◌, ◌∙◌, ap, subst, sym, length, Some}
 use Rattle.std.specs.Prelude.{slice_get}
 use Rattle.stow_data.proofs.Members.{member_of}
-use Rattle.program_rows.specs.declared.row_lists.RowLists.{RowLists}
-use Rattle.program_rows.specs.Counted.{base_rows, base_in, rows_in}
+use Rattle.zero_one_rows.specs.declared.row_lists.RowLists.{RowLists}
+use Rattle.zero_one_rows.specs.Counted.{base_rows, base_in, rows_in}
 use Rattle.zero_one_rows.specs.Variables.{Voyage}
 use Rattle.zero_one_model.proofs.Chosen.{names_cells}
 use Rattle.zero_one_model.proofs.Filed.{base_has}

@@ -1,6 +1,6 @@
 use Rattle.std.proofs.Common.{ℕ, List, subst, ◌∙◌, ap, length, refl}
-use Rattle.program_rows.specs.declared.row_lists.RowLists.{RowLists}
-use Rattle.program_rows.specs.Counted.{base_in}
+use Rattle.zero_one_rows.specs.declared.row_lists.RowLists.{RowLists}
+use Rattle.zero_one_rows.specs.Counted.{base_in}
 use Rattle.zero_one_rows.specs.declared.program.Var.{Var}
 use Rattle.zero_one_rows.specs.Variables.{Voyage, calls, all_kinds}
 use Rattle.zero_one_model.specs.Indexed.{IsIndexOf}

@@ -1,4 +1,4 @@
-use Rattle.program_rows.specs.Counted.{base_in}
+use Rattle.zero_one_rows.specs.Counted.{base_in}
 use Rattle.zero_one_model.specs.Runs.{first_file}
 use Rattle.zero_one_model.proofs.Filed.{filed_more}
 use Rattle.zero_one_model.proofs.filing.first_files.Goals as goal

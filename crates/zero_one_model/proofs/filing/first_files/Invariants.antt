@@ -1,5 +1,5 @@
 use Rattle.std.proofs.Common.{◌≡◌, map, take}
-use Rattle.program_rows.specs.Counted.{base_in}
+use Rattle.zero_one_rows.specs.Counted.{base_in}
 use Rattle.zero_one_model.specs.Runs.{first_file}
 use Rattle.zero_one_model.proofs.filing.first_files.Given as goal
 

@@ -1,6 +1,6 @@
 use Rattle.std.proofs.Common.{◌≡◌, ◌∙◌, arith, ap, length}
 use Rattle.std.proofs.lemmas.List.{length-map}
-use Rattle.program_rows.specs.Counted.{base_in}
+use Rattle.zero_one_rows.specs.Counted.{base_in}
 use Rattle.zero_one_model.specs.Runs.{first_file}
 use Rattle.zero_one_model.proofs.Filed.{base_few}
 use Rattle.zero_one_model.proofs.filing.group_first.Goals as goal

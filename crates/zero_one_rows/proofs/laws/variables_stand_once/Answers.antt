@@ -1,4 +1,4 @@
-use Rattle.zero_one_rows.proofs.Listing.{var_listed, var_number, var_once}
+use Rattle.zero_one_rows.proofs.VariableList.{var_listed, var_number, var_once}
 use Rattle.zero_one_rows.proofs.laws.variables_stand_once.Goals as goal
 
 pub returns-clause-alone : goal.returns-clause-alone

@@ -4,7 +4,7 @@ use Rattle.std.specs.Int.RustNames.{unsigned_abs}
 use Rattle.std.proofs.lemmas.Int.{to_z-of_z, fits_signed_from_abs}
 use borrow.Author.Differences.{ints}
 use Rattle.zero_one_rows.specs.Variables.{variables}
-use Rattle.program_rows.specs.Counted.{all_rows}
+use Rattle.zero_one_rows.specs.Counted.{all_rows}
 use Rattle.dual_bound.specs.Costs.{IsSmall}
 use Rattle.dual_bound.proofs.Touched.{coefs_small}
 use Rattle.dual_bound.proofs.Pricing.{has_room, add_priced}

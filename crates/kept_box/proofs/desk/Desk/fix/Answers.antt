@@ -1,7 +1,7 @@
 use Rattle.std.proofs.Common.{arith, ◌≡◌, ◌<◌, ◌+◌, ◌++◌, [], ◌∷◌, true, length, set, None, Some, refl, rules}
 use Rattle.std.proofs.lemmas.Option.{get_or_from_slice_get, slice_get_within}
 use Rattle.proof_trees.specs.Boxes.{at}
-use Rattle.base_matrix.specs.Fixing.{free_in}
+use Rattle.kept_box.specs.Fixing.{free_in}
 use Rattle.kept_box.proofs.Trails.{free_fixed, push_length, room_left, trails_fixed}
 use Rattle.kept_box.proofs.desk.Desk.fix.Goals as goal
 

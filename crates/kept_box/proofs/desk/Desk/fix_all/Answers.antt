@@ -5,13 +5,14 @@ use Rattle.std.proofs.lemmas.Int.{to_z-of_z}
 use Rattle.std.proofs.lemmas.List.{length-map}
 use Rattle.zero_one_rows.specs.Variables.{variables}
 use Rattle.zero_one_rows.specs.Rows.{whole}
-use Rattle.base_matrix.specs.Forced.{stepped}
-use Rattle.base_matrix.proofs.Freeing.{noted_more}
-use Rattle.base_matrix.proofs.Walking.{Partly, listed_more, all_taken}
+use Rattle.kept_box.specs.Forced.{stepped}
+use Rattle.kept_box.proofs.Freeing.{noted_more}
+use Rattle.base_matrix.proofs.Summing.{all_taken}
+use Rattle.kept_box.proofs.Walking.{Partly, listed_more}
 use Rattle.base_matrix.specs.declared.entries.Term.{Term}
 use Rattle.base_matrix.specs.Terms.{row_at, vars_in}
 use Rattle.kept_box.proofs.Looks.{term_at, tight_run}
-use Rattle.kept_box.proofs.Moving.{marks_more}
+use Rattle.base_matrix.proofs.Moving.{marks_more}
 use Rattle.kept_box.proofs.desk.Desk.fix_all.Goals as goal
 
 pub fix_term-requires-clause-var : goal.fix_term-requires-clause-var

@@ -3,10 +3,11 @@ use Rattle.std.specs.Prelude.{nat_eq}
 use Rattle.std.specs.List.{list_any}
 use Rattle.zero_one_rows.specs.Variables.{variables}
 use Rattle.zero_one_rows.specs.Rows.{whole}
-use Rattle.base_matrix.specs.Fixing.{Fixes}
-use Rattle.base_matrix.proofs.Walking.{Partly}
+use Rattle.kept_box.specs.Fixing.{Fixes}
+use Rattle.kept_box.proofs.Walking.{Partly}
 use Rattle.base_matrix.specs.Terms.{row_at, vars_in}
-use Rattle.kept_box.specs.Desk.{IsDesk, Marks}
+use Rattle.base_matrix.specs.Following.{Marks}
+use Rattle.kept_box.specs.Desk.{IsDesk}
 use Rattle.kept_box.proofs.desk.Desk.fix_all.Given as goal
 
 abbrev pub invariant-loop-term : goal.invariant-loop-term

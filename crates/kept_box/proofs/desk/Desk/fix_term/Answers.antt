@@ -2,8 +2,8 @@ use Rattle.std.proofs.Common.{◌≡◌, [], ◌∷◌, None, Some, sym, subst, 
 use Rattle.std.specs.Prelude.{slice_get}
 use Rattle.std.proofs.lemmas.Option.{get_or_from_slice_get}
 use Rattle.proof_trees.specs.Boxes.{Box, at}
-use Rattle.base_matrix.specs.Fixing.{Fixes}
-use Rattle.base_matrix.proofs.Freeing.{fixes_one}
+use Rattle.kept_box.specs.Fixing.{Fixes}
+use Rattle.kept_box.proofs.Freeing.{fixes_one}
 use Rattle.kept_box.proofs.desk.Desk.fix_term.Goals as goal
 
 pub returns-clause-noted : goal.returns-clause-noted

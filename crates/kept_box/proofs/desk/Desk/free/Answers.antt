@@ -3,7 +3,7 @@ use Rattle.std.proofs.lemmas.List.{length-replicate}
 use Rattle.proof_trees.specs.Boxes.{Box}
 use Rattle.zero_one_rows.specs.Variables.{Voyage, variables}
 use Rattle.base_matrix.specs.Terms.{slack_in}
-use Rattle.kept_box.specs.Waiting.{number_at}
+use Rattle.base_matrix.specs.Waiting.{number_at}
 use Rattle.kept_box.proofs.Trails.{trails_free}
 use Rattle.kept_box.proofs.desk.Desk.free.Goals as goal
 

@@ -4,10 +4,11 @@ use borrow.Author.Differences.{ints}
 use Rattle.base_matrix.proofs.Rows.{read}
 use Rattle.base_matrix.specs.declared.entries.Term.{Term}
 use Rattle.base_matrix.specs.Terms.{row_at, AreTerms}
-use Rattle.kept_box.specs.Waiting.{number_at}
-use Rattle.kept_box.specs.Desk.{CalmAt, IsWide}
+use Rattle.base_matrix.specs.Waiting.{number_at}
+use Rattle.base_matrix.specs.Following.{IsWide}
+use Rattle.kept_box.specs.Desk.{CalmAt}
 use Rattle.kept_box.proofs.Looks.{rests_cleared, work_cleared}
-use Rattle.kept_box.proofs.Moving.{wide_calm}
+use Rattle.kept_box.proofs.CalmRows.{wide_calm}
 use Rattle.kept_box.proofs.desk.Desk.look.Goals as goal
 
 pub look_among-requires-clause-slack : goal.look_among-requires-clause-slack

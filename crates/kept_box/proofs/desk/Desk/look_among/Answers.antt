@@ -2,11 +2,11 @@ use Rattle.std.proofs.Common.{rules, arith, ◌≡◌, ◌+◌, ◌++◌, [], �
 use Rattle.std.proofs.lemmas.Int.{to_z-of_z}
 use Rattle.zero_one_rows.specs.declared.program.Row.{Row}
 use Rattle.zero_one_rows.specs.Rows.{base}
-use Rattle.base_matrix.specs.Tightening.{Tightens}
-use Rattle.base_matrix.proofs.Falling.{tightens_falls}
-use Rattle.base_matrix.proofs.Steps.{tightens_one}
+use Rattle.kept_box.specs.Tightening.{Tightens}
+use Rattle.kept_box.proofs.Falling.{tightens_falls}
+use Rattle.kept_box.proofs.Steps.{tightens_one}
 use Rattle.base_matrix.specs.Terms.{row_at, slack_in}
-use Rattle.kept_box.specs.Waiting.{number_at}
+use Rattle.base_matrix.specs.Waiting.{number_at}
 use Rattle.kept_box.specs.Desk.{CalmAt}
 use Rattle.kept_box.specs.Looking.{AnyForced, NoneForced}
 use Rattle.kept_box.proofs.Looks.{any_other, holds_cleared, none_calm, rests_cleared, rests_forced, terms_inside, work_cleared, work_forced}

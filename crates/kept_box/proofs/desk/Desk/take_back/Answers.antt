@@ -1,7 +1,7 @@
 use Rattle.std.proofs.Common.{arith, ◌≡◌, ◌≤◌, length-append, ◌+◌, ◌++◌, [], ◌∷◌, ℕ, List, length, ap, ◌∙◌, refl}
 use Rattle.proof_trees.specs.Boxes.{Box}
-use Rattle.base_matrix.specs.Fixing.{released}
-use Rattle.base_matrix.proofs.Freeing.{release_one, take_one}
+use Rattle.kept_box.specs.Fixing.{released}
+use Rattle.kept_box.proofs.Freeing.{release_one, take_one}
 use Rattle.kept_box.proofs.Trails.{trails_freed}
 use Rattle.kept_box.proofs.desk.Desk.take_back.Goals as goal
 

@@ -1,5 +1,5 @@
 use Rattle.std.proofs.Common.{◌≡◌, ◌≤◌, length, take}
-use Rattle.base_matrix.specs.Fixing.{released}
+use Rattle.kept_box.specs.Fixing.{released}
 use Rattle.kept_box.specs.Desk.{IsDesk}
 use Rattle.kept_box.proofs.desk.Desk.take_back.Given as goal
 

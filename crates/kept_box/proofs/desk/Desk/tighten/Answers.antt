@@ -1,9 +1,9 @@
 use Rattle.std.proofs.Common.{arith, sym, subst}
 use Rattle.proof_trees.specs.Boxes.{Box}
 use Rattle.zero_one_rows.specs.Tightening.{IsQuiet}
-use Rattle.base_matrix.proofs.Freeing.{noted_more}
-use Rattle.base_matrix.proofs.Steps.{tightens_more}
-use Rattle.kept_box.proofs.Moving.{quiet_rests}
+use Rattle.kept_box.proofs.Freeing.{noted_more}
+use Rattle.kept_box.proofs.Steps.{tightens_more}
+use Rattle.kept_box.proofs.CalmRows.{quiet_rests}
 use Rattle.kept_box.proofs.desk.Desk.tighten.Goals as goal
 
 pub returns-in-Some-look-clause-steps : goal.returns-in-Some-look-clause-steps

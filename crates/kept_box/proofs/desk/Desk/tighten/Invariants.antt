@@ -1,6 +1,6 @@
 use Rattle.std.proofs.Common.{◌≡◌, ℕ, List, ◌++◌}
-use Rattle.base_matrix.specs.Fixing.{Fixes}
-use Rattle.base_matrix.specs.Tightening.{Tightens}
+use Rattle.kept_box.specs.Fixing.{Fixes}
+use Rattle.kept_box.specs.Tightening.{Tightens}
 use Rattle.kept_box.specs.Desk.{IsDesk, Rests, work}
 use Rattle.kept_box.proofs.desk.Desk.tighten.Given as goal
 

@@ -2,7 +2,7 @@ use Rattle.std.proofs.Common.{arith, ◌≡◌, ◌<◌, length, true, false, ge
 use Rattle.proof_trees.specs.Boxes.{Box}
 use Rattle.zero_one_rows.specs.Tightening.{IsQuiet}
 use Rattle.base_matrix.proofs.Rows.{read}
-use Rattle.kept_box.proofs.Moving.{holds_still, rests_quiet}
+use Rattle.kept_box.proofs.CalmRows.{holds_still, rests_quiet}
 use Rattle.kept_box.proofs.Trails.{released_all, take_length}
 use Rattle.kept_box.proofs.desk.Desk.undo_to.Goals as goal
 

@@ -3,7 +3,7 @@ use Rattle.std.specs.Prelude.{slice_get}
 use Rattle.std.proofs.lemmas.Option.{slice_get_within}
 use Rattle.proof_trees.specs.Boxes.{Box, at}
 use Rattle.kept_box.specs.Kept.{Kept}
-use Rattle.kept_box.proofs.Moving.{fixed_fewer, rests_marks}
+use Rattle.kept_box.proofs.CalmRows.{fixed_fewer, rests_marks}
 use Rattle.kept_box.proofs.kept.KeptBox.fix.Goals as goal
 
 pub invariant_of-self : goal.invariant_of-self

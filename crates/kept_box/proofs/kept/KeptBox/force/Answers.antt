@@ -6,9 +6,9 @@ use Rattle.proof_trees.specs.Boxes.{tight}
 use Rattle.zero_one_rows.specs.declared.program.Row.{Row}
 use Rattle.zero_one_rows.specs.declared.program.Row.TheVariants.{Cell}
 use Rattle.zero_one_rows.specs.Rows.{whole}
-use Rattle.program_rows.specs.Counted.{base_rows}
+use Rattle.zero_one_rows.specs.Counted.{base_rows}
 use Rattle.kept_box.specs.Kept.{Kept}
-use Rattle.kept_box.proofs.Moving.{rests_marks}
+use Rattle.kept_box.proofs.CalmRows.{rests_marks}
 use Rattle.kept_box.proofs.Freed.{fixes_fewer}
 use Rattle.kept_box.proofs.kept.KeptBox.force.Goals as goal
 

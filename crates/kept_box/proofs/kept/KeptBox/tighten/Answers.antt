@@ -2,7 +2,7 @@ use Rattle.std.proofs.Common.{◌≡◌, true, subst, ap}
 use Rattle.proof_trees.specs.Boxes.{violated}
 use Rattle.zero_one_rows.specs.Variables.{Voyage}
 use Rattle.zero_one_rows.specs.Rows.{base, whole}
-use Rattle.base_matrix.specs.declared.tightening.Tightened.{Tightened}
+use Rattle.kept_box.specs.declared.tightening.Tightened.{Tightened}
 use Rattle.zero_one_rows.specs.Tightening.{IsQuiet}
 use Rattle.kept_box.specs.Kept.{Kept}
 use Rattle.kept_box.specs.Looking.{Ends}

@@ -1,6 +1,6 @@
 use Rattle.std.proofs.Common.{sym, subst, ◌∙◌}
 use Rattle.zero_one_rows.specs.Variables.{Voyage}
-use Rattle.node_work.specs.Work.{IsNode, begins_at, most_at, Works}
+use Rattle.node_ends.specs.Work.{IsNode, begins_at, most_at, Works}
 use Rattle.node_work.proofs.desk.Desk.work.Goals as goal
 
 pub work_at-requires-clause-trail : goal.work_at-requires-clause-trail

@@ -1,11 +1,11 @@
 use Rattle.std.proofs.Common.{refl, sym, subst, ◌∙◌, ap}
 use Rattle.zero_one_rows.specs.Rows.{whole}
 use Rattle.proof_trees.specs.Boxes.{Box, tightened}
-use Rattle.node_work.specs.declared.worked.Worked.{Worked}
+use Rattle.node_ends.specs.declared.worked.Worked.{Worked}
 use Rattle.node_work.specs.declared.stands.Stand.{Stand}
 use Rattle.node_work.specs.Starts.{IsAfterSteps}
 use Rattle.node_work.specs.Stands.{IsStand}
-use Rattle.node_work.specs.Work.{Works}
+use Rattle.node_ends.specs.Work.{Works}
 use Rattle.node_work.proofs.Standing.{stand_fixed}
 use Rattle.node_work.proofs.Ends.{branched_divides}
 use Rattle.node_work.proofs.Trails.{pending}

@@ -5,7 +5,7 @@ use Rattle.certificate.specs.declared.tree.Record.{Record}
 use Rattle.certificate.specs.Entries.{end_of, number_of}
 use Rattle.search_core.specs.Journals.{divided}
 use Rattle.search_core.specs.Machine.{Divides}
-use Rattle.base_matrix.proofs.Freeing.{noted_more}
+use Rattle.kept_box.proofs.Freeing.{noted_more}
 use Rattle.node_work.specs.declared.stands.Frame.{Frame}
 use Rattle.node_work.specs.declared.stands.Stand.{Stand}
 use Rattle.node_work.proofs.Standing.{stand_fixed, redone, redone_at}

@@ -3,7 +3,7 @@ use Rattle.std.specs.Int.{w128}
 use Rattle.std.specs.Int.RustNames.{unsigned_abs}
 use Rattle.std.proofs.lemmas.Int.{to_z-of_z}
 use Rattle.zero_one_rows.specs.Rows.{whole}
-use Rattle.program_rows.specs.Counted.{all_rows}
+use Rattle.zero_one_rows.specs.Counted.{all_rows}
 use Rattle.chain_gains.specs.Gaps.{number_at}
 use Rattle.record_judge.proofs.Raising.{right_low, weight_low, written_over, adds_list}
 use Rattle.record_judge.proofs.tally.Tally.add.Goals as goal

@@ -1,11 +1,11 @@
 use Rattle.std.proofs.Common.{sym, subst}
 use Rattle.steal_pool.proofs.Steps.{on_ok}
-use Rattle.crew_turns.specs.declared.deeds.Deeds.{Deeds}
+use Rattle.steal_pool.specs.declared.deeds.Deeds.{Deeds}
 use Rattle.search_crew.specs.Ends.{IsRest}
 use Rattle.search_crew.proofs.Rests.{rest_settled}
 use Rattle.search_crew.proofs.finishing.Rest.settle.Goals as goal
 
 pub returns-clause-rest : goal.returns-clause-rest
-returns-clause-rest c = on_ok c.add.result
+returns-clause-rest g c = on_ok c.add.result
     (λ todo all rest. subst (λ (d : Deeds). IsRest c.args.desk.now c.args.board.now.start c.handle.new.seat.view 0 all c.add.new.self.todo.items d) (sym c.add.ensures.deeds)
     (rest_settled c.args.desk.now c.args.board.now.start c.args.seat.now.view all c.args.self.now.deeds c.args.self.now.todo.items c.args.node c.handle.new.seat.view c.handle.new.deeds c.in_ok-halves.halves c.add.new.self.todo.items todo c.in_ok-halves.ensures.halves c.in_ok-halves.ensures.done rest)) c.add.ensures.todo

@@ -3,21 +3,21 @@ use Rattle.std.specs.Prelude.{is_some}
 use Rattle.node_racks.specs.declared.view.View.{View}
 use Rattle.node_racks.specs.Rule.{one_over}
 use Rattle.node_racks.specs.Tokens.{SeatToken}
-use Rattle.crew_turns.specs.declared.deeds.Deeds.{Deeds}
+use Rattle.steal_pool.specs.declared.deeds.Deeds.{Deeds}
 use Rattle.search_crew.specs.Ends.{IsRest}
 use Rattle.search_crew.proofs.Rests.{some_drawn, rest_drawn, rest_left, rest_left_too}
 use Rattle.search_crew.proofs.finishing.Rest.step.Goals.{then-live+else-is_some, else-live}
 use Rattle.search_crew.proofs.finishing.Rest.step.Goals as goal
 
 pub returns-then-is_some-clause-rest : goal.returns-then-is_some-clause-rest
-returns-then-is_some-clause-rest c all rest =
+returns-then-is_some-clause-rest g c all rest =
     let is : is_some c.draw.result ≡ true = search rules in
     let t = some_drawn c.draw.result c.args.seat.now.view c.draw.new.seat.view _ is c.draw.ensures.some in
     c.in_ok-settle.ensures.rest all (subst (λ (v : View). IsRest c.args.desk.now c.args.board.now.start v 1 all (c.args.self.now.todo.items ++ c.args.node ∷ []) c.args.self.now.deeds) (sym t.1)
     (rest_drawn c.args.desk.now c.args.board.now.start c.args.seat.now.view all c.args.self.now.deeds (c.args.self.now.todo.items ++ c.args.node ∷ []) t.0 rest))
 
 pub returns-clause-rest : goal.returns-clause-rest
-returns-clause-rest c all rest =
+returns-clause-rest g c all rest =
     let d = c.args.self.now.deeds in
     let left : c.push.new.self ≡ d.left ++ c.args.node.path ∷ [] = search rules in
     subst (λ (e : Deeds). IsRest c.args.desk.now c.args.board.now.start c.if-live.seat.view 0 all c.args.self.now.todo.items e) (sym (ap (λ l. record d { left = l }) left))

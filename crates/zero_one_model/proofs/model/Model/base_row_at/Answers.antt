@@ -1,6 +1,6 @@
 use Rattle.std.proofs.Common.{◌<◌, arith, sym, length}
 use Rattle.std.proofs.lemmas.Option.{get_or_from_slice_get}
-use Rattle.program_rows.specs.Counted.{base_rows, row_lists}
+use Rattle.zero_one_rows.specs.Counted.{base_rows, row_lists}
 use Rattle.zero_one_model.specs.Runs.{no_row}
 use Rattle.zero_one_model.proofs.Filed.{base_first, base_few}
 use Rattle.zero_one_model.proofs.model.Model.base_row_at.Goals as goal

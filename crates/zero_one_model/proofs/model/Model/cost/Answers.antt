@@ -1,7 +1,7 @@
 use Rattle.std.proofs.Common.{◌<◌, sym, subst, refl, length}
 use Rattle.zero_one_rows.specs.declared.program.Var.{Var}
 use Rattle.zero_one_rows.specs.Variables.{all_kinds}
-use Rattle.zero_one_rows.proofs.Listing.{var_listed}
+use Rattle.zero_one_rows.proofs.VariableList.{var_listed}
 use Rattle.zero_one_model.proofs.model.Model.cost.Goals as goal
 
 pub cost_of-requires : goal.cost_of-requires

@@ -4,7 +4,7 @@ use Rattle.zero_one_rows.specs.declared.program.Row.{Row}
 use Rattle.zero_one_rows.specs.declared.program.Var.{Var}
 use Rattle.zero_one_rows.specs.Variables.{var, all_kinds}
 use Rattle.zero_one_rows.specs.Crossing.{crosses}
-use Rattle.zero_one_rows.proofs.Listing.{var_listed}
+use Rattle.zero_one_rows.proofs.VariableList.{var_listed}
 use Rattle.zero_one_model.proofs.Gathered.{no_crossing}
 use Rattle.zero_one_model.proofs.model.Model.keep_chain.Goals as goal
 

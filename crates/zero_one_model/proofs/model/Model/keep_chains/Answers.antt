@@ -5,8 +5,8 @@ use Rattle.zero_one_rows.specs.declared.program.Row.{Row}
 use Rattle.zero_one_rows.specs.declared.program.Var.{Var}
 use Rattle.zero_one_rows.specs.Variables.{var, kind, calls, all_kinds, is_rehandled}
 use Rattle.zero_one_rows.specs.Crossing.{length_of}
-use Rattle.zero_one_rows.proofs.Listing.{var_listed}
-use Rattle.program_rows.specs.Counted.{all_chains}
+use Rattle.zero_one_rows.proofs.VariableList.{var_listed}
+use Rattle.zero_one_rows.specs.Counted.{all_chains}
 use Rattle.zero_one_model.proofs.Gathered.{no_crossings}
 use Rattle.zero_one_model.proofs.model.Model.keep_chains.Goals as goal
 

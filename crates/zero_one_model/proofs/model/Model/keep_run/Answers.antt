@@ -5,7 +5,7 @@ use Rattle.stow_data.specs.Shipment.{IsCargo}
 use Rattle.zero_one_rows.specs.declared.program.Row.{Row}
 use Rattle.zero_one_rows.specs.declared.program.Var.{Var}
 use Rattle.zero_one_rows.specs.Variables.{Voyage, var}
-use Rattle.zero_one_rows.proofs.Listing.{var_listed}
+use Rattle.zero_one_rows.proofs.VariableList.{var_listed}
 use Rattle.zero_one_model.specs.Runs.{at_call, meets}
 use Rattle.zero_one_model.proofs.Sized.{first_true}
 use Rattle.zero_one_model.proofs.Gathered.{more_calls}

@@ -2,9 +2,9 @@ use Rattle.std.proofs.Common.{◌≡◌, ◌<◌, ◌≤◌, ◌∙◌, ap, sym,
 use Rattle.std.specs.Prelude.{slice_get}
 use Rattle.stow_data.proofs.Members.{member_of}
 use Rattle.zero_one_rows.specs.declared.program.Row.{Row}
-use Rattle.program_rows.specs.Counted.{all_rows, base_in, rows_in}
-use Rattle.program_rows.specs.declared.row_lists.RowLists.{RowLists}
-use Rattle.program_rows.proofs.EveryRow.{listed_has}
+use Rattle.zero_one_rows.specs.Counted.{all_rows, base_in, rows_in}
+use Rattle.zero_one_rows.specs.declared.row_lists.RowLists.{RowLists}
+use Rattle.zero_one_rows.proofs.EveryRow.{listed_has}
 use Rattle.zero_one_model.proofs.model.Model.row_at.Goals as goal
 
 pub at-requires : goal.at-requires

@@ -1,9 +1,9 @@
 use Rattle.std.proofs.Common.{◌≡◌, ◌≤◌, ◌∙◌, List, ap, sym, subst, length, AllPairs}
 use Rattle.zero_one_rows.specs.declared.program.Row.{Row}
-use Rattle.program_rows.specs.Counted.{all_rows, base_in, rows_in}
-use Rattle.program_rows.specs.Ordered.{Precedes}
-use Rattle.program_rows.specs.declared.row_lists.RowLists.{RowLists}
-use Rattle.program_rows.proofs.InOrder.{rows_rise}
+use Rattle.zero_one_rows.specs.Counted.{all_rows, base_in, rows_in}
+use Rattle.zero_one_rows.specs.Ordered.{Precedes}
+use Rattle.zero_one_rows.specs.declared.row_lists.RowLists.{RowLists}
+use Rattle.zero_one_rows.proofs.InOrder.{rows_rise}
 use Rattle.zero_one_model.proofs.Kept.{numbered}
 use Rattle.zero_one_model.proofs.model.Model.row_number.Goals as goal
 

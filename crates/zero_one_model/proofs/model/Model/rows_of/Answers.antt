@@ -3,7 +3,7 @@ use Rattle.std.specs.Prelude.{All, slice_index_or}
 use Rattle.stow_data.specs.Profile.{IsShip}
 use Rattle.zero_one_rows.specs.declared.program.Row.{Row}
 use Rattle.zero_one_rows.specs.Variables.{Voyage, var}
-use Rattle.program_rows.specs.Counted.{base_rows}
+use Rattle.zero_one_rows.specs.Counted.{base_rows}
 use Rattle.zero_one_model.specs.Runs.{IsFiled, first_file, second_file, no_shelf, meets, run_of, named_runs}
 use Rattle.zero_one_model.proofs.Gathered.{kept, filed_inside}
 use Rattle.zero_one_model.proofs.EachRun.{s, s_low, first, second, all_gathered, found_each, found_once}

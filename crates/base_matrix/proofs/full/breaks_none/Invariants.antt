@@ -1,5 +1,0 @@
-use Rattle.base_matrix.proofs.Calming.{MetBelow}
-use Rattle.base_matrix.proofs.full.breaks_none.Given as goal
-
-abbrev pub invariant-loop-k : goal.invariant-loop-k
-invariant-loop-k l = MetBelow l.model l.b l.k

@@ -1,0 +1,10 @@
+pub mod Worlds
+pub mod Counting
+pub mod Column
+pub mod Law
+pub mod Sides
+pub mod KindFacts
+pub mod Slots
+pub mod ChainPairs
+pub mod Arrivals
+pub mod Crossed

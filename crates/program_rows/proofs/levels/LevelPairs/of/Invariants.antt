@@ -1,4 +1,0 @@
-use Rattle.program_rows.proofs.levels.LevelPairs.of.Given as goal
-
-abbrev pub ghost-list_used : goal.ghost-list_used
-ghost-list_used g a = g.m

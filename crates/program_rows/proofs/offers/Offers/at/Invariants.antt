@@ -1,4 +1,0 @@
-use Rattle.program_rows.proofs.offers.Offers.at.Given as goal
-
-abbrev pub ghost-suiting : goal.ghost-suiting
-ghost-suiting g a = g.m

@@ -1,7 +1,0 @@
-use Rattle.std.proofs.Common.{◌∙◌, ◌+◌, ◌/◌, ◌%◌, ℕ, ap}
-use Rattle.program_rows.specs.Counted.{apart_of}
-use Rattle.program_rows.proofs.Numbered.{numbered_row}
-use Rattle.program_rows.proofs.row_lists.RowLists.apart_at.Goals as goal
-
-pub returns : goal.returns
-returns c = numbered_row apart_of c.args.self.now.near c.args.self.now.calls c.args.k c.in_call-call.result.0 c.in_call-call.result.1 c.at-pair.result.now c.requires (c.in_call-call.ensures.call ∙ ap (λ (n : ℕ). c.args.k / n + 1) c.len.ensures) (c.in_call-call.ensures.place ∙ ap (λ (n : ℕ). c.args.k % n) c.len.ensures) c.at-pair.ensures

@@ -1,7 +1,0 @@
-use Rattle.std.proofs.Common.{ℕ}
-use Rattle.zero_one_rows.specs.declared.program.Row.TheVariants.{Cell}
-use Rattle.program_rows.proofs.Numbered.{numbered_first}
-use Rattle.program_rows.proofs.row_lists.RowLists.cell_at.Goals as goal
-
-pub returns : goal.returns
-returns c = numbered_first (λ (i h : ℕ). Cell i h) c.args.self.now.halves c.args.self.now.calls c.args.k c.in_call-call.result.0 c.in_call-call.result.1 c.requires c.in_call-call.ensures.call c.in_call-call.ensures.place

@@ -1,5 +1,0 @@
-use Rattle.std.proofs.Common.{◌≡◌, ◌++◌, map, take}
-use Rattle.program_rows.proofs.row_lists.push_separation.Given as goal
-
-abbrev pub invariant-loop-pair : goal.invariant-loop-pair
-invariant-loop-pair l = l.list ≡ l.initial.list ++ map (λ p. record { index = l.index; first = p.first; second = p.second }) (take l.pair-index l.pairs)

@@ -1,0 +1,39 @@
+//! The work on one node by the best value that all know.
+ghost use Rattle.std.specs.Prelude.{◌≡◌, ◌≤◌, ◌+◌, ℕ, IfOk};
+ghost use Rattle.stow_data.specs.Shipment.{IsCargo};
+ghost use Rattle.node_ends.specs.Work.{IsNode, most_rehandles, node_of};
+ghost use Rattle.steal_pool.specs.Deeds.{EachHalf, Flow, IsDone, halves_weight, on_nodes};
+
+use crate::deeds::{Deeds, Halves};
+use crate::run::tell;
+use certificate::Node;
+use node_ends::{Desk, Solver};
+use node_racks::{Board, Seat};
+use std::alloc::Global;
+use stow_data::NoMemory;
+
+/// Handles a node for which a ticket was drawn: on the worker's desk, against the best value.
+pub fn handle<S: Solver>(
+    alloc: Global,
+    desk: &mut Desk<S>,
+    board: &Board,
+    seat: &mut Seat,
+    deeds: &mut Deeds,
+    node: Node,
+) -> Result<Option<Halves>, NoMemory>
+    requires cargo { IsCargo desk.old.cargo }
+    requires start { seat.old.view.start ≤ most_rehandles desk.old + 1 }
+    requires seat { seat.old.board ≡ board.now.id }
+    requires node { IsNode desk.old node }
+    ensures same { desk.new ≡ desk.old }
+    ensures seat { seat.new.board ≡ seat.old.board }
+    ensures over { seat.new.view.over ≡ seat.old.view.over }
+    ensures halves { IfOk result (EachHalf (IsNode desk.old)) }
+    ensures done { IfOk result (λ halves. (start : ℕ) (came gone : Flow) → IsDone desk.old start seat.old.view 1 deeds.old came (λ h. gone h + h (node_of desk.old node))
+        → IsDone desk.old start seat.new.view 0 deeds.new came (λ h. gone h + halves_weight (on_nodes desk.old h) halves)) }
+{
+    let cut = board.best(seat);
+    let ended = desk.work(alloc, &node, cut);
+    tell(board, seat, &ended);
+    deeds.end(alloc, node, ended)
+}

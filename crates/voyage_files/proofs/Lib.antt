@@ -1,0 +1,10 @@
+pub mod OneMessage
+pub mod OneArrival
+pub mod OneInput
+pub mod Empty
+pub mod Finding
+pub mod ReadTexts
+pub mod Bounding
+pub mod OneRule
+pub mod OneSet
+pub mod OneNo

@@ -1,5 +1,0 @@
-pub mod Names
-pub mod Inputs
-pub mod Booked
-pub mod Named
-pub mod Reading
