@@ -1,5 +1,5 @@
 -- The greatest value of a row over a box in which one variable changes.
-use Rattle.std.proofs.Common.{◌≡◌, ℕ, ◌<◌, Bool, Some, None, length, set, ℤ, pos, ◌+ℤ◌, ◌-ℤ◌, arith, ap}
+use Rattle.std.proofs.Common.{◌≡◌, ℕ, ◌<◌, Bool, Some, None, length, set, pos, ◌+ℤ◌, ◌-ℤ◌, arith, ap}
 use Rattle.std.specs.Int.{int_max}
 use borrow.Author.Differences.{ints}
 use Rattle.std.proofs.lemmas.List.{get_or-set_same, get_or-set_other}

@@ -1,5 +1,5 @@
 -- One shape for each cell group.
-use Rattle.std.proofs.Common.{◌≡◌, ℕ, ◌+◌, List, [], ◌∷◌, map, Option, Some, None, refl, ap, sym, ◌∙◌}
+use Rattle.std.proofs.Common.{◌≡◌, ℕ, ◌+◌, List, [], ◌∷◌, Option, Some, None, refl, ap, sym, ◌∙◌}
 use Rattle.std.proofs.lemmas.List.Sums.{sum_by-cons}
 use Rattle.std.specs.Prelude.{count_by, cond, is_some}
 use Rattle.baplie.specs.declared.parts.Facts.{Facts}
@@ -7,7 +7,7 @@ use Rattle.baplie.specs.declared.parts.CellGroup.{CellGroup}
 use Rattle.stow_report.specs.Listings.{holds}
 use Rattle.bay_views.specs.declared.cells.Cell.{Cell}
 use Rattle.bay_views.specs.declared.sheets.Sheet.{Sheet}
-use Rattle.bay_views.specs.Cells.{Shape, is_filled, shape_in, shape_of, cell_of, shapes}
+use Rattle.bay_views.specs.Cells.{is_filled, shape_in, shape_of, cell_of, shapes}
 
 filled_in : (cell : Cell) (ports : List (List ℕ)) (facts : Option Facts) → is_filled (shape_in cell ports facts) ≡ is_some facts
 filled_in cell ports None = refl

@@ -1,5 +1,5 @@
 -- What is drawn for each cell group.
-use Rattle.std.specs.Prelude.{ℕ, ◌+◌, ◌*◌, ◌-◌, ◌/◌, ◌%◌, ◌==◌, Bool, true, false, List, map, Option, Some, None, if◌then◌else◌}
+use Rattle.std.specs.Prelude.{ℕ, ◌+◌, ◌%◌, ◌==◌, Bool, true, false, List, map, Option, Some, None, if◌then◌else◌}
 use Rattle.baplie.specs.declared.parts.Facts.{Facts}
 use Rattle.baplie.specs.declared.parts.CellGroup.{CellGroup}
 use Rattle.baplie.specs.Texts.{cell_digits}

@@ -1,5 +1,5 @@
 -- The rows and tiers of a picture (ISO 9711).
-use Rattle.std.specs.Prelude.{ℕ, ◌+◌, ◌-◌, ◌*◌, ◌/◌, ◌%◌, ◌<◌, ◌≤◌, ◌==◌, min, max, nat_le, Bool, List, fold, if◌then◌else◌}
+use Rattle.std.specs.Prelude.{ℕ, ◌+◌, ◌-◌, ◌*◌, ◌/◌, ◌%◌, ◌≤◌, ◌==◌, min, max, nat_le, Bool, List, fold, if◌then◌else◌}
 use Rattle.baplie.specs.declared.parts.CellGroup.{CellGroup}
 use Rattle.bay_views.specs.declared.frames.Frame.{Frame}
 

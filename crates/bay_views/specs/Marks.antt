@@ -1,5 +1,5 @@
 -- The text of a cell (SVG 1.1).
-use Rattle.std.specs.Prelude.{ℕ, ◌+◌, ◌-◌, ◌/◌, ◌%◌, nat_le, Bool, is_some, codes, List, [], ◌∷◌, ◌++◌, length, drop, Option, Some, None, if◌then◌else◌}
+use Rattle.std.specs.Prelude.{ℕ, ◌+◌, ◌-◌, ◌/◌, ◌%◌, nat_le, Bool, is_some, codes, List, [], ◌++◌, length, drop, Option, Some, None, if◌then◌else◌}
 use Rattle.std.specs.Fmt.{decimal}
 use Rattle.baplie.specs.declared.parts.Facts.{Facts}
 use Rattle.stow_report.specs.Listings.{length_text}

@@ -1,11 +1,9 @@
 -- The ports of discharge, and what stands for each.
-use Rattle.std.specs.Prelude.{ℕ, ◌+◌, ◌*◌, ◌%◌, ◌/◌, ◌++◌, Bool, false, List, [], ◌∷◌, codes, nat_eq, length, fold, count_by, slice_index_or, Option, Some, None, if◌then◌else◌}
-use Rattle.std.specs.List.{list_any, position_or_len, sum_by}
-use Rattle.std.specs.Fmt.{decimal}
+use Rattle.std.specs.Prelude.{ℕ, ◌+◌, ◌%◌, ◌++◌, Bool, false, List, [], ◌∷◌, nat_eq, fold, Option, Some, None, if◌then◌else◌}
+use Rattle.std.specs.List.{list_any, position_or_len}
 use Rattle.std.specs.Cmp.Lexicographic.{pointwise}
 use Rattle.baplie.specs.declared.parts.Facts.{Facts}
 use Rattle.baplie.specs.declared.parts.CellGroup.{CellGroup}
-use Rattle.bay_views.specs.Escapes.{escaped}
 
 abbrev pub same_text : List ℕ → List ℕ → Bool
 same_text a b = pointwise nat_eq a b

@@ -4,7 +4,7 @@ use Rattle.std.specs.List.{position_or_len}
 use Rattle.baplie.specs.declared.parts.CellGroup.{CellGroup}
 use Rattle.bay_views.specs.declared.sheets.Sheet.{Sheet}
 use Rattle.bay_views.specs.Frames.{IsFrame, frame_of, bay_width, bay_height}
-use Rattle.bay_views.specs.Bays.{long_bays, drawn_bays, home_of}
+use Rattle.bay_views.specs.Bays.{long_bays, drawn_bays}
 
 -- the legend has six ports a line, and room for 2^32 of them
 abbrev pub legend_lines : ℕ → ℕ

@@ -1,5 +1,5 @@
 -- A certificate's records as entries of a proof tree over rows and numbered variables.
-use Rattle.std.specs.Prelude.{ℕ, Bool, false, ◌==◌, ◌&&◌, List, map, ℤ, nat_eq}
+use Rattle.std.specs.Prelude.{ℕ, Bool, false, ◌==◌, ◌&&◌, map, ℤ, nat_eq}
 use Rattle.std.specs.List.{position_or_len}
 use Rattle.std.specs.Cmp.Lexicographic.{pointwise}
 use Rattle.zero_one_rows.specs.declared.program.Var.{Var}

@@ -1,20 +1,18 @@
 -- Tokens that are dealt, and passes as lists of deques and of rows of tokens.
-use Rattle.std.proofs.Common.{◌≡◌, ℕ, zero, suc, ◌+◌, ◌-◌, ◌<◌, ◌≤◌, List, [], ◌∷◌, ◌++◌, length, map, Result, Ok, Err, IfOk, All, slice_index_or, refl, sym, subst, ap, ◌∙◌, append-nil, arith}
+use Rattle.std.proofs.Common.{◌≡◌, ℕ, zero, suc, ◌+◌, ◌-◌, ◌<◌, ◌≤◌, List, [], ◌∷◌, ◌++◌, length, map, Result, Ok, Err, IfOk, All, slice_index_or, refl, sym, subst, ap, ◌∙◌, arith}
 use Rattle.std.specs.declared.alloc.Global.{Global}
-use Rattle.std.proofs.lemmas.List.{map-append}
 use Rattle.atomic_blocks.specs.Lent.{RowsId}
-use Rattle.crossbeam_deque.specs.Handles.{Pass, IsPassOf, worker_deque, worker_flavor, worker_view, stealer_deque, stealer_flavor, view}
+use Rattle.crossbeam_deque.specs.Handles.{Pass, worker_deque, stealer_deque, stealer_flavor, view}
 use Rattle.crossbeam_deque.specs.declared.handles.Worker.{Worker}
 use Rattle.crossbeam_deque.specs.declared.handles.Stealer.{Stealer}
 use Rattle.certificate.specs.declared.nodes.Node.{Node}
 use Rattle.search_core.specs.Bags.{weigh, Every}
-use Rattle.search_core.proofs.Weights.{every_append, every_more, weigh_map}
+use Rattle.search_core.proofs.Weights.{every_more, weigh_map}
 use Rattle.node_racks.specs.declared.rule.Hand.{Hand}
 use Rattle.node_racks.specs.declared.rule.Fair.{Fair}
 use Rattle.node_racks.specs.declared.racks.Rack.{Rack}
 use Rattle.node_racks.specs.declared.racks.Pass.{Pass as Passes}
-use Rattle.node_racks.specs.Bags.{hand}
-use Rattle.node_racks.specs.Racks.{stolen_weight, took_weight, put_weight, all_put, all_took, IsPassAt, IsFresh, number_of, count_from}
+use Rattle.node_racks.specs.Racks.{stolen_weight, all_put, all_took, IsPassAt, IsFresh, number_of, count_from}
 use Rattle.node_racks.specs.Rounds.{Each, IsHeld, IsUnused, deques, stolen_from, AreLifo, own_put, own_took, Fits, FitsNew, own_of, row_of}
 
 -- ## Lists

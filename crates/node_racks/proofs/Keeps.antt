@@ -1,15 +1,13 @@
 -- Each step of a pass keeps the rule of the deque.
-use Rattle.std.proofs.Common.{◌≡◌, ◌≢◌, ℕ, zero, suc, ◌+◌, ◌-◌, ◌<◌, ◌≤◌, List, [], ◌∷◌, ◌++◌, length, set, refl, ap, sym, subst, ⊎_elim, arith}
+use Rattle.std.proofs.Common.{◌≡◌, ℕ, zero, suc, ◌+◌, ◌-◌, ◌<◌, ◌≤◌, List, [], ◌∷◌, ◌++◌, length, set, refl, ap, sym, arith}
 use Rattle.std.proofs.lemmas.Bool.Decides.{nat_tests}
 use mathlib.Core.Option.{some, some-ne-none}
 use lib.ListN.{get_elem?}
 use Rattle.crossbeam_deque.specs.Tasks.{Pushes, Takes, Pops, Forks, Merges, Learns}
-use Rattle.crossbeam_deque.proofs.Lists.{at_set, at_snoc}
 use Rattle.std.proofs.Common.{Option, Some, None, IfSome}
 use Rattle.certificate.specs.declared.nodes.Node.{Node}
-use Rattle.node_racks.specs.Rounds.{Each}
 use Rattle.node_racks.specs.declared.rule.Hand.{Hand}
-use Rattle.search_core.specs.Bags.{weigh, Every}
+use Rattle.search_core.specs.Bags.{weigh}
 use Rattle.search_core.proofs.Weights.{weigh_append, every_append, every_left, every_right}
 use Rattle.node_racks.specs.Bags.{hand, total, counted, Balanced, Took, Found}
 

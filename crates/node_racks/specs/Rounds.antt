@@ -11,7 +11,6 @@ use Rattle.node_racks.specs.declared.rule.Fair.{Fair}
 use Rattle.node_racks.specs.declared.racks.Pass.{Pass as Passes}
 use Rattle.search_core.specs.Bags.{weigh, Every}
 use Rattle.node_racks.specs.Bags.{hand}
-use Rattle.node_racks.specs.Racks.{stolen_weight}
 
 -- the relation holds of the items of both lists, one by one
 abbrev pub Each : {A B : Type 0} → (A → B → Type 0) → List A → List B → Type 0

@@ -1,5 +1,5 @@
 -- Raises taken back.
-use Rattle.std.proofs.Common.{◌≡◌, ℕ, zero, suc, ◌+◌, ◌<◌, ◌≤◌, ◌^◌, Bool, true, false, cond, List, [], ◌∷◌, ◌++◌, length, take, map, get_or, Option, Some, None, ℤ, pos, negsuc, ◌+ℤ◌, refl, sym, subst, ◌∙◌, ap, append-nil, arith}
+use Rattle.std.proofs.Common.{◌≡◌, ℕ, ◌+◌, ◌<◌, ◌≤◌, ◌^◌, Bool, true, false, cond, List, [], ◌∷◌, ◌++◌, length, take, map, get_or, Option, Some, None, ℤ, pos, negsuc, ◌+ℤ◌, refl, sym, ◌∙◌, ap, append-nil, arith}
 use Rattle.std.specs.Prelude.{nat_le, neg_ℤ, if◌then◌else◌}
 use borrow.Author.Differences.{ints}
 use Rattle.std.proofs.lemmas.List.{take_more, take_all}

@@ -1,7 +1,7 @@
 -- The pictures, and the page behind several of them.
 use Rattle.std.proofs.Common.{◌≡◌, ℕ, ◌+◌, ◌<◌, ◌≤◌, List, [], ◌∷◌, ◌++◌, length, get_or, take, map, refl, ap, sym, ◌∙◌, arith}
 use Rattle.std.proofs.lemmas.Bool.Decides.{nat_tests}
-use Rattle.std.proofs.lemmas.List.{append-nil, map-append, map_more}
+use Rattle.std.proofs.lemmas.List.{append-nil, map_more}
 use Rattle.picture_files.specs.declared.reading.View.{View}
 use Rattle.stow_io.specs.declared.files.NamedFile.{NamedFile}
 use Rattle.picture_files.specs.Work.{file_of, pages_for, HasPages}

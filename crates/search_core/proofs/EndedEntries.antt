@@ -8,7 +8,7 @@ use Rattle.proof_trees.specs.Trees.{End, Leaf, Left, Branch, Entry, Pending}
 use Rattle.search_core.specs.Bags.{weigh, Every}
 use Rattle.search_core.specs.Journals.{branches, is_left, box_after, multipliers_after, Anything, EndAllowed, Allowed}
 use Rattle.search_core.specs.Machine
-use Rattle.search_core.specs.Machine.{Node, Worker, State, Handled, handled, root_node, idle, half_node, begin, worker, with_worker, IsWorker, lesser, begins, IsEntry, Divides, takes, ObeysRule}
+use Rattle.search_core.specs.Machine.{Node, Worker, State, Handled, handled, idle, half_node, begin, worker, with_worker, IsWorker, begins, Divides, ObeysRule}
 use Rattle.search_core.specs.Outcomes.{children, WholeNodes, weigh_hand, held, HoldsNothing, Traces}
 use Rattle.search_core.proofs.Weights.{weigh_append, every_append, every_more}
 use Rattle.search_core.proofs.OpenNodes.{kept_field}

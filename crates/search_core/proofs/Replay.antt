@@ -6,7 +6,7 @@ use Rattle.proof_trees.specs.Trees.{root}
 use Rattle.search_core.specs.Bags.{weigh, Every}
 use Rattle.search_core.specs.Journals.{Path, Placed, left_at, trail, under, all_nodes, Whole, Tree, Tip, Fork, preorder, Gathers, located, Anything, Settled}
 use Rattle.search_core.specs.Machine
-use Rattle.search_core.specs.Machine.{Node, Handled, at_its_path, Worker, State, Event, Pop, root_node, idle, placed, begin, worker, with_worker, begins, Accepts, Runs}
+use Rattle.search_core.specs.Machine.{Node, Handled, at_its_path, Worker, State, root_node, idle, placed, begin, worker, with_worker, Runs}
 use Rattle.search_core.specs.Replays.{Waiting, Item, record_of, size, kids, order, ordered, each_from, first_events, offer_events, end_events, left_events, replay, offered, IsOffer, Replays}
 use Rattle.search_core.proofs.OneTree.{located_as}
 use Rattle.search_core.proofs.Settling.{TreeAllowed, settled_tree}

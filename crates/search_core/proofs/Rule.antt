@@ -8,7 +8,7 @@ use Rattle.proof_trees.specs.Trees.{Entry, Pending, root}
 use Rattle.search_core.specs.Bags.{weigh, In}
 use Rattle.search_core.specs.Journals.{box_after}
 use Rattle.search_core.specs.Machine
-use Rattle.search_core.specs.Machine.{Node, Worker, State, root_node, idle, half_node, handled, begin, worker, with_worker, IsWorker, Holds, IsOpen, ticket_of, lesser, begins, IsEntry, Divides, IsTrail, takes, Cover, ObeysRule, is_full, bits, price}
+use Rattle.search_core.specs.Machine.{Node, Worker, State, root_node, idle, half_node, handled, begin, worker, with_worker, IsWorker, Holds, IsOpen, ticket_of, lesser, begins, IsEntry, Divides, IsTrail, Cover, ObeysRule, is_full, bits, price}
 use Rattle.search_core.proofs.Trails.{begins_sound, after_more, trail_more, none_cheaper, in_child, inside_free}
 use Rattle.search_core.proofs.OpenNodes.{in_left, in_right, in_either, in_last, who, SomeHolds, who_same, each_who, kept_field, from_new, to_new, tickets_set}
 

@@ -7,7 +7,7 @@ use Rattle.proof_trees.specs.Trees.{End, Leaf, Left, Branch, Entry, Pending, roo
 use Rattle.search_core.specs.Bags.{weigh, Every}
 use Rattle.search_core.specs.Journals.{Path, branches, Tree, Tip, Fork, box_after, child, after, Anything, EndAllowed, Allowed}
 use Rattle.search_core.specs.Machine
-use Rattle.search_core.specs.Machine.{Node, Worker, State, Event, Push, Pop, Steal, Load, Offer, Draw, Close, Divide, root_node, idle, half_node, handled, Handled, begin, worker, with_worker, begins, IsEntry, Divides, IsTrail, takes, Accepts, Runs}
+use Rattle.search_core.specs.Machine.{Node, Worker, State, half_node, Handled, worker, with_worker, begins, IsEntry, Divides, IsTrail, takes, Accepts, Runs}
 use Rattle.search_core.specs.Replays.{Waiting, Item, record_of, size, kids, order, each_from, taking, first_events}
 use Rattle.search_core.proofs.Settling.{TreeAllowed}
 use Rattle.search_core.proofs.Trails.{after_more, trail_more}

@@ -8,9 +8,9 @@ use Rattle.proof_trees.specs.Multipliers.{Multipliers, Closes, worth}
 use Rattle.proof_trees.specs.Trees.{End, Leaf, Left, Branch, Entry, Pending}
 use Rattle.search_core.specs.Journals.{branches, box_after, multipliers_after}
 use Rattle.search_core.specs.Machine
-use Rattle.search_core.specs.Machine.{Node, Worker, State, Event, Push, Pop, Steal, Load, Offer, Draw, Close, Divide, worker, IsWorker, HandFree, is_full, begins, IsEntry, Divides, Accepts}
+use Rattle.search_core.specs.Machine.{Node, State, Event, Push, Pop, Steal, Load, Offer, Draw, Close, Divide, worker, HandFree, is_full, begins, IsEntry, Divides, Accepts}
 use Rattle.search_core.specs.Refusals
-use Rattle.search_core.specs.Refusals.{Refuses, IsLeafEntry, IsBranchEntry, Holding}
+use Rattle.search_core.specs.Refusals.{Refuses, IsLeafEntry, IsBranchEntry}
 use Rattle.search_core.specs.declared.refused.Refused.{Refused}
 use Rattle.search_core.specs.declared.refused.Refused.TheVariants.{NoWorker, HandFull, HandEmpty, DequeEmpty, HasTicket, NoTicket, NotSeen, BadEntry, NotFull, Short, NotFree, NoChild}
 

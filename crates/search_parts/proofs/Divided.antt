@@ -1,5 +1,5 @@
 -- The half of a node that was divided is a node.
-use Rattle.std.proofs.Common.{◌≡◌, ℕ, ◌<◌, Bool, true, List, [], ◌∷◌, ◌++◌, map, Option, Some, None, Result, Ok, Err, refl, sym, subst}
+use Rattle.std.proofs.Common.{◌≡◌, ℕ, Bool, true, List, [], ◌∷◌, ◌++◌, map, Option, Some, None, Result, Ok, Err, refl, sym, subst}
 use Rattle.std.specs.Prelude.{is_ok, if◌then◌else◌, OnOk}
 use Rattle.stow_data.specs.declared.list.NoMemory.{NoMemory}
 use Rattle.std.proofs.lemmas.List.{map-append}

@@ -1,5 +1,5 @@
 -- What accepted inputs are answered.
-use Rattle.std.proofs.Common.{◌≡◌, ℕ, ◌≤◌, List, Option, ap, subst, inl, inr, arith}
+use Rattle.std.proofs.Common.{◌≡◌, ℕ, ◌≤◌, List, Option, subst, inl, inr, arith}
 use Rattle.std.specs.Prelude.{Result, Ok, Err, IfOk, IfErr}
 use Rattle.stow_io.specs.Files.{Files}
 use Rattle.stow_io.specs.Causes.{Rose}

@@ -1,12 +1,12 @@
 -- The departure files read as bay plan messages, which show the plans.
 use Rattle.std.proofs.Common.{◌≡◌, ℕ, zero, suc, ◌+◌, ◌≤◌, List, [], ◌∷◌, length, Option, Some, None, refl, sym, inl, inr, subst, arith}
-use Rattle.std.specs.Prelude.{◌⊎◌, All, map}
+use Rattle.std.specs.Prelude.{All, map}
 use Rattle.stow_data.specs.Plans.{Plan}
 use Rattle.stowage_rules.specs.Plan.{IsWellFormed}
 use Rattle.stowage_rules.specs.Departure.{AreDepartures}
 use Rattle.arrival_plan.specs.Settled.{groups_of}
 use Rattle.plan_files.specs.DepartureFile.{AreArrived, groups, message_of}
-use Rattle.plan_files.specs.Shown.{ShowAll, Shows, shown_by}
+use Rattle.plan_files.specs.Shown.{ShowAll, shown_by}
 use Rattle.baplie.specs.declared.parts.Message.{Message}
 use Rattle.plan_files.proofs.Departures.{reads_as}
 use Rattle.plan_files.proofs.Planned.{plan_whole}

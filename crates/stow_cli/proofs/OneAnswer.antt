@@ -1,6 +1,5 @@
 -- Over files that are told, an order to check or to show has one answer.
-use Rattle.std.proofs.Common.{◌≡◌, ◌≢◌, ℕ, List, Option, Some, refl, sym, ap, subst, ◌∙◌, inl, inr, arith}
-use Rattle.std.specs.Prelude.{◌⊎◌}
+use Rattle.std.proofs.Common.{◌≡◌, ℕ, List, Option, Some, refl, sym, ap, subst, ◌∙◌, inl, inr, arith}
 use Rattle.stow_io.specs.Files.{Files}
 use Rattle.stow_data.specs.declared.limits.Limit.{Limit}
 use Rattle.stow_data.specs.declared.limits.Limit.TheVariants.{Calls, Containers, Places, Variables, Rows, Certificate}
@@ -16,7 +15,6 @@ use Rattle.voyage_files.specs.declared.answer.Answer.{Answer}
 use Rattle.voyage_files.specs.declared.answer.Answer.TheVariants as answer
 use Rattle.voyage_files.specs.declared.voyage.BookedVoyage.{BookedVoyage}
 use Rattle.stow_io.specs.declared.files.Work.{Work}
-use Rattle.stow_words.specs.declared.order.Order.{Order}
 use Rattle.stow_words.specs.declared.order.Order.TheVariants.{Check, Show}
 use Rattle.voyage_files.specs.Names.{Names, names_from}
 use Rattle.voyage_files.specs.Inputs.{TurnsDown}

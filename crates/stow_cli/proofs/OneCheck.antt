@@ -1,12 +1,11 @@
 -- Over files that are told, what a certificate and departure files are answered is one answer.
-use Rattle.std.proofs.Common.{◌≡◌, ℕ, zero, suc, ◌+◌, List, [], ◌∷◌, length, Option, Some, refl, sym, ap, subst, ◌∙◌, inl, inr}
+use Rattle.std.proofs.Common.{◌≡◌, ℕ, suc, List, [], ◌∷◌, length, Some, refl, sym, ap, subst, ◌∙◌, inl, inr}
 use Rattle.std.specs.Prelude.{◌⊎◌}
 use Rattle.stow_io.specs.Files.{Files}
 use Rattle.zero_one_rows.specs.Variables.{Voyage}
 use Rattle.certificate.specs.declared.faults.CertFault.{CertFault}
 use Rattle.certificate.specs.declared.tree.Head.{Head}
 use Rattle.certificate.specs.declared.tree.Record.{Record}
-use Rattle.certificate.specs.Grammar.{IsCert}
 use Rattle.certificate.proofs.Determined.{one_tree, one_fault, no_fault}
 use Rattle.model_bridge.specs.Laws.{IsProblem}
 use Rattle.voyage_files.specs.declared.refusals.JudgeNo.{JudgeNo}
@@ -14,16 +13,14 @@ use Rattle.voyage_files.specs.Lines.{line_of}
 use Rattle.voyage_files.proofs.OneNo.{one_no, yes_or_no}
 use Rattle.stow_report.specs.Refusals.{refusal_text}
 use Rattle.stow_report.specs.Verdicts.{cert_line}
-use Rattle.stow_report.specs.Numbers.{yes_text}
 use Rattle.voyage_files.specs.declared.answer.Answer.{Answer}
 use Rattle.voyage_files.specs.declared.answer.Answer.TheVariants as answer
 use Rattle.voyage_files.specs.declared.voyage.BookedVoyage.{BookedVoyage}
-use Rattle.voyage_files.specs.Inputs.{IsContent}
 use Rattle.voyage_files.proofs.OneInput.{one_content}
 use Rattle.stow_io.specs.declared.files.Finding.{Finding}
 use Rattle.stow_io.specs.declared.files.NamedFile.{NamedFile}
 use Rattle.stow_io.specs.declared.files.Work.{Work}
-use Rattle.stow_cli.specs.Checks.{AreBeside, AreTexts, Confirms, IsCertOf, JudgedAs, ReadsCert, ReadsFiles, RefusesPart, RefusesText}
+use Rattle.stow_cli.specs.Checks.{AreTexts, Confirms, IsCertOf, JudgedAs, ReadsCert, ReadsFiles, RefusesPart, RefusesText}
 use Rattle.stow_cli.specs.Voyages.{voyage_of}
 use Rattle.stow_cli.specs.Work.{cert_name, file_name}
 

@@ -1,5 +1,5 @@
 -- The reads of the files beside the inputs.
-use Rattle.std.proofs.Common.{◌≡◌, ℕ, suc, ◌+◌, ◌<◌, ◌≤◌, ◌^◌, List, [], ◌∷◌, ◌++◌, length, Option, Some, refl, sym, ap, subst, ◌∙◌, inl, inr, arith}
+use Rattle.std.proofs.Common.{◌≡◌, ℕ, suc, ◌+◌, ◌<◌, ◌≤◌, ◌^◌, List, [], ◌∷◌, ◌++◌, length, Option, refl, ap, subst, ◌∙◌, inl, inr, arith}
 use Rattle.std.specs.Prelude.{All, Result, Ok, Err, IfOk, IfErr}
 use Rattle.std.proofs.lemmas.List.Elements.{All-nil, All-cons, All-head, All-tail}
 use Rattle.stow_io.specs.Files.{Files}
@@ -15,7 +15,7 @@ use Rattle.voyage_files.specs.declared.reading.ReadStop.TheVariants.{Failed, Fai
 use Rattle.voyage_files.specs.Inputs.{IsContent}
 use Rattle.voyage_files.specs.Named.{IsStop}
 use Rattle.stow_cli.specs.declared.verdict.CertText.TheVariants.{Refused}
-use Rattle.stow_cli.specs.Checks.{AreBeside, AreTexts, IsCertOf, IsCertText, IsDepartureRead, IsFileName, IsWrittenRead, JudgedAs, ReadsCert, ReadsFiles, files_beside}
+use Rattle.stow_cli.specs.Checks.{AreTexts, IsCertText, IsFileName, IsWrittenRead, JudgedAs, ReadsCert, ReadsFiles, files_beside}
 use Rattle.stow_cli.specs.Voyages.{voyage_of}
 use Rattle.stow_cli.specs.Work.{cert_name, file_name}
 use Rattle.zero_one_model.specs.Building.{IsWithin}

@@ -1,5 +1,5 @@
 -- What each order is answered.
-use Rattle.std.specs.Prelude.{◌≡◌, ◌≢◌, ◌⊎◌, ℕ, List, [], Option, Some, None}
+use Rattle.std.specs.Prelude.{◌≡◌, ◌≢◌, ◌⊎◌, ℕ, List, [], Option}
 use Rattle.stow_io.specs.Files.{Files}
 use Rattle.stow_data.specs.declared.limits.Limit.{Limit}
 use Rattle.zero_one_rows.specs.Variables.{Voyage}

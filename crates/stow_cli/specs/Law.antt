@@ -2,7 +2,7 @@
 use Rattle.std.specs.Prelude.{◌≡◌, ◌⊎◌, Some}
 use Rattle.stow_io.specs.Files.{Files}
 use Rattle.stow_io.specs.declared.files.Finding.{Finding}
-use Rattle.stow_io.specs.declared.files.Finding.TheVariants.{Fine, Gap, NoPlan, Undecided}
+use Rattle.stow_io.specs.declared.files.Finding.TheVariants.{Fine, Gap, NoPlan}
 use Rattle.voyage_files.specs.declared.answer.Answer.{Answer}
 use Rattle.voyage_files.specs.declared.answer.Answer.TheVariants as answer
 use Rattle.stow_words.specs.declared.order.Order.{Order}

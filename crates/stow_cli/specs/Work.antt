@@ -1,5 +1,5 @@
 -- The files and the report of a voyage.
-use Rattle.std.specs.Prelude.{◌≡◌, ◌<◌, ◌≤◌, ℕ, ◌+◌, ◌/◌, ◌%◌, ◌^◌, codes, List, [], ◌∷◌, ◌++◌, length, All, Option, Some, None}
+use Rattle.std.specs.Prelude.{◌≡◌, ◌<◌, ◌≤◌, ℕ, ◌+◌, ◌/◌, ◌%◌, codes, List, [], ◌∷◌, ◌++◌, length, All, Option, Some, None}
 use Rattle.std.specs.Fmt.{decimal}
 use Rattle.stow_data.specs.declared.limits.Limit.TheVariants.{Certificate}
 use Rattle.stow_data.specs.Plans.{Plan}

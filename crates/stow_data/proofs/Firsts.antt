@@ -1,9 +1,9 @@
 -- The first ones of a list: no two are like, and each item is like one of them.
-use Rattle.std.proofs.Common.{◌≡◌, Bool, true, false, cond, List, [], ◌∷◌, ◌++◌, refl, sym, ◌∙◌, ap, subst}
+use Rattle.std.proofs.Common.{◌≡◌, Bool, true, false, cond, List, [], ◌∷◌, ◌++◌, refl, sym, ◌∙◌, ap}
 use Rattle.std.specs.Prelude.{◌||◌, not, filter}
 use Rattle.std.specs.List.{list_any}
 use Rattle.std.specs.Cmp.{IsEquivalence}
-use Rattle.std.proofs.lemmas.Bool.{both_ways, false≢true, not_from_true, not_from_false, false_from_ne_true, or_parts, or_left}
+use Rattle.std.proofs.lemmas.Bool.{both_ways, false≢true, not_from_false, false_from_ne_true, or_parts, or_left}
 use Rattle.std.proofs.lemmas.List.Elements.{filter-append}
 use Rattle.stow_data.specs.Kinds.{first_ones}
 use Rattle.stow_data.proofs.Distinct.{Each}

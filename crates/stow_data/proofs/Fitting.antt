@@ -1,6 +1,6 @@
 -- What fits a place, as a fact and as a truth value.
 use Rattle.std.proofs.Common.{◌≡◌, ℕ, Bool, true, false, refl, sym, ◌∙◌, Some, subst}
-use Rattle.std.specs.Prelude.{◌&&◌, ◌||◌, ◌↔◌, not, slice_get, IsTrue}
+use Rattle.std.specs.Prelude.{◌||◌, ◌↔◌, not, slice_get, IsTrue}
 use Rattle.std.proofs.lemmas.Bool.{and_from, and_parts}
 use Rattle.std.proofs.lemmas.Option.{same_Some}
 use Rattle.stow_data.specs.declared.geometry.Place.{Place}

@@ -1,12 +1,12 @@
 -- Kinds container by container: what a container shows joins the kinds of those before it.
-use Rattle.std.proofs.Common.{◌≡◌, ℕ, ◌+◌, ◌≤◌, Bool, true, false, cond, List, [], ◌∷◌, ◌++◌, arith, refl, sym, ◌∙◌, ap, subst, length, Some, None, map, min, take, get_or}
+use Rattle.std.proofs.Common.{◌≡◌, ℕ, ◌+◌, Bool, true, false, cond, List, [], ◌∷◌, ◌++◌, arith, refl, sym, ◌∙◌, ap, Some, None, map, min}
 use Rattle.std.specs.Prelude.{◌==◌, ◌&&◌, ◌||◌, nat_eq, Option, filter}
 use Rattle.std.specs.List.{list_any}
 use Rattle.std.specs.Cmp.{IsEquivalence, nat_eq_equiv, on_equiv}
 use Rattle.std.specs.Cmp.Lexicographic.{pointwise, lists_equiv}
 use Rattle.std.specs.Option.{option_eq}
-use Rattle.std.proofs.lemmas.Bool.{and_parts, both_ways, false_from_ne_true, false≢true, or_left}
-use Rattle.std.proofs.lemmas.List.{append_assoc, append-nil, map-append, take_more}
+use Rattle.std.proofs.lemmas.Bool.{and_parts, both_ways, false_from_ne_true, false≢true}
+use Rattle.std.proofs.lemmas.List.{append_assoc, append-nil, map-append}
 use Rattle.std.proofs.lemmas.List.Elements.{filter-append}
 use Rattle.stow_data.specs.declared.geometry.Length.{Length}
 use Rattle.stow_data.specs.declared.geometry.Length.TheVariants.{Twenty, Forty}
@@ -14,7 +14,6 @@ use Rattle.stow_data.specs.declared.cargoes.Container.{Container}
 use Rattle.stow_data.specs.declared.kind_list.Kind.{Kind}
 use Rattle.stow_data.specs.Ship.{same_length}
 use Rattle.stow_data.specs.Kinds.{kind_of, same_flag, alike, of_one_kind, first_ones, least_load, kind_among, kinds_of}
-use Rattle.stow_data.proofs.Members.{Member}
 use Rattle.stow_data.proofs.Distinct.{Each}
 use Rattle.stow_data.proofs.Firsts.{Apart, each_filter, first_apart, first_more, any_first, none_like}
 

@@ -1,17 +1,12 @@
 -- Kinds: each container has its kind, and the counts of a call.
-use Rattle.std.proofs.Common.{◌≡◌, ℕ, zero, suc, ◌<◌, ◌≤◌, ◌+◌, Bool, true, false, cond, List, [], ◌∷◌, ◌++◌, arith, refl, sym, ◌∙◌, ap, ⊎_elim, subst, length, Some, None, map, min, take, get_or, Ok, Err, get_or-set_same, get_or-set_other, length-take}
-use Rattle.std.specs.Prelude.{slice_get, slice_set, slice_index, slice_index_or, All, ◌==◌, ◌&&◌, nat_eq, Option, Result, is_ok, OnOk, if◌then◌else◌}
-use Rattle.std.specs.Option.{option_eq}
-use Rattle.std.specs.Cmp.Lexicographic.{pointwise}
-use Rattle.std.proofs.lemmas.Bool.{eq-eqb, ne_eqb, and_from, and_left, cases_eq, cases_lt}
+use Rattle.std.proofs.Common.{◌≡◌, ℕ, zero, suc, ◌<◌, ◌≤◌, ◌+◌, Bool, true, false, cond, List, [], ◌∷◌, ◌++◌, arith, refl, sym, ◌∙◌, ap, ⊎_elim, subst, length, Some, map, min, take, get_or, Ok, Err, get_or-set_same, get_or-set_other, length-take}
+use Rattle.std.specs.Prelude.{slice_get, slice_set, slice_index, slice_index_or, All, ◌==◌, ◌&&◌, Result, is_ok, OnOk, if◌then◌else◌}
+use Rattle.std.proofs.lemmas.Bool.{eq-eqb, ne_eqb, and_left, cases_eq, cases_lt}
 use Rattle.std.proofs.lemmas.Option.{none-some, same_Some, slice_get_within, get_or_from_slice_get}
 use Rattle.std.proofs.lemmas.List.{get_or_past, take_more}
-use Rattle.stow_data.specs.declared.geometry.Length.{Length}
-use Rattle.stow_data.specs.declared.geometry.Length.TheVariants.{Twenty, Forty}
 use Rattle.stow_data.specs.declared.cargoes.Container.{Container}
 use Rattle.stow_data.specs.declared.kind_list.Kind.{Kind}
-use Rattle.stow_data.specs.Kinds.{kind_of, same_flag, alike, kinds_of, number_in, kind_number, loads_in, KindTable, AreKinds}
-use Rattle.stow_data.specs.Ship.{same_length}
+use Rattle.stow_data.specs.Kinds.{kind_of, alike, kinds_of, number_in, kind_number, loads_in, KindTable, AreKinds}
 use Rattle.stow_data.specs.Shipment.{Cargo, IsCargo, IsShipped}
 use Rattle.stow_data.proofs.KindJoins.{with_kind, kinds_after, kinds_more, kinds_joined, alike_equiv}
 

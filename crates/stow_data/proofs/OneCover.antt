@@ -1,13 +1,13 @@
 -- A stack lies under one cover, and stands on one. A half-cell is directly above one.
-use Rattle.std.proofs.Common.{◌≡◌, ◌≢◌, ℕ, zero, suc, ◌<◌, List, [], ◌∷◌, ◌++◌, arith, refl, sym, ◌∙◌, ap, inl, inr, ⊎_elim, subst, length, Some, None}
-use Rattle.std.specs.Prelude.{slice_get, slice_index_or, flat_map, AllPairs, MatchOption, Option}
+use Rattle.std.proofs.Common.{◌≡◌, ◌≢◌, ℕ, zero, suc, List, [], ◌∷◌, ◌++◌, arith, refl, sym, ◌∙◌, ap, inl, inr, subst, Some, None}
+use Rattle.std.specs.Prelude.{slice_get, flat_map, AllPairs, MatchOption, Option}
 use Rattle.std.proofs.lemmas.Option.{none-some, same_Some, slice_get_within, get_or_from_slice_get}
 use Rattle.stow_data.specs.declared.geometry.Half.{Half}
 use Rattle.stow_data.specs.declared.geometry.Cover.{Cover}
-use Rattle.stow_data.specs.Ship.{Ship, halves, LiesUnder, StandsOn, IsAbove}
+use Rattle.stow_data.specs.Ship.{Ship, LiesUnder, StandsOn, IsAbove}
 use Rattle.stow_data.specs.Profile.{IsShip}
 use Rattle.stow_data.proofs.Members.{Member, member_left, member_right, member_of, index_of, flat_from}
-use Rattle.stow_data.proofs.Distinct.{Distinct, Each, each_at, each_from}
+use Rattle.stow_data.proofs.Distinct.{Distinct, each_at, each_from}
 use Rattle.stow_data.proofs.InOrder.{half_once}
 use Rattle.stow_data.proofs.CoverLemmas.{contains_member}
 

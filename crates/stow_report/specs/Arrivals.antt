@@ -1,5 +1,5 @@
 -- The line of a refused bay plan of the ship as it comes in.
-use Rattle.std.specs.Prelude.{ℕ, ℤ, pos, false, List, [], ◌∷◌}
+use Rattle.std.specs.Prelude.{ℤ, pos, false, List, [], ◌∷◌}
 use Rattle.stowage_rules.specs.declared.faults.RuleBroken.{RuleBroken}
 use Rattle.stowage_rules.specs.declared.faults.RuleBroken.TheVariants as rule
 use Rattle.arrival_plan.specs.declared.faults.ArrivalFault.{ArrivalFault}

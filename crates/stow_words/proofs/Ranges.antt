@@ -1,16 +1,15 @@
 -- The numbers of a plan and of a made ship are in their ranges.
-use Rattle.std.proofs.Common.{◌≡◌, ◌≤◌, ℕ, Bool, true, false, ◌&&◌, nat_le, List, [], ◌∷◌, Option, Some, None, refl, sym, inl, inr, arith, subst, ◌∙◌}
-use Rattle.std.specs.Prelude.{codes, Result, Ok, Err, IfOk, if◌then◌else◌}
+use Rattle.std.proofs.Common.{◌≡◌, ◌≤◌, ℕ, Bool, true, false, ◌&&◌, nat_le, List, [], ◌∷◌, Option, Some, None, refl, sym, inl, inr, arith, subst}
+use Rattle.std.specs.Prelude.{codes, Result, IfOk, if◌then◌else◌}
 use borrow.Author.Tests.{leb-true}
 use Rattle.clap.specs.Words.{Text, Row, Kinds, first_of, subcommand_of, fault_of}
 use Rattle.stow_words.specs.declared.order.Order.{Order}
 use Rattle.stow_words.specs.declared.order.WordsNo.{WordsNo}
-use Rattle.stow_words.specs.declared.order.WordsNo.TheVariants.{NoMemory}
 use Rattle.stow_words.specs.declared.commands.Verb.{Verb}
 use Rattle.stow_words.specs.declared.commands.Verb.TheVariants as verb
 use Rattle.stow_words.specs.Command.{stow_app}
 use Rattle.stow_words.specs.Numbers.{is_number, value, number_in}
-use Rattle.stow_words.specs.Orders.{number_or, number_at, workers_in, budget_in, positional, planned, plan_order, made, make_order, verb_named, order_of, entered_order, unless_faulty, ordered, Gives, IsInRange}
+use Rattle.stow_words.specs.Orders.{number_or, number_at, workers_in, budget_in, positional, planned, made, verb_named, order_of, entered_order, unless_faulty, ordered, Gives, IsInRange}
 
 -- a number between two others, if there is one
 abbrev IsBetween : ℕ → ℕ → Option ℕ → Type 0

@@ -1,7 +1,5 @@
 -- The greatest value of two signed amounts that don't both count is that of each.
-use Rattle.std.proofs.Common.{◌≡◌, ℕ, zero, suc, ◌<◌, ◌+◌, Bool, true, false, cond, ◌&&◌, Option, Some, None, ℤ, pos, ◌+ℤ◌, ◌-ℤ◌, arith, refl, sym, ◌∙◌, ap}
-use Rattle.std.specs.Int.{int_max}
-use Rattle.std.specs.Prelude.{int_lt}
+use Rattle.std.proofs.Common.{◌≡◌, ℕ, zero, suc, ◌<◌, ◌+◌, Bool, true, false, ◌&&◌, Option, Some, None, ℤ, pos, ◌+ℤ◌, ◌-ℤ◌, arith, refl, sym, ◌∙◌, ap}
 use Rattle.std.proofs.lemmas.Int.{int_max_is}
 use Rattle.std.proofs.lemmas.Bool.{both_ways}
 use borrow.Author.Differences.{ints}

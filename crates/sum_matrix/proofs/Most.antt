@@ -1,11 +1,11 @@
 -- The greatest value of a row is that of its sums.
-use Rattle.std.proofs.Common.{◌≡◌, ℕ, ◌<◌, Bool, true, false, ◌&&◌, length, Option, Some, None, ℤ, pos, ◌+ℤ◌, ◌-ℤ◌, refl, sym, ◌∙◌, ap}
+use Rattle.std.proofs.Common.{◌≡◌, Bool, true, length, Option, Some, None, ℤ, pos, ◌+ℤ◌, refl, ◌∙◌, ap}
 use Rattle.proof_trees.specs.Program.{sum_to, where_set}
-use Rattle.proof_trees.specs.Boxes.{Box, at, greatest, most}
+use Rattle.proof_trees.specs.Boxes.{Box, at, greatest}
 use Rattle.zero_one_rows.specs.declared.program.Row.{Row}
 use Rattle.zero_one_rows.specs.declared.program.Var.{Var}
 use Rattle.zero_one_rows.specs.Variables.{Voyage, variables, var, is_var}
-use Rattle.zero_one_rows.specs.Rows.{coef, has, base}
+use Rattle.zero_one_rows.specs.Rows.{coef, has}
 use Rattle.zero_one_rows.specs.Listed.{ListsVariables}
 use Rattle.sum_matrix.specs.declared.sums.Sum.{Sum}
 use Rattle.sum_matrix.specs.declared.sums.Sign.{Sign}
@@ -13,8 +13,8 @@ use Rattle.sum_matrix.specs.declared.sums.Sign.TheVariants.{Plus, Minus}
 use Rattle.sum_matrix.specs.declared.sums.Part.{Part}
 use Rattle.sum_matrix.specs.declared.sums.Parts.{Parts}
 use Rattle.sum_matrix.specs.Sums.{parts, holds, counts, in_sum, in_part}
-use Rattle.sum_matrix.specs.Values.{is_one, most_of_part, most_of_second, most_of_parts}
-use Rattle.sum_matrix.specs.Laws.{MostBySums, in_parts, in_second}
+use Rattle.sum_matrix.specs.Values.{is_one, most_of_part, most_of_second}
+use Rattle.sum_matrix.specs.Laws.{MostBySums, in_second}
 use Rattle.sum_matrix.proofs.Greatest.{most_at, two_at, alone_at, sum_same, sum_both, sum_less, sum_none}
 use Rattle.sum_matrix.proofs.Rowed.{are_sums, share_none}
 

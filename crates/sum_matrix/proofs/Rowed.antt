@@ -1,8 +1,7 @@
 -- Each base row is its signed sums, which share no variable.
-use Rattle.std.proofs.Common.{◌≡◌, ℕ, zero, suc, ◌<◌, ◌+◌, ◌-◌, Bool, true, false, cond, ◌&&◌, ◌==◌, not, List, [], ◌∷◌, length, Option, Some, None, ℤ, pos, ◌+ℤ◌, ◌-ℤ◌, refl, sym, ◌∙◌, ap, subst, arith}
-use Rattle.std.specs.Prelude.{nat_lt, nat_le, slice_index_or, ◌||◌}
-use Rattle.std.proofs.lemmas.Bool.{both_ways, and_parts, ltb-true, eq-eqb}
-use Rattle.std.proofs.lemmas.Option.{same_Some}
+use Rattle.std.proofs.Common.{◌≡◌, ℕ, zero, suc, ◌<◌, ◌+◌, ◌-◌, Bool, true, false, cond, ◌&&◌, ◌==◌, not, List, length, Option, Some, None, ℤ, pos, ◌+ℤ◌, ◌-ℤ◌, refl, sym, ◌∙◌, ap, subst, arith}
+use Rattle.std.specs.Prelude.{nat_lt}
+use Rattle.std.proofs.lemmas.Bool.{both_ways, ltb-true, eq-eqb}
 use borrow.Author.Differences.{ints}
 use Rattle.stow_data.specs.declared.geometry.Place.{Place}
 use Rattle.stow_data.specs.declared.geometry.Half.{Half}
@@ -14,14 +13,13 @@ use Rattle.zero_one_rows.specs.declared.program.Var.{Var}
 use Rattle.zero_one_rows.specs.declared.program.Row.{Row}
 use Rattle.zero_one_rows.specs.declared.program.Row.TheVariants.{Flow, Start, Cell, Support, Twenty, Block, Hatch, Weight, Apart, Cross}
 use Rattle.zero_one_rows.specs.Variables.{Voyage, kind, place, is_var}
-use Rattle.zero_one_rows.specs.Rows.{coef, has, bit, less, turned, half, above, below, takes, covers, active, stays, ends, occ, occ20, occ_class, stay, out, into, moved, separation, is_call, is_half, is_place, is_twenty}
+use Rattle.zero_one_rows.specs.Rows.{coef, has, bit, less, half, above, below, takes, covers, active, occ, occ20, occ_class, stay, out, into, moved, separation, is_call, is_half, is_place, is_twenty}
 use Rattle.sum_matrix.specs.declared.sums.Sum.{Sum}
 use Rattle.sum_matrix.specs.declared.sums.Sum.TheVariants as sum
 use Rattle.sum_matrix.specs.declared.sums.Part.{Part}
 use Rattle.sum_matrix.specs.declared.sums.Parts.{Parts}
-use Rattle.sum_matrix.specs.declared.sums.Sign.TheVariants.{Plus, Minus}
-use Rattle.sum_matrix.specs.Sums.{parts, holds, in_sum, in_part, class_named, class_number, moved_sum}
-use Rattle.sum_matrix.specs.Laws.{HasParts, AreSums, ShareNone, in_parts, in_second}
+use Rattle.sum_matrix.specs.Sums.{parts, holds, in_sum, class_named, class_number}
+use Rattle.sum_matrix.specs.Laws.{HasParts, AreSums, ShareNone, in_parts}
 use Rattle.sum_matrix.proofs.Names.{first_named, second_named}
 use Rattle.sum_matrix.proofs.Excluding.{left_true, right_true, flow_apart, tiers_apart, twenty_apart, ends_apart, puts_apart, places_apart}
 

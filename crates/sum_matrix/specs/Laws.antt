@@ -1,5 +1,5 @@
 -- Each base row is its one or two signed sums.
-use Rattle.std.specs.Prelude.{◌≡◌, ℕ, ◌<◌, Bool, true, false, ◌&&◌, Option, Some, None, length, ℤ, pos, ◌+ℤ◌, ◌-ℤ◌}
+use Rattle.std.specs.Prelude.{◌≡◌, ℕ, ◌<◌, true, false, ◌&&◌, Option, Some, None, length, ℤ, pos, ◌+ℤ◌, ◌-ℤ◌}
 use Rattle.proof_trees.specs.Boxes.{Box, at, fixed, most}
 use Rattle.zero_one_rows.specs.declared.program.Var.{Var}
 use Rattle.zero_one_rows.specs.declared.program.Row.{Row}

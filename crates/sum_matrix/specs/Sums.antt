@@ -1,6 +1,5 @@
 -- The sums that base rows share, and the one or two signed sums of each base row.
-use Rattle.std.specs.Prelude.{◌≡◌, ℕ, zero, suc, Bool, true, false, cond, ◌==◌, ◌&&◌, nat_eq, List, [], ◌∷◌, Option, Some, None, flat_map, slice_index_or, ℤ, pos, ◌+ℤ◌, ◌-ℤ◌}
-use Rattle.std.specs.Option.{option_eq}
+use Rattle.std.specs.Prelude.{ℕ, zero, suc, Bool, cond, ◌==◌, ◌&&◌, nat_eq, List, [], ◌∷◌, Option, Some, None, slice_index_or, ℤ, pos, ◌-ℤ◌}
 use Rattle.std.specs.Cmp.Lexicographic.{pointwise}
 use Rattle.stow_data.specs.declared.geometry.Separation.{Separation}
 use Rattle.stow_data.specs.Ship.{Ship}

@@ -1,5 +1,5 @@
 -- Least and greatest values of sums over a box, by which fixed variables they change.
-use Rattle.std.specs.Prelude.{ℕ, Bool, true, false, Option, Some, None, length, ℤ, pos, ◌+ℤ◌, ◌-ℤ◌}
+use Rattle.std.specs.Prelude.{Bool, true, false, Option, Some, None, length, ℤ, pos, ◌+ℤ◌, ◌-ℤ◌}
 use Rattle.proof_trees.specs.Program.{sum_to, where_set}
 use Rattle.proof_trees.specs.Boxes.{Box, at}
 use Rattle.zero_one_rows.specs.Variables.{Voyage, variables, var}

@@ -1,5 +1,5 @@
 -- From the bound at which a tree is checked to the bound that a certificate says.
-use Rattle.std.proofs.Common.{◌≡◌, ℕ, ◌+◌, ◌<◌, ◌≤◌, List, Option, Some, None, refl, sym, ap, subst, ⊎_elim, arith}
+use Rattle.std.proofs.Common.{◌≡◌, ℕ, ◌+◌, ◌<◌, List, Option, Some, None, refl, sym, subst, ⊎_elim, arith}
 use Rattle.std.specs.Prelude.{◌⊎◌, is_some, IsSome}
 use Rattle.std.proofs.lemmas.Bool.{cases_order}
 use Rattle.stow_data.specs.Ship.{Ship}

@@ -8,7 +8,6 @@ use Rattle.ship_profile.specs.ShipText.{profile_of}
 use Rattle.bookings.specs.Reading.{bookings_of}
 use Rattle.bookings.specs.declared.shipment.Bookings.{Bookings}
 use Rattle.baplie.specs.declared.parts.Message.{Message}
-use Rattle.voyage_files.specs.declared.voyage.BookedVoyage.{BookedVoyage}
 use Rattle.voyage_files.specs.declared.reading.ReadStop.{ReadStop}
 use Rattle.voyage_files.specs.declared.reading.ReadStop.TheVariants.{Failed, FailedOwn, NoMemory}
 use Rattle.voyage_files.specs.declared.reading.Found.{Found}

@@ -1,5 +1,5 @@
 -- What a certificate and departure files say holds, or is refused for one cause.
-use Rattle.std.proofs.Common.{◌≡◌, ◌≢◌, ℕ, suc, ◌+◌, ◌≤◌, List, [], ◌∷◌, map, Option, Some, None, refl, sym, ap, subst, ◌∙◌, inl, inr, arith}
+use Rattle.std.proofs.Common.{◌≡◌, ◌≢◌, ℕ, suc, ◌+◌, List, [], ◌∷◌, map, Option, Some, None, refl, sym, ap, subst, ◌∙◌, inl, inr}
 use Rattle.std.specs.Prelude.{IsSome}
 use Rattle.std.proofs.Math.Nat.{min-le_left}
 use Rattle.std.proofs.lemmas.Option.{same_Some}
@@ -10,14 +10,12 @@ use Rattle.proof_trees.proofs.Lesser.{proves_lesser}
 use Rattle.zero_one_rows.specs.Variables.{Voyage}
 use Rattle.zero_one_rows.specs.Rows.{whole}
 use Rattle.baplie.specs.declared.parts.Message.{Message}
-use Rattle.baplie.specs.Messages.{IsMessageOf}
 use Rattle.baplie.specs.declared.faults.BaplieFault.{BaplieFault}
 use Rattle.certificate.specs.declared.tree.Head.{Head}
 use Rattle.certificate.specs.declared.tree.Record.{Record}
 use Rattle.certificate.specs.declared.refusals.BoundNo.{BoundNo}
 use Rattle.certificate.specs.Entries.{same_row, entry_of}
 use Rattle.bound_checker.specs.Entries.{ProvesBound}
-use Rattle.bound_checker.specs.Faults.{first_fault}
 use Rattle.bound_checker.proofs.Bounding.{proves_nowhere}
 use Rattle.model_bridge.specs.Laws.{IsProblem, most_lifts}
 use Rattle.plan_files.specs.Shown.{shown_by}
@@ -29,7 +27,7 @@ use Rattle.stow_report.specs.declared.numbers.NumbersNo.TheVariants.{Rehandles, 
 use Rattle.voyage_files.proofs.OneMessage.{message_not_fault, one_baplie_fault, one_message}
 use Rattle.voyage_files.specs.declared.refusals.JudgeNo.{JudgeNo}
 use Rattle.voyage_files.specs.declared.refusals.JudgeNo.TheVariants.{Text, Plan, Bound, Numbers, NoMemory}
-use Rattle.voyage_files.specs.Files.{AreIllegal, AreLegal, AreMessages, FilesTake, IsFirstFaulty}
+use Rattle.voyage_files.specs.Files.{AreIllegal, AreMessages, FilesTake, IsFirstFaulty}
 use Rattle.voyage_files.specs.Judged.{Fits, Holds, IsNo, IsNumbersNo, RefusesNumbers, RefusesTree, checked, handled}
 use Rattle.voyage_files.proofs.OneSet.{one_number, one_refusal}
 

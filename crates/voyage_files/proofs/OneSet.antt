@@ -1,11 +1,10 @@
 -- Departure files are legal with one number of rehandles, or are refused for one cause.
-use Rattle.std.proofs.Common.{◌≡◌, ◌≢◌, ℕ, suc, ◌+◌, ◌≤◌, List, [], ◌∷◌, map, Result, Ok, Err, refl, sym, ap, subst, ◌∙◌, inl, inr, arith}
+use Rattle.std.proofs.Common.{◌≡◌, ◌≢◌, ℕ, suc, List, [], ◌∷◌, map, Result, Ok, Err, refl, sym, ap, subst, ◌∙◌, inl, inr, arith}
 use Rattle.stow_data.specs.Ship.{Ship}
 use Rattle.stow_data.specs.Shipment.{Cargo, IsCargo}
 use Rattle.stow_data.specs.Profile.{IsShip}
 use Rattle.stow_data.specs.Plans.{Plan}
 use Rattle.stowage_rules.specs.declared.faults.RuleBroken.{RuleBroken}
-use Rattle.stowage_rules.specs.Faults.{IsFirstFault, MeetsRules}
 use Rattle.stowage_rules.proofs.InRank.{breaks}
 use Rattle.voyage_meaning.specs.Voyage.{HasCount}
 use Rattle.plan_lifts.specs.Lifted.{IsFirstIllegal}

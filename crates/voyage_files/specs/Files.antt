@@ -12,7 +12,7 @@ use Rattle.plan_files.specs.declared.plan_faults.PlanNo.{PlanNo}
 use Rattle.plan_files.specs.declared.plan_faults.PlanNo.TheVariants as plan
 use Rattle.plan_files.specs.Checked.{HasRehandles, IsPlanNo}
 use Rattle.voyage_files.specs.declared.refusals.JudgeNo.{JudgeNo}
-use Rattle.voyage_files.specs.declared.refusals.JudgeNo.TheVariants.{Text, Plan, Bound, Numbers, NoMemory}
+use Rattle.voyage_files.specs.declared.refusals.JudgeNo.TheVariants.{Text, Plan, NoMemory}
 
 -- the texts are those of these bay plan messages
 abbrev pub AreMessages : List (List ℕ) → List Message → Type 0

@@ -1,5 +1,5 @@
 -- A row found in the order of rows.
-use Rattle.std.proofs.Common.{Bool, true, false, cond, ◌==◌, ◌≡◌, ◌≢◌, ℕ, ◌<◌, ◌≤◌, ◌+◌, List, [], ◌∷◌, arith, refl, sym, ◌∙◌, ap, subst, length, ◌⊎◌, inl, inr, ⊎_elim, Some, AllPairs, get_or}
+use Rattle.std.proofs.Common.{Bool, true, false, cond, ◌==◌, ◌≡◌, ◌≢◌, ℕ, ◌<◌, ◌≤◌, ◌+◌, List, [], ◌∷◌, arith, refl, sym, ◌∙◌, ap, subst, ◌⊎◌, inl, inr, ⊎_elim, Some, AllPairs, get_or}
 use Rattle.std.specs.Prelude.{slice_get, nat_lt}
 use Rattle.std.specs.Ordering.{nat_cmp, is_lt, is_some_and}
 use Rattle.std.specs.Cmp.Lexicographic.{slice_partial_cmp}
@@ -9,7 +9,7 @@ use Rattle.std.proofs.lemmas.Bool.{cases_lt, cases_eq, eq-eqb, ne_eqb, lt-ltb, l
 use Rattle.std.proofs.lemmas.Option.{get_or_from_slice_get, slice_get_within, slice_get-get_or, same_Some}
 use Rattle.zero_one_rows.specs.Chains.{IsBefore}
 use Rattle.zero_one_rows.specs.declared.program.Row.{Row}
-use Rattle.zero_one_rows.specs.Ordered.{family, numbers, Precedes}
+use Rattle.zero_one_rows.specs.Ordered.{numbers, Precedes}
 use Rattle.zero_one_rows.proofs.EveryChain.{not_both}
 
 before_trans : (xs ys zs : List ℕ) → IsBefore xs ys → IsBefore ys zs → IsBefore xs zs

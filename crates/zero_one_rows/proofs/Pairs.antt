@@ -1,7 +1,6 @@
 -- The pairs of a chain, by number.
-use Rattle.std.proofs.Common.{◌≡◌, ℕ, ◌-◌, ◌<◌, ◌≤◌, ◌/◌, List, length, take, drop, ◌+◌, arith, refl, ◌∙◌, ap, min, get_or}
+use Rattle.std.proofs.Common.{◌≡◌, ℕ, ◌-◌, ◌<◌, ◌/◌, List, length, take, drop, ◌+◌, arith, refl, ◌∙◌, ap, get_or}
 use Rattle.std.specs.Prelude.{slice_get, Some}
-use Rattle.std.specs.List.{zip}
 use Rattle.std.proofs.lemmas.Slice.Zip.{length-zip, get_or-zip}
 use Rattle.std.proofs.lemmas.Option.{slice_get-get_or}
 use Rattle.std.proofs.lemmas.List.{length-take, length-drop, get_or-take, get_or-drop}

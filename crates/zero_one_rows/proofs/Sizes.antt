@@ -1,5 +1,5 @@
 -- Rows that there are: their numbers are in range, and how large their coefficients and right sides are.
-use Rattle.std.proofs.Common.{◌≡◌, ℕ, zero, suc, ◌+◌, ◌-◌, ◌*◌, ◌/◌, ◌<◌, ◌≤◌, ◌^◌, Bool, true, false, cond, ◌&&◌, List, [], ◌∷◌, Option, None, not, arith, refl, sym, ◌∙◌, ap, subst, length, map, max, min, sum, ⊎_elim}
+use Rattle.std.proofs.Common.{◌≡◌, ℕ, zero, suc, ◌+◌, ◌-◌, ◌*◌, ◌<◌, ◌≤◌, ◌^◌, Bool, true, false, cond, ◌&&◌, List, [], ◌∷◌, Option, None, not, arith, refl, sym, ◌∙◌, ap, subst, length, map, max, sum, ⊎_elim}
 use Rattle.std.specs.Prelude.{All, filter, slice_index_or, pos, negsuc, ◌-ℤ◌, unsigned_abs, nat_lt, nat_le}
 use Rattle.std.specs.List.{fold, sum_by}
 use Rattle.std.proofs.lemmas.Bool.{ltb-true, leb-true, false≢true, cases_lt}
@@ -20,11 +20,11 @@ use Rattle.stow_data.specs.declared.cargoes.Container.{Container}
 use Rattle.stow_data.specs.declared.kind_list.Kind.{Kind}
 use Rattle.stow_data.specs.Ship.{Ship, halves, places}
 use Rattle.stow_data.specs.Profile.{IsShip, IsStack}
-use Rattle.stow_data.specs.Shipment.{Cargo, IsCargo}
-use Rattle.stow_data.specs.Plans.{no_stack, no_container}
+use Rattle.stow_data.specs.Shipment.{IsCargo}
+use Rattle.stow_data.specs.Plans.{no_stack}
 use Rattle.stow_data.specs.Kinds.{rounded, first_ones, of_one_kind, kind_among, kind_number}
 use Rattle.stow_data.proofs.KindLemmas.{loads_few}
-use Rattle.stow_data.proofs.Members.{Member, map_at}
+use Rattle.stow_data.proofs.Members.{map_at}
 use Rattle.stow_data.proofs.Distinct.{Each, each_at, each_from}
 use Rattle.zero_one_rows.specs.declared.program.Var.{Var}
 use Rattle.zero_one_rows.specs.declared.program.Row.{Row}

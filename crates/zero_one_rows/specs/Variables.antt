@@ -1,13 +1,8 @@
 -- The variables of the 0-1 program of a voyage, in their order.
-use Rattle.std.specs.Prelude.{ℕ, ◌+◌, Bool, true, false, not, List, Option, Some, None, cond, ◌==◌, ◌&&◌, ◌||◌, [], slice_index_or, length, nat_lt, nat_le, map, flat_map, filter}
+use Rattle.std.specs.Prelude.{ℕ, ◌+◌, Bool, false, List, Option, Some, None, cond, ◌==◌, ◌&&◌, slice_index_or, length, nat_lt, nat_le, map, flat_map, filter}
 use Rattle.std.specs.List.{range_with_len}
-use Rattle.stow_data.specs.declared.geometry.Length.{Length}
-use Rattle.stow_data.specs.declared.geometry.Length.TheVariants.{Twenty, Forty}
-use Rattle.stow_data.specs.declared.geometry.Span.{Span}
-use Rattle.stow_data.specs.declared.geometry.Span.TheVariants.{Fore, Aft, Both}
+use Rattle.stow_data.specs.declared.geometry.Length.TheVariants.{Forty}
 use Rattle.stow_data.specs.declared.geometry.Place.{Place}
-use Rattle.stow_data.specs.declared.cargoes.Container.{Container}
-use Rattle.stow_data.specs.declared.cargoes.Origin.TheVariants.{Booked}
 use Rattle.stow_data.specs.declared.kind_list.Kind.{Kind}
 use Rattle.stow_data.specs.Ship.{Ship, places, fits}
 use Rattle.stow_data.specs.Shipment.{Cargo}

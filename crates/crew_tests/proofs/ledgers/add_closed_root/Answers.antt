@@ -1,5 +1,4 @@
 use Rattle.std.proofs.Common.{[], refl}
-use Rattle.std.specs.Prelude.{OnOk}
 use Rattle.std.proofs.lemmas.Result.{on_ok_weaker}
 use Rattle.crew_tests.proofs.Samples.{begun, one_of, closed_root}
 use Rattle.crew_tests.proofs.ledgers.add_closed_root.Goals as goal

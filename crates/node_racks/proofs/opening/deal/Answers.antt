@@ -1,4 +1,4 @@
-use Rattle.std.proofs.Common.{◌≡◌, ◌-◌, [], ◌∷◌, ◌++◌, List, ap, sym, subst, ◌∙◌, rules}
+use Rattle.std.proofs.Common.{◌≡◌, ◌-◌, [], ◌∷◌, ◌++◌, ap, sym, subst, ◌∙◌, rules}
 use Rattle.crossbeam_deque.specs.Handles.{worker_deque}
 use Rattle.search_core.specs.Bags.{Every}
 use Rattle.node_racks.specs.Rounds.{Each, FitsNew, IsUnused, deques}

@@ -1,6 +1,5 @@
-use Rattle.std.proofs.Common.{◌≡◌, ◌-◌, ◌∷◌, ◌++◌, [], ap, sym, subst, ◌∙◌, rules, arith, ℕ}
+use Rattle.std.proofs.Common.{subst, ◌∙◌, rules, arith, ℕ}
 use Rattle.search_core.specs.Bags.{Every}
-use Rattle.search_core.proofs.Weights.{every_append}
 use Rattle.node_racks.specs.Rounds.{Each, FitsNew, IsUnused, deques}
 use Rattle.node_racks.proofs.Backs.{every_snoc}
 use Rattle.node_racks.proofs.opening.deal_all.Goals as goal

@@ -1,5 +1,5 @@
 use Rattle.std.proofs.Common.{◌≡◌, ◌∷◌, ◌++◌, [], ap, sym, subst, ◌∙◌, rules}
-use Rattle.crossbeam_deque.specs.Handles.{stealer_deque, stealer_flavor, worker_deque}
+use Rattle.crossbeam_deque.specs.Handles.{stealer_deque, stealer_flavor}
 use Rattle.search_core.proofs.Weights.{every_append}
 use Rattle.node_racks.specs.Rounds.{IsUnused, AreLifo, deques, stolen_from}
 use Rattle.node_racks.proofs.Backs.{deques_snoc, every_snoc}

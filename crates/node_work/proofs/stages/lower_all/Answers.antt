@@ -1,7 +1,5 @@
-use Rattle.std.proofs.Common.{◌≡◌, ℕ, ◌+◌, ◌-◌, ◌<◌, length, get_or, take, refl, sym, subst, ◌∙◌, ap, arith}
+use Rattle.std.proofs.Common.{◌≡◌, ℕ, ◌+◌, ◌-◌, ◌<◌, length, get_or, take, refl, subst, ◌∙◌, ap, arith}
 use Rattle.zero_one_rows.specs.declared.program.Raise.{Raise}
-use Rattle.zero_one_rows.specs.Variables.{Voyage}
-use Rattle.zero_one_rows.specs.Rows.{whole}
 use Rattle.node_work.proofs.Lowering.{Leads, leads_less, leads_none, leads_all}
 use Rattle.node_work.proofs.stages.lower_all.Goals as goal
 

@@ -1,4 +1,3 @@
-use Rattle.std.proofs.Common.{ap}
 use Rattle.picture_files.proofs.PicturesAndPage.{files_more}
 use Rattle.picture_files.proofs.work.files_of.Goals as goal
 

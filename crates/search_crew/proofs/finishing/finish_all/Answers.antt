@@ -1,8 +1,5 @@
-use Rattle.std.proofs.Common.{◌≡◌, IfOk, length, subst, arith}
+use Rattle.std.proofs.Common.{◌≡◌, length, arith}
 use Rattle.std.proofs.lemmas.Bool.Decides.{nat_tests}
-use Rattle.zero_one_rows.specs.Variables.{Voyage}
-use Rattle.search_core.specs.Bags.{weigh}
-use Rattle.steal_pool.specs.Deeds.{IsDone, on_nodes}
 use Rattle.search_crew.proofs.Rests.{none_done, no_items}
 use Rattle.search_crew.proofs.finishing.finish_all.Goals as goal
 

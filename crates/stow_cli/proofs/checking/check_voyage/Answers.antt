@@ -1,5 +1,4 @@
-use Rattle.std.proofs.Common.{◌≡◌, sym, subst}
-use Rattle.zero_one_rows.specs.Variables.{Voyage}
+use Rattle.std.proofs.Common.{sym, subst}
 use Rattle.model_bridge.specs.Laws.{IsProblem}
 use Rattle.stow_cli.proofs.Works.{problem_of}
 use Rattle.stow_cli.proofs.checking.check_voyage.Goals as goal

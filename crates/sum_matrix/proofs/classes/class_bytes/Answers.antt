@@ -1,4 +1,4 @@
-use Rattle.std.proofs.Common.{◌≡◌, ◌∙◌, ◌/◌, ap, sym, arith}
+use Rattle.std.proofs.Common.{◌∙◌, ◌/◌, ap, sym, arith}
 use Rattle.stow_data.specs.declared.geometry.Separation.{Separation}
 use Rattle.sum_matrix.proofs.RowNumbering.{named_first, named_second, named_past}
 use Rattle.sum_matrix.proofs.classes.class_bytes.Goals as goal

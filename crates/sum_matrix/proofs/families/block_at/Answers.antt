@@ -1,4 +1,4 @@
-use Rattle.std.proofs.Common.{◌≡◌, ℕ, ◌<◌, ap, arith}
+use Rattle.std.proofs.Common.{ap, arith}
 use Rattle.stow_data.specs.declared.geometry.Half.{Half}
 use Rattle.sum_matrix.proofs.Tiers.{tiers_low}
 use Rattle.sum_matrix.proofs.families.block_at.Goals as goal

@@ -1,6 +1,5 @@
-use Rattle.std.proofs.Common.{◌≡◌, ℕ, ◌+◌, subst}
-use Rattle.zero_one_rows.specs.Rows.{CrossingRowsHold}
-use Rattle.model_bridge.specs.Laws.{IsCostBound, most_lifts}
+use Rattle.std.proofs.Common.{ℕ, subst}
+use Rattle.model_bridge.specs.Laws.{IsCostBound}
 use Rattle.voyage_files.proofs.judging.check_tree.Goals as goal
 
 pub returns-in-Ok-clause-bounds : goal.returns-in-Ok-clause-bounds

@@ -1,4 +1,3 @@
-use Rattle.std.proofs.Common.{refl}
 use Rattle.voyage_files.specs.Named.{names_of}
 use Rattle.voyage_files.proofs.Finding.{inputs_found}
 use Rattle.voyage_files.proofs.reading.read_inputs.Goals as goal

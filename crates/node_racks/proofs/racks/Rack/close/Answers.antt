@@ -1,6 +1,4 @@
-use Rattle.std.proofs.Common.{rules}
 use Rattle.search_core.specs.Bags.{weigh}
-use Rattle.node_racks.specs.Racks.{stolen_weight}
 use Rattle.node_racks.specs.Rounds.{own_put, own_took}
 use Rattle.node_racks.proofs.Dealing.{closes_few, closes_held, closes_fit, closes_bag, if_ok}
 use Rattle.node_racks.proofs.racks.Rack.close.Goals as goal

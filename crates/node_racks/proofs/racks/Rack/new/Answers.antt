@@ -1,5 +1,4 @@
-use Rattle.std.proofs.Common.{◌≡◌, length, map, ap, sym, subst, ◌∙◌, rules, arith}
-use Rattle.node_racks.specs.Rounds.{deques}
+use Rattle.std.proofs.Common.{length, ap, arith}
 use Rattle.node_racks.proofs.Dealing.{opens_passes, opens_fresh, opens_all, opens_count, deques_length}
 use Rattle.node_racks.proofs.racks.Rack.new.Goals as goal
 

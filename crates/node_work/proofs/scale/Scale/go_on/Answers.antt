@@ -1,11 +1,10 @@
-use Rattle.std.proofs.Common.{◌≡◌, true, All, List, Option, Vec, Global, [], Some, length, map, sym, subst, ◌∙◌, ap}
+use Rattle.std.proofs.Common.{◌≡◌, true, All, List, Option, Vec, Global, [], length, sym, subst, ◌∙◌, ap}
 use Rattle.std.specs.Prelude.{IfSome}
 use Rattle.zero_one_rows.specs.declared.program.Raise.{Raise}
 use Rattle.zero_one_rows.specs.declared.program.Row.{Row}
 use Rattle.zero_one_rows.specs.Rows.{whole}
 use Rattle.proof_trees.specs.Boxes.{Box}
-use Rattle.proof_trees.specs.Multipliers.{Multipliers, raised_all}
-use Rattle.certificate.specs.Entries.{same_row, raise_of}
+use Rattle.proof_trees.specs.Multipliers.{Multipliers}
 use Rattle.node_work.specs.declared.stages.Stage.{Stage}
 use Rattle.node_work.specs.Scales.{Staged}
 use Rattle.node_work.proofs.Leading.{still_staged}

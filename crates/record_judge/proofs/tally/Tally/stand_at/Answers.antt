@@ -9,7 +9,7 @@ use Rattle.record_judge.specs.declared.event_nodes.Step.{Step}
 use Rattle.record_judge.specs.Counting.{Tallies}
 use Rattle.record_judge.specs.Standing.{standing}
 use Rattle.record_judge.proofs.Raising.{led}
-use Rattle.record_judge.proofs.Standing.{step_at, done_at, step_is, inside_at, done_is}
+use Rattle.record_judge.proofs.Standing.{step_at, done_at, step_is, done_is}
 use Rattle.record_judge.proofs.Standing as along
 use Rattle.record_judge.proofs.tally.Tally.stand_at.Goals as goal
 
