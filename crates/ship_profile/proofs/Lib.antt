@@ -13,3 +13,4 @@ pub mod StackLookups
 pub mod Counted
 pub mod Made
 pub mod FirstShared
+pub mod Keyed

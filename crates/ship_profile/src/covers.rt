@@ -1,9 +1,8 @@
 //! The hatch covers of a profile.
 ghost use Rattle.std.specs.Prelude.{◌≡◌, ◌<◌, ◌^◌, ◌++◌, [], IfOk, OnOk, find, length};
 ghost use Rattle.toml.specs.View.{array_view, items_view, table_view, view};
-ghost use Rattle.toml_values.specs.Values.{at_key};
 ghost use Rattle.toml_values.specs.Arrays.{each_of};
-ghost use Rattle.ship_profile.specs.Keys.{Gives, entry_at, need, spelling};
+ghost use Rattle.ship_profile.specs.Keys.{Gives, entry_at, keyed, need};
 ghost use Rattle.ship_profile.specs.Stacks.{is_among};
 ghost use Rattle.ship_profile.specs.Covers.{all_named, cover_of, covers_in, covers_of, integer_of, named_by, newly_named, pair_in, pair_of, pairs_of};
 
@@ -50,25 +49,35 @@ fn pair_of(value: &Value) -> Result<(i64, i64), Unread>
     pair_in(items.as_slice())
 }
 
-fn all_pairs(alloc: Global, items: &Array) -> Result<Result<Seq<(i64, i64)>, Unread>, NoMemory>
-    ensures { IfOk result (λ pairs. pairs ≡ each_of pair_of (array_view items.now)) }
+fn all_pairs(
+    alloc: Global,
+    items: &Array,
+    key: ProfileKey,
+    index: u32,
+) -> Result<Seq<(i64, i64)>, ProfileFault>
+    ensures { Gives (λ pairs. pairs) result (keyed key index (each_of pair_of (array_view items.now))) }
 {
     let mut pairs = Seq::new(alloc);
     for item in items {
         match pair_of(item) {
             Ok(pair) => pairs.push(pair)?,
-            Err(unread) => return Ok(Err(unread)),
+            Err(unread) => return keyed(Err(unread), key, index),
         }
     }
-    Ok(Ok(pairs))
+    Ok(pairs)
 }
 
-fn pairs_of(alloc: Global, value: &Value) -> Result<Result<Seq<(i64, i64)>, Unread>, NoMemory>
-    ensures { IfOk result (λ pairs. pairs ≡ pairs_of (view value.now)) }
+fn pairs_of(
+    alloc: Global,
+    value: &Value,
+    key: ProfileKey,
+    index: u32,
+) -> Result<Seq<(i64, i64)>, ProfileFault>
+    ensures { Gives (λ pairs. pairs) result (keyed key index (pairs_of (view value.now))) }
 {
     match array_of(value) {
-        Ok(items) => all_pairs(alloc, items),
-        Err(unread) => Ok(Err(unread)),
+        Ok(items) => all_pairs(alloc, items, key, index),
+        Err(unread) => keyed(Err(unread), key, index),
     }
 }
 
@@ -76,12 +85,13 @@ fn pairs_at(
     alloc: Global,
     entry: &Table,
     key: ProfileKey,
-) -> Result<Result<Seq<(i64, i64)>, Unread>, NoMemory>
-    ensures { IfOk result (λ pairs. pairs ≡ at_key pairs_of (spelling key) (table_view entry.now)) }
+    index: u32,
+) -> Result<Seq<(i64, i64)>, ProfileFault>
+    ensures { Gives (λ pairs. pairs) result (need pairs_of key index (table_view entry.now)) }
 {
     match value_at(entry, key.spelling()) {
-        Ok(value) => pairs_of(alloc, value),
-        Err(unread) => Ok(Err(unread)),
+        Ok(value) => pairs_of(alloc, value, key, index),
+        Err(unread) => keyed(Err(unread), key, index),
     }
 }
 
@@ -164,17 +174,9 @@ fn cover_of(
     ensures read { Gives (λ cover. cover) result (cover_of stacks.now index named.old (table_view entry.now)) }
     ensures joined { IfOk result (λ cover. named.new ≡ named.old ++ (cover.under ++ cover.on)) }
 {
-    let pairs = keyed(
-        pairs_at(alloc, entry, ProfileKey::Under)?,
-        ProfileKey::Under,
-        index,
-    )?;
+    let pairs = pairs_at(alloc, entry, ProfileKey::Under, index)?;
     let under = all_named(alloc, Part::Hold, stacks, index, named, pairs.as_slice())?;
-    let pairs = keyed(
-        pairs_at(alloc, entry, ProfileKey::On)?,
-        ProfileKey::On,
-        index,
-    )?;
+    let pairs = pairs_at(alloc, entry, ProfileKey::On, index)?;
     let on = all_named(alloc, Part::Deck, stacks, index, named, pairs.as_slice())?;
     Ok(Cover { under, on })
 }

@@ -1,10 +1,10 @@
 //! The stacks of a profile.
-ghost use Rattle.std.specs.Prelude.{◌≡◌, ◌<◌, ◌≤◌, ◌^◌, IfOk, length, map};
+ghost use Rattle.std.specs.Prelude.{◌≡◌, ◌<◌, ◌≤◌, ◌^◌, [], IfOk, length, map};
 ghost use Rattle.std.specs.List.{list_all};
 ghost use Rattle.toml.specs.View.{array_view, table_view, view};
 ghost use Rattle.toml_values.specs.Values.{at_key, number_of};
 ghost use Rattle.toml_values.specs.Arrays.{each_of};
-ghost use Rattle.ship_profile.specs.Keys.{Gives, entry_at, spelling};
+ghost use Rattle.ship_profile.specs.Keys.{Gives, entry_at, keyed, may, need, spelling};
 ghost use Rattle.ship_profile.specs.Stacks.{are_tiers, bay_of, column_of, is_among, is_deck_tier, is_even, is_hold_tier, lengths_named, lengths_of, plug_of, plugs_of, rises_from, stack_of, stacks_in, stacks_of, tiers_of};
 
 use crate::faults::{ProfileFault, ProfileKey};
@@ -13,7 +13,7 @@ use std::alloc::Global;
 use stow_data::{FlagList, Lengths, NoMemory, NumberList, Stack, Stacks};
 use toml::value::Array;
 use toml::{Table, Value};
-use toml_values::{Unread, array_of, number_of, or_default, table_of, text_of, value_at};
+use toml_values::{Unread, array_of, number_of, table_of, text_of, value_at};
 
 /// An even bay number.
 fn bay_of(value: &Value) -> Result<u32, Unread>
@@ -34,17 +34,17 @@ fn bay_at(entry: &Table) -> Result<u32, Unread>
 }
 
 /// The whole numbers of an array, where each may be the number of a tier.
-fn numbers_of(alloc: Global, items: &Array) -> Result<Result<NumberList, Unread>, NoMemory>
-    ensures { IfOk result (λ numbers. numbers ≡ each_of (number_of 2 98) (array_view items.now)) }
+fn numbers_of(alloc: Global, items: &Array, index: u32) -> Result<NumberList, ProfileFault>
+    ensures { Gives (λ numbers. numbers) result (keyed ProfileKey.Tiers index (each_of (number_of 2 98) (array_view items.now))) }
 {
     let mut numbers = NumberList::new(alloc);
     for item in items {
         match number_of(item, 2, 98) {
             Ok(number) => numbers.push(number)?,
-            Err(unread) => return Ok(Err(unread)),
+            Err(unread) => return keyed(Err(unread), ProfileKey::Tiers, index),
         }
     }
-    Ok(Ok(numbers))
+    Ok(numbers)
 }
 
 fn are_all_even(tiers: &[u32]) -> bool
@@ -75,31 +75,27 @@ fn are_tiers(tiers: &[u32]) -> bool
     are_all_in_hold(tiers) || are_all_on_deck(tiers)
 }
 
-fn tiers_of(alloc: Global, value: &Value) -> Result<Result<NumberList, Unread>, NoMemory>
-    ensures { IfOk result (λ tiers. tiers ≡ tiers_of (view value.now)) }
+fn tiers_of(alloc: Global, value: &Value, index: u32) -> Result<NumberList, ProfileFault>
+    ensures { Gives (λ tiers. tiers) result (keyed ProfileKey.Tiers index (tiers_of (view value.now))) }
 {
     let items = match array_of(value) {
         Ok(items) => items,
-        Err(unread) => return Ok(Err(unread)),
+        Err(unread) => return keyed(Err(unread), ProfileKey::Tiers, index),
     };
-    match numbers_of(alloc, items)? {
-        Ok(tiers) => {
-            if are_tiers(tiers.as_slice()) {
-                Ok(Ok(tiers))
-            } else {
-                Ok(Err(Unread::BadValue))
-            }
-        }
-        Err(unread) => Ok(Err(unread)),
+    let tiers = numbers_of(alloc, items, index)?;
+    if are_tiers(tiers.as_slice()) {
+        Ok(tiers)
+    } else {
+        keyed(Err(Unread::BadValue), ProfileKey::Tiers, index)
     }
 }
 
-fn tiers_at(alloc: Global, entry: &Table) -> Result<Result<NumberList, Unread>, NoMemory>
-    ensures { IfOk result (λ tiers. tiers ≡ at_key tiers_of (spelling ProfileKey.Tiers) (table_view entry.now)) }
+fn tiers_at(alloc: Global, entry: &Table, index: u32) -> Result<NumberList, ProfileFault>
+    ensures { Gives (λ tiers. tiers) result (need tiers_of ProfileKey.Tiers index (table_view entry.now)) }
 {
     match value_at(entry, "tiers") {
-        Ok(value) => tiers_of(alloc, value),
-        Err(unread) => Ok(Err(unread)),
+        Ok(value) => tiers_of(alloc, value, index),
+        Err(unread) => keyed(Err(unread), ProfileKey::Tiers, index),
     }
 }
 
@@ -163,29 +159,31 @@ fn plug_tiers(
     alloc: Global,
     tiers: &[u32],
     items: &Array,
-) -> Result<Result<NumberList, Unread>, NoMemory>
-    ensures { IfOk result (λ plugs. plugs ≡ each_of (plug_of tiers.now) (array_view items.now)) }
+    index: u32,
+) -> Result<NumberList, ProfileFault>
+    ensures { Gives (λ plugs. plugs) result (keyed ProfileKey.Plugs index (each_of (plug_of tiers.now) (array_view items.now))) }
 {
     let mut plugs = NumberList::new(alloc);
     for item in items {
         match plug_of(tiers, item) {
             Ok(plug) => plugs.push(plug)?,
-            Err(unread) => return Ok(Err(unread)),
+            Err(unread) => return keyed(Err(unread), ProfileKey::Plugs, index),
         }
     }
-    Ok(Ok(plugs))
+    Ok(plugs)
 }
 
 fn plugs_of(
     alloc: Global,
     tiers: &[u32],
     value: &Value,
-) -> Result<Result<NumberList, Unread>, NoMemory>
-    ensures { IfOk result (λ plugs. plugs ≡ plugs_of tiers.now (view value.now)) }
+    index: u32,
+) -> Result<NumberList, ProfileFault>
+    ensures { Gives (λ plugs. plugs) result (keyed ProfileKey.Plugs index (plugs_of tiers.now (view value.now))) }
 {
     match array_of(value) {
-        Ok(items) => plug_tiers(alloc, tiers, items),
-        Err(unread) => Ok(Err(unread)),
+        Ok(items) => plug_tiers(alloc, tiers, items, index),
+        Err(unread) => keyed(Err(unread), ProfileKey::Plugs, index),
     }
 }
 
@@ -193,12 +191,29 @@ fn plugs_at(
     alloc: Global,
     tiers: &[u32],
     entry: &Table,
-) -> Result<Result<NumberList, Unread>, NoMemory>
-    ensures { IfOk result (λ plugs. plugs ≡ at_key (plugs_of tiers.now) (spelling ProfileKey.Plugs) (table_view entry.now)) }
+    index: u32,
+) -> Result<NumberList, ProfileFault>
+    ensures { Gives (λ plugs. plugs) result (need (plugs_of tiers.now) ProfileKey.Plugs index (table_view entry.now)) }
 {
     match value_at(entry, "plugs") {
-        Ok(value) => plugs_of(alloc, tiers, value),
-        Err(unread) => Ok(Err(unread)),
+        Ok(value) => plugs_of(alloc, tiers, value, index),
+        Err(unread) => keyed(Err(unread), ProfileKey::Plugs, index),
+    }
+}
+
+/// The tiers with a plug; none where the key is missing.
+fn plugs_or_none(
+    alloc: Global,
+    tiers: &[u32],
+    entry: &Table,
+    index: u32,
+) -> Result<NumberList, ProfileFault>
+    ensures { Gives (λ plugs. plugs) result (may (plugs_of tiers.now) [] ProfileKey.Plugs index (table_view entry.now)) }
+{
+    match plugs_at(alloc, tiers, entry, index) {
+        Ok(plugs) => Ok(plugs),
+        Err(ProfileFault::Missing { .. }) => Ok(NumberList::new(alloc)),
+        Err(fault) => Err(fault),
     }
 }
 
@@ -220,7 +235,7 @@ fn column_of(alloc: Global, index: u32, entry: &Table) -> Result<NumberList, Pro
     ensures some { IfOk result (λ tiers. 1 ≤ length tiers) }
     ensures few { IfOk result (λ tiers. length tiers ≤ 98) }
 {
-    let tiers = keyed(tiers_at(alloc, entry)?, ProfileKey::Tiers, index)?;
+    let tiers = tiers_at(alloc, entry, index)?;
     if rises_from(*tiers.at(0), tiers.as_slice()) {
         Ok(tiers)
     } else {
@@ -237,9 +252,7 @@ fn stack_of(alloc: Global, index: u32, entry: &Table) -> Result<Stack, ProfileFa
     let tiers = column_of(alloc, index, entry)?;
     let lengths = keyed(lengths_at(entry), ProfileKey::Lengths, index)?;
     let limit_kg = needed_number(entry, ProfileKey::LimitKg, index, 1, 1_000_000)?;
-    let read = plugs_at(alloc, tiers.as_slice(), entry)?;
-    let or_none = or_default(read, NumberList::new(alloc));
-    let plugs = keyed(or_none, ProfileKey::Plugs, index)?;
+    let plugs = plugs_or_none(alloc, tiers.as_slice(), entry, index)?;
     let flags = plug_flags(alloc, tiers.as_slice(), plugs.as_slice())?;
     Ok(Stack {
         bay,
