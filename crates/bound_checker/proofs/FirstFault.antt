@@ -36,13 +36,13 @@ module _ (p : Program Row) (bound : ℕ) where
       by true h e rest = All-cons (λ (r : Row). p.has r ≡ true) r rs h (rest e)
       by false h e rest = absurd (let bad : ⊥ = cc in bad)
 
-  no_step : (node : ℕ) (rs : List Row) → AreRows p rs → step_fault p node rs ≡ None
+  pub no_step : (node : ℕ) (rs : List Row) → AreRows p rs → step_fault p node rs ≡ None
   no_step node [] are = refl
   no_step node (r ∷ rs) are = ap (λ (b : Bool). cond b (step_fault p node rs) (Some (StepRow node))) (All-head (λ (r : Row). p.has r ≡ true) r rs are) ∙ no_step node rs (All-tail (λ (r : Row). p.has r ≡ true) r rs are)
 
   -- ## Raises
 
-  abbrev Named : Row × ℤ → Type 0
+  abbrev pub Named : Row × ℤ → Type 0
   Named r = p.has r.0 ≡ true
 
   rows_named : (node : ℕ) (rs : List (Row × ℤ)) (ms ms' : Multipliers Row) → raised_rows p node (Ok ms) rs ≡ Ok ms' → All Named rs
@@ -62,7 +62,7 @@ module _ (p : Program Row) (bound : ℕ) where
   raised_none [] = refl
   raised_none (r ∷ rs) = refl
 
-  rows_same : (node : ℕ) (rs : List (Row × ℤ)) (ms : Multipliers Row) → All Named rs → result_ok (raised_rows p node (Ok ms) rs) ≡ raised_all same_row (Some ms) rs
+  pub rows_same : (node : ℕ) (rs : List (Row × ℤ)) (ms : Multipliers Row) → All Named rs → result_ok (raised_rows p node (Ok ms) rs) ≡ raised_all same_row (Some ms) rs
   rows_same node [] ms named = refl
   rows_same node (r ∷ rs) ms named =
       ap (λ (b : Bool). result_ok (raised_rows p node (cond b (ok_or (raised same_row ms r.0 r.1) (Multiplier node)) (Err (StepRow node))) rs)) (All-head Named r rs named) ∙ by (raised same_row ms r.0 r.1) (λ next. rows_same node rs next (All-tail Named r rs named))
@@ -80,7 +80,7 @@ module _ (p : Program Row) (bound : ℕ) where
       by true h e = absurd (let bad : ⊥ = cc in bad)
       by false h e = omega (arith, ints)
 
-  closed : (node : ℕ) (b : Box) (ms : Multipliers Row) → Closes p b ms bound → short_fault p bound node b ms ≡ None
+  pub closed : (node : ℕ) (b : Box) (ms : Multipliers Row) → Closes p b ms bound → short_fault p bound node b ms ≡ None
   closed node b ms h = by (int_lt (worth p b ms) (needed bound)) refl
     where
       by : (t : Bool) → int_lt (worth p b ms) (needed bound) ≡ t → cond t (Some (LeafShort node (worth p b ms) (needed bound))) None ≡ None
@@ -91,7 +91,7 @@ module _ (p : Program Row) (bound : ℕ) where
   both true b h = (refl, h)
   both false b h = absurd (let bad : ⊥ = cc in bad)
 
-  and_true : (a b : Bool) → a ≡ true → b ≡ true → (a && b) ≡ true
+  pub and_true : (a b : Bool) → a ≡ true → b ≡ true → (a && b) ≡ true
   and_true true b h k = k
   and_true false b h k = absurd (let bad : ⊥ = cc in bad)
 
@@ -102,7 +102,7 @@ module _ (p : Program Row) (bound : ℕ) where
   below : (a b : ℕ) → nat_lt a b ≡ true → a < b
   below a b h = grind (arith, nat_tests)
 
-  below_is : (a b : ℕ) → a < b → nat_lt a b ≡ true
+  pub below_is : (a b : ℕ) → a < b → nat_lt a b ≡ true
   below_is a b h = grind (arith, nat_tests)
 
   module _ (Rest : List (Pending Row) → Option BoundNo) (Q : List (Pending Row) → Type 0) (node : ℕ) (waiting : List (Pending Row)) (b : Box) where

@@ -18,3 +18,4 @@ mod Named
 mod GivingBack
 mod LettingGo
 mod TakingOut
+pub mod Passing

@@ -31,7 +31,7 @@ use Rattle.bound_checker.specs.declared.sums.Aside.{Aside}
 use Rattle.bound_checker.specs.Sums.{Carries, IsAside}
 use Rattle.bound_checker.specs.Waits.{back_at, in_hand, Before, IsSound, Moves, Waits, AllWait}
 use Rattle.bound_checker.specs.Prices.{Holds, Ends}
-use Rattle.bound_checker.specs.Walks.{Goes, Tightens, frame_of, StandsWith, Stands, StandsSome, without, IsAt, IsSomewhere, Narrows, Opens, Closes, Takes}
+use Rattle.bound_checker.specs.Walks.{Goes, Tightens, frame_of, StandsWith, Stands, StandsSome, without, IsAt, IsSomewhere, Narrows, IsBehind, Opens, Closes, Takes}
 use Rattle.bound_checker.proofs.Waiting.{still_wait, moves_none, divided}
 
 no_two : (b : Bool) → b ≡ true → b ≡ false → ⊥
@@ -59,10 +59,10 @@ module _ (m : Voyage) (bounds : Bounds) (node : ℕ) where
   pub opens_some : (w v : Walk) (e : Entry Row) → StandsSome m w → ((q : Pending Row) (qs : List (Pending Row)) → Stands m w q qs → Opens m node q qs e (Ok tt) v) → StandsSome m v
   opens_some w v e some opens = let o = opens some.0 some.1 some.2 in (record { box = tightened (whole m) some.0.box e.steps; multipliers = o.1.0 }, some.1, o.1.2)
 
-  abbrev end_of_record : ℕ → List (Entry Row) → List (Pending Row) → Box → Result (Multipliers Row) BoundNo → End → Option BoundNo
+  abbrev pub end_of_record : ℕ → List (Entry Row) → List (Pending Row) → Box → Result (Multipliers Row) BoundNo → End → Option BoundNo
   end_of_record bound es qs b o end = end_fault (whole m) bound (λ boxes. tree_fault (whole m) bound (node + 1) boxes es) node qs b o end
 
-  opened_fault : (bound : ℕ) (q : Pending Row) (qs : List (Pending Row)) (e : Entry Row) (ms : Multipliers Row) (es : List (Entry Row)) → step_fault (whole m) node e.steps ≡ None → raised_rows (whole m) node (Ok (begun e.from_zero q.multipliers)) e.raises ≡ Ok ms
+  pub opened_fault : (bound : ℕ) (q : Pending Row) (qs : List (Pending Row)) (e : Entry Row) (ms : Multipliers Row) (es : List (Entry Row)) → step_fault (whole m) node e.steps ≡ None → raised_rows (whole m) node (Ok (begun e.from_zero q.multipliers)) e.raises ≡ Ok ms
       → tree_fault (whole m) bound node (q ∷ qs) (e ∷ es) ≡ end_of_record bound es qs (tightened (whole m) q.box e.steps) (Ok ms) e.end
   opened_fault bound q qs e ms es none raised =
       ap (λ (o : Option BoundNo). option_or o (end_of_record bound es qs (tightened (whole m) q.box e.steps) (raised_rows (whole m) node (Ok (begun e.from_zero q.multipliers)) e.raises) e.end)) none
@@ -84,6 +84,7 @@ module _ (m : Voyage) (bounds : Bounds) (node : ℕ) where
           passes = λ bound le es. opened_fault bound q qs e o.1.0 es o.0 o.1.1 ∙ c.2.passes bound le (λ boxes. tree_fault (whole m) bound (node + 1) boxes es);
           fails = λ bound lt le es none. c.2.fails bound lt le (λ boxes. tree_fault (whole m) bound (node + 1) boxes es) (sym (opened_fault bound q qs e o.1.0 es o.0 o.1.1) ∙ none);
         },
+        (o.1.0, o.1.1, c.3),
       )
   taken w v u (q ∷ qs) e (Err f) going at opens closes = λ other es.
       let o = opens q qs at in
@@ -126,6 +127,7 @@ module _ (m : Voyage) (bounds : Bounds) (node : ℕ) where
       passes = λ bound le R. ap (λ (o : Option BoundNo). option_or o (R qs)) (here bound ∙ narrows.passes bound le);
       fails = λ bound lt le R none. narrows.fails bound lt le (sym (here bound) ∙ none_first (short_fault (whole m) bound node q.box q.multipliers) (R qs) none);
     },
+    refl,
   )
     where
       here : (bound : ℕ) → short_fault (whole m) bound node q.box q.multipliers ≡ short_fault (whole m) bound node b q.multipliers
@@ -168,6 +170,7 @@ module _ (m : Voyage) (bounds : Bounds) (node : ℕ) where
       passes = λ bound le R. passes bound R;
       fails = λ bound lt le. absurd (omega arith);
     },
+    refl,
   )
     where
       first : Pending Row
@@ -464,7 +467,7 @@ module _ (m : Voyage) (low high : ℕ) (first : ℕ → Option BoundNo) where
     },
   )
     where
-      t : (rest : List (Pending Row)) × IsAt m v rest × Narrows low best best' (λ bound. (es : List (Entry Row)) → tree_fault (whole m) bound node h.0 (e ∷ es) ≡ tree_fault (whole m) bound (node + 1) rest es) (λ bound. (es : List (Entry Row)) → tree_fault (whole m) bound node h.0 (e ∷ es) ≢ None)
+      t : (rest : List (Pending Row)) × IsAt m v rest × Narrows low best best' (λ bound. (es : List (Entry Row)) → tree_fault (whole m) bound node h.0 (e ∷ es) ≡ tree_fault (whole m) bound (node + 1) rest es) (λ bound. (es : List (Entry Row)) → tree_fault (whole m) bound node h.0 (e ∷ es) ≢ None) × IsBehind m node h.0 e rest
       t = takes h.0 h.1
 
       less : best' ≤ best

@@ -5,10 +5,15 @@ use Rattle.zero_one_rows.specs.Rows.{whole}
 use Rattle.certificate.specs.declared.tree.Record.{Record}
 use Rattle.certificate.specs.Entries.{same_row, entry_of}
 use Rattle.proof_trees.specs.Trees as trees
+use Rattle.search_core.specs.Journals.{Settled}
 
 -- the records are a tree that proves the bound over the program's rows
 abbrev pub ProvesBound : Voyage → List Record → ℕ → Type 0
 ProvesBound m records bound = trees.Proves same_row (whole m) (map (entry_of m) records) bound
+
+-- the records are a tree that proves the bound, but for the nodes that were left open
+abbrev pub SettlesBound : Voyage → List Record → ℕ → Type 0
+SettlesBound m records bound = Settled same_row (whole m) (map (entry_of m) records) bound
 
 -- the greatest number up to `most` that the records prove
 pub record IsBestBound (m : Voyage) (records : List Record) (most best : ℕ) : Type 0 where

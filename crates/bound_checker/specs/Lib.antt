@@ -5,3 +5,4 @@ pub mod Waits
 pub mod Prices
 pub mod Named
 pub mod Walks
+pub mod Subtrees

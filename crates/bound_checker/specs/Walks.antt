@@ -3,9 +3,9 @@ use Rattle.std.specs.Prelude.{◌≡◌, ◌≢◌, ℕ, ◌+◌, ◌<◌, ◌�
 use Rattle.zero_one_rows.specs.declared.program.Row.{Row}
 use Rattle.zero_one_rows.specs.Variables.{Voyage, variables}
 use Rattle.zero_one_rows.specs.Rows.{whole}
-use Rattle.proof_trees.specs.Boxes.{Box, tightened}
+use Rattle.proof_trees.specs.Boxes.{Box, fixed, tightened}
 use Rattle.proof_trees.specs.Multipliers.{Multipliers}
-use Rattle.proof_trees.specs.Trees.{End, Entry, Pending, begun}
+use Rattle.proof_trees.specs.Trees.{End, Leaf, Left, Branch, Entry, Pending, begun}
 use Rattle.certificate.specs.declared.refusals.BoundNo.{BoundNo}
 use Rattle.certificate.specs.declared.refusals.BoundNo.TheVariants.{NoMemory}
 use Rattle.bound_checker.specs.declared.walk.Bounds.{Bounds}
@@ -89,12 +89,24 @@ pub record Narrows (low high best : ℕ) (Passes Fails : ℕ → Type 0) : Type 
   pub passes : (bound : ℕ) → bound ≤ best → Passes bound
   pub fails : (bound : ℕ) → best < bound → bound ≤ high → Fails bound
 
+-- what is to be proved still where a record has this end, and these boxes wait
+abbrev pub behind_end : List (Pending Row) → Pending Row → End → List (Pending Row)
+behind_end waiting q Leaf = waiting
+behind_end waiting q Left = waiting
+behind_end waiting q (Branch v) = record { box = fixed q.box v true; multipliers = q.multipliers } ∷ record { box = fixed q.box v false; multipliers = q.multipliers } ∷ waiting
+
+-- what is to be proved still behind a record, whose raises bring no multiplier out of its range
+abbrev pub IsBehind : Voyage → ℕ → List (Pending Row) → Entry Row → List (Pending Row) → Type 0
+IsBehind m node [] e rest = ⊥
+IsBehind m node (q ∷ waiting) e rest = (ms : Multipliers Row) × (raised_rows (whole m) node (Ok (begun e.from_zero q.multipliers)) e.raises ≡ Ok ms) × (rest ≡ behind_end waiting (record { box = tightened (whole m) q.box e.steps; multipliers = ms }) e.end)
+
 module _ (m : Voyage) (bounds : Bounds) (node : ℕ) where
   -- a record's end is taken, or has a fault
   abbrev pub Closes : Pending Row → List (Pending Row) → End → Result ℕ BoundNo → Walk → Type 0
   Closes q qs end (Ok best) w = (rest : List (Pending Row)) × IsAt m w rest × Narrows bounds.low bounds.high best
       (λ bound. (R : List (Pending Row) → Option BoundNo) → end_fault (whole m) bound R node qs q.box (Ok q.multipliers) end ≡ R rest)
       (λ bound. (R : List (Pending Row) → Option BoundNo) → end_fault (whole m) bound R node qs q.box (Ok q.multipliers) end ≢ None)
+      × (rest ≡ behind_end qs q end)
   Closes q qs end (Err f) w = f ≢ NoMemory → (R : List (Pending Row) → Option BoundNo) → end_fault (whole m) bounds.low R node qs q.box (Ok q.multipliers) end ≡ Some f
 
   -- a record is taken, or has a fault
@@ -102,4 +114,5 @@ module _ (m : Voyage) (bounds : Bounds) (node : ℕ) where
   Takes qs e (Ok best) w = (rest : List (Pending Row)) × IsAt m w rest × Narrows bounds.low bounds.high best
       (λ bound. (es : List (Entry Row)) → tree_fault (whole m) bound node qs (e ∷ es) ≡ tree_fault (whole m) bound (node + 1) rest es)
       (λ bound. (es : List (Entry Row)) → tree_fault (whole m) bound node qs (e ∷ es) ≢ None)
+      × IsBehind m node qs e rest
   Takes qs e (Err f) w = f ≢ NoMemory → (es : List (Entry Row)) → tree_fault (whole m) bounds.low node qs (e ∷ es) ≡ Some f

@@ -233,8 +233,8 @@ impl<'a> Walk<'a> {
         Ok(())
     }
 
-    // Goes on to the box that waits.
-    fn leave(&mut self, alloc: Global, model: &Model) -> Result<(), NoMemory>
+    /// Goes on to the box that waits.
+    pub fn leave(&mut self, alloc: Global, model: &Model) -> Result<(), NoMemory>
         requires stands { StandsSome model.now self.old }
         ensures { (q : Pending Rows) (qs : List (Pending Rows)) → Stands model.now self.old q qs → OnOk result (IsAt model.now self.new qs) }
     {

@@ -121,7 +121,7 @@ has_plans m None n h k = tt
 has_plans m (Some plans) n h k = (h, k)
 
 -- the plans are no worse than the best, and the best no worse than the start
-chosen_low : (m : Voyage) (start best : ℕ) (first c : Counted) (o : Option Box) → first.count ≡ start → IsBest m start best o → AreChosen m first o c → c.count ≤ best
+pub chosen_low : (m : Voyage) (start best : ℕ) (first c : Counted) (o : Option Box) → first.count ≡ start → IsBest m start best o → AreChosen m first o c → c.count ≤ best
 chosen_low m start best first c None from b h = let same = ap (λ (x : Counted). x.count) h in omega (arith, same, from, b)
 chosen_low m start best first c (Some x) from b h = let cheap = h.cheap in let costs = b.0.costs in omega (arith, ints, cheap, costs)
 

@@ -1,14 +1,11 @@
 //! From the tree of a search to the plans, the bound and the outcome.
-ghost use Rattle.std.specs.Prelude.{◌≡◌, ◌<◌, ◌^◌, IfOk, length};
-ghost use Rattle.model_bridge.specs.Laws.{IsProblem, IsCostBound};
-ghost use Rattle.zero_one_rows.specs.Rows.{CrossingRowsHold};
-ghost use Rattle.bound_checker.specs.Entries.{ProvesBound, IsBestBound};
+ghost use Rattle.std.specs.Prelude.{◌≡◌, IfOk};
+ghost use Rattle.model_bridge.specs.Laws.{IsProblem};
 ghost use Rattle.model_bridge.specs.Sailed.{IsFull, BreaksNone};
 ghost use Rattle.plan_search.specs.Found.{IsSailed, IsFullOrNone, AreChosen, outcome_of, rehandles_of, head_of};
 
 use crate::loaded::{Counted, count_of};
-use bound_checker::{BoundNo, best_bound};
-use certificate::{Head, Outcome, Tree};
+use certificate::{Head, Outcome};
 use model_bridge::plan_of;
 use std::alloc::Global;
 use stow_data::{Cargo, NoMemory, PlanList, Ship};
@@ -55,20 +52,6 @@ pub fn chosen_plans(
     match full {
         Some(full) => plans_of(alloc, ship, cargo, model, &full),
         None => Ok(first),
-    }
-}
-
-/// The greatest bound up to a number that a tree proves.
-pub fn bound_of(alloc: Global, model: &Model, tree: &Tree, most: u64) -> Result<u64, NoMemory>
-    requires few { length tree.now < 2 ^ 32 }
-    requires proves { ProvesBound model.now tree.now 0 }
-    ensures best { IfOk result (IsBestBound model.now tree.now most) }
-    ensures costs { IfOk result (λ bound. CrossingRowsHold model.now → IsCostBound model.now bound) }
-{
-    match best_bound(alloc, model, tree, most) {
-        Ok(bound) => Ok(bound),
-        Err(BoundNo::NoMemory) => Err(NoMemory),
-        Err(_) => unreachable!(),
     }
 }
 

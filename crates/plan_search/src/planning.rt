@@ -3,10 +3,11 @@ ghost use Rattle.std.specs.Prelude.{◌≡◌, ◌≤◌, IfOk};
 ghost use Rattle.model_bridge.specs.Laws.{IsProblem};
 ghost use Rattle.plan_search.specs.Certified.{Certifies, HasPlans};
 
-use crate::closing::{bound_of, chosen_plans, head_of};
+use crate::closing::{chosen_plans, head_of};
 use crate::improving::improved;
 use crate::loaded::loaded;
 use crate::run::search_tree;
+use bound_checker::settled_bound;
 use certificate::{Head, Tree};
 use model_bridge::bounds_are_of_voyages;
 use std::alloc::Global;
@@ -63,7 +64,7 @@ pub fn plan_voyage<G: Gate + Sync, R: Threads + Wait + Sync>(
         gate,
     )?;
     let chosen = chosen_plans(alloc, ship, cargo, model, begun, found.full)?;
-    let bound = bound_of(alloc, model, &found.tree, chosen.count)?;
+    let bound = settled_bound(alloc, model, &found.tree, chosen.count)?;
     bounds_are_of_voyages();
     Ok(Planned {
         head: head_of(&chosen, bound, found.nodes),

@@ -1,8 +1,18 @@
-use Rattle.std.proofs.Common.{sym, subst}
+use Rattle.std.proofs.Common.{map, refl, sym, subst}
+use Rattle.zero_one_rows.specs.Rows.{whole}
 use Rattle.certificate.specs.declared.tree.Head.{Head}
+use Rattle.certificate.specs.Entries.{same_row, entry_of}
 use Rattle.plan_search.specs.Certified.{Certifies}
-use Rattle.plan_search.proofs.Certifying.{certifies}
+use Rattle.plan_search.proofs.AtZero.{settled_lesser}
+use Rattle.plan_search.proofs.Certifying.{certifies, chosen_low}
 use Rattle.plan_search.proofs.planning.plan_voyage.Goals as goal
+
+pub settled_bound-requires-clause-settled : goal.settled_bound-requires-clause-settled
+settled_bound-requires-clause-settled g c =
+    let m = c.args.model.now in
+    let found = c.in_ok-found.found in
+    let low = chosen_low m c.in_ok-begun.begun.count found.best c.in_ok-begun.begun c.in_ok-chosen.chosen found.full refl c.in_ok-found.ensures.best c.in_ok-chosen.ensures in
+    settled_lesser same_row (whole m) found.best c.in_ok-chosen.chosen.count low (map (entry_of m) found.tree) c.in_ok-found.ensures.settled
 
 pub returns-clause-certified : goal.returns-clause-certified
 returns-clause-certified g c =
