@@ -115,8 +115,8 @@ fn finish_rest<S: Solver, R: Wait>(
     unreachable!()
 }
 
-// Handles these nodes and what comes of them, until nothing is to do.
-fn finish<S: Solver, R: Wait>(
+/// Handles these nodes and what comes of them while there are tickets, and leaves the others: on this desk, by a seat that has done nothing.
+pub fn finish<S: Solver, R: Wait>(
     rt: &R,
     alloc: Global,
     desk: &mut Desk<S>,
@@ -140,27 +140,4 @@ fn finish<S: Solver, R: Wait>(
         Ok(()) => Ok(rest.deeds),
         Err(no) => Err(no),
     }
-}
-
-/// Handles these nodes, while there are tickets, and leaves the others: on this desk, by a seat that has done nothing.
-pub fn finish_all<S: Solver, R: Wait>(
-    rt: &R,
-    alloc: Global,
-    desk: &mut Desk<S>,
-    board: &Board,
-    seat: &mut Seat,
-    todo: Vec<Node>,
-) -> Result<Deeds, NoMemory>
-    requires cargo { IsCargo desk.old.cargo }
-    requires start { board.now.start ≤ most_rehandles desk.old + 1 }
-    requires seat { seat.old.board ≡ board.now.id }
-    requires view { IsUnused board.now.start seat.old.view }
-    requires nodes { Every (IsNode desk.old) todo.items }
-    ensures seat { seat.new.board ≡ seat.old.board }
-    ensures done { IfOk result (λ deeds. IsDone desk.old board.now.start seat.new.view 0 deeds (λ h. weigh (on_nodes desk.old h) todo.items) (λ h. 0)) }
-{
-    if todo.is_empty() {
-        return Ok(Deeds::none(alloc));
-    }
-    finish(rt, alloc, desk, board, seat, todo)
 }

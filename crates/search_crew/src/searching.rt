@@ -17,7 +17,7 @@ ghost use Rattle.search_crew.specs.Starts.{IsAsked, IsMaker};
 
 use crate::beginning::begin_all;
 use crate::crew::{Ground, serve_all};
-use crate::finishing::finish_all;
+use crate::finishing::finish;
 use crate::joining::{AllDeeds, Ended, pour, take_in_all};
 use certificate::Node;
 use node_ends::{Desk, Solver};
@@ -107,7 +107,7 @@ fn finish_seated<S: Solver, R: Wait>(
     ensures done { IfOk result (λ deeds. (found : ℕ) × (seat : Views) × (found ≤ owner.old.view.seen) × (owner.new.view ≡ joined (after_split (seen_at owner.old.view found)) seat) × IsDone desk.old board.now.start seat 0 deeds (λ h. weigh (on_nodes desk.old h) todo.items) (λ h. 0)) }
 {
     let mut seat = board.split(owner);
-    let deeds = finish_all(rt, alloc, desk, board, &mut seat, todo);
+    let deeds = finish(rt, alloc, desk, board, &mut seat, todo);
     board.join(owner, seat);
     deeds
 }

@@ -12,6 +12,6 @@ returns-clause-taken g c = λ e.
 pub returns-clause-done : goal.returns-clause-done
 returns-clause-done g c =
     let v = c.split-seat.ensures.views in
-    let last : View = c.finish_all-deeds.new.seat.view in
+    let last : View = c.finish-deeds.new.seat.view in
     let view : c.join.new.owner.view ≡ joined (after_split (seen_at c.args.owner.now.view v.0)) last = c.join.ensures.view ∙ ap (λ (x : View). joined x last) v.2 in
-    if_ok c.finish_all-deeds.result _ _ (λ deeds done. (v.0, last, v.1, view, done)) c.finish_all-deeds.ensures.done
+    if_ok c.finish-deeds.result _ _ (λ deeds done. (v.0, last, v.1, view, done)) c.finish-deeds.ensures.done
