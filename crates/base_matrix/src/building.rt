@@ -93,7 +93,7 @@ pub(crate) fn columns_of(
     ensures shares { IfOk result (λ c. (v : ℕ) → v < length (variables matrix.now.voyage) → AreShares matrix.now.voyage matrix.now.numbering v (slice_index_or c.shares v [])) }
     ensures heaviest { IfOk result (λ c. (v : ℕ) → v < length (variables matrix.now.voyage) → weight_of matrix.now.voyage v ≤ c.heaviest) }
 {
-    let _count = model.vars();
+    model.keeps_limits();
     let weights = all_weights_of(alloc, matrix.sums(), model)?;
     let columns = columns_by(alloc, matrix, weights.as_slice());
     drop(weights);
@@ -154,7 +154,7 @@ pub(crate) fn rows_and_margins(
     ensures margins { IfOk result (λ r. AreMargins model.now r.1 (count model.now)) }
 {
     rows_obey_laws(model);
-    let _numbering = matrix.numbering();
+    matrix.is_numbered();
     let rows = signed_rows(alloc, matrix, model)?;
     match margins_of(alloc, model, &rows.plus, heaviest) {
         Ok(margins) => Ok((rows, margins)),

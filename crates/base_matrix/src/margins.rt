@@ -104,7 +104,7 @@ fn margin_of(
     ensures { IfOk result (IsMargin model.now row.now) }
 {
     rows_obey_laws(model);
-    let _count = model.vars();
+    model.keeps_limits();
     let slack = slack_of(alloc, model, free, row, is_low)?;
     let top = top_of(row, heaviest);
     Ok(Margin { slack, top })

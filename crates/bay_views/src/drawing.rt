@@ -137,7 +137,7 @@ fn write_row(out: &mut Bytes, frame: &Frame, base: u64, n: u32) -> Result<(), No
     requires column { n < columns frame.now }
     ensures { OnOk result (out.new ≡ out.old ++ row_label frame.now base n) }
 {
-    let _columns = frame.columns();
+    frame.is_narrow();
     write_label(out, 62 + 56 * u64::from(n), base, b"n")?;
     out.extend(&two_digits(u64::from(frame.row_of(n))))?;
     write_raw(out, b"</text>")

@@ -123,6 +123,14 @@ impl Frame {
         2 * self.side + self.middle
     }
 
+    // It has at most 101 columns: a law, which costs nothing when it runs.
+    pub(crate) fn is_narrow(&self)
+        requires { IsFrame self.now }
+        ensures { columns self.now ≤ 101 }
+    {
+        let _columns = self.columns();
+    }
+
     pub(crate) fn deck_height(&self) -> u32
         requires { IsFrame self.now }
         ensures value { result ≡ deck_height self.now }

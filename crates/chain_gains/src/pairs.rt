@@ -58,7 +58,7 @@ fn part_of(
     ensures low { unsigned_abs result ≤ 2 ^ 37 }
 {
     let cargo = model.cargo();
-    let _calls = cargo.calls();
+    cargo.obeys_rules();
     let chain = Chain::of(&[load, dest]);
     let row = Row::Cross {
         length,

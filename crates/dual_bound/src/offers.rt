@@ -85,7 +85,7 @@ fn best_of_both(model: &Model, pairs: &PairTable, b: &Box01, costs: &Costs, gaps
     ensures { (r : Rows) → is_base r ≡ false → (whole model.now).has r ≡ true → gain_of model.now b.now costs.now.reduced.items r ≤ℤ result.gain }
 {
     let last = model.cargo().calls() as usize;
-    let _vars = model.vars();
+    model.keeps_limits();
     let short = best_offer(&pairs.short, gaps, 0, last, 20);
     let long = best_offer(&pairs.long, gaps, 169, last, 40);
     larger_offer(short, long)
@@ -121,7 +121,7 @@ fn row_for(
     requires gaps { AreGained b.now costs.now.reduced.items pairs.now.keys (length (variables model.now)) gaps.now }
 {
     let last = model.cargo().calls() as usize;
-    let _vars = model.vars();
+    model.keeps_limits();
     if offer.foot == 20 {
         row_in(&pairs.short, gaps, 0, last, offer)
     } else {
@@ -143,7 +143,8 @@ pub fn choose_crossing(model: &Model, pairs: &PairTable, b: &Box01, costs: &Cost
     requires priced { PricedSome model.now b.now costs.now }
     ensures { (r : Rows) → is_base r ≡ false → (whole model.now).has r ≡ true → gain_of model.now b.now costs.now.reduced.items r ≤ℤ result.gain }
 {
-    let (rows, _vars) = (model.rows(), model.vars());
+    let rows = model.rows();
+    model.keeps_limits();
     prove!(rows <= MOST_ROWS);
     let gaps = gaps_by_pair(model, b, costs.reduced.as_slice(), pairs.keys.as_slice());
     let offer = best_of_both(model, pairs, b, costs, &gaps);

@@ -271,7 +271,7 @@ fn first_wishes(
         return Vec::new(alloc);
     };
     let last = model.cargo().calls() as usize;
-    let _vars = model.vars();
+    model.keeps_limits();
     match wishes(alloc, pairs, last) {
         Ok(wishes) => wishes,
         Err(NoMemory) => Vec::new(alloc),

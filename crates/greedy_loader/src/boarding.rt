@@ -21,7 +21,7 @@ pub fn load_one(
     ensures goes { IfOk result (λ placed. GoesAboard ship.now cargo.now layout.old.plan c placed layout.new.plan) }
     ensures kept { OnOk result (IsKept ship.now cargo.now layout.new) }
 {
-    let _calls = cargo.calls();
+    cargo.obeys_rules();
     match choice(ship, cargo, layout, cargo.container(c)) {
         None => Ok(false),
         Some(p) => {

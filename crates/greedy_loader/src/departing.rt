@@ -29,7 +29,7 @@ fn restow(
     ensures formed { IfOk result (λ made. IfSome made (IsWellFormed ship.now cargo.now)) }
     ensures aboard { IfOk result (λ made. IfSome made (HoldsAboard cargo.now call)) }
 {
-    let _calls = cargo.calls();
+    cargo.obeys_rules();
     let lifted = lifted_at(alloc, ship, cargo, call, before)?;
     let quay = quay_of(alloc, ship, cargo, call, before, &lifted)?;
     let mut layout = staying(alloc, ship, cargo, before, &lifted)?;

@@ -55,8 +55,8 @@ fn weigh(
     ensures weights { AreWeights ship.now cargo.now (slice_set plan.now p (Some c)) weights.new }
     ensures each_stack { length weights.new ≡ length ship.now.stacks }
 {
-    let _places = ship.places();
-    let _calls = cargo.calls();
+    ship.obeys_rules();
+    cargo.obeys_rules();
     add_weight(weights, ship, place.stack, x.kg);
 }
 
@@ -209,7 +209,7 @@ impl Layout {
         ensures plan { OnOk result (self.new.plan ≡ slice_set self.old.plan p (Some c)) }
         ensures kept { OnOk result (IsKept ship.now cargo.now self.new) }
     {
-        let _calls = cargo.calls();
+        cargo.obeys_rules();
         let place = ship.place(p);
         let x = cargo.container(c);
         note(&mut self.classed, ship, cargo, &self.plan, p, &place, c, x)?;

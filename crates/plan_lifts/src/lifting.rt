@@ -164,7 +164,7 @@ pub fn lifts(
 {
     let mut lists = Seq::new(alloc);
     ship.obeys_rules();
-    let _calls = cargo.calls();
+    cargo.obeys_rules();
     let count = lift_from(
         alloc,
         ship,

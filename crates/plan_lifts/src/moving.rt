@@ -322,7 +322,7 @@ fn move_from(
         return Ok(());
     };
     ship.obeys_rules();
-    let _calls = cargo.calls();
+    cargo.obeys_rules();
     let moves = call_moves(alloc, ship, cargo, before, after, list)?;
     voyage.push(moves)?;
     move_from(
@@ -353,7 +353,7 @@ pub fn moves_of(
     ensures count { IfOk result (λ voyage. voyage_count ship.now cargo.now voyage plans.now ≡ lifted.now.count) }
 {
     let mut voyage = Seq::new(alloc);
-    let _calls = cargo.calls();
+    cargo.obeys_rules();
     move_from(
         alloc,
         ship,

@@ -191,7 +191,7 @@ impl Ship {
         requires { p < length (places self.now) }
         ensures { HasNumber self.now p result }
     {
-        let _places = self.places();
+        self.obeys_rules();
         let place = self.place(p);
         let number = number_on(self.stack(place.stack), place);
         (number.bay, number.row, number.tier)
@@ -212,7 +212,7 @@ impl Ship {
         ensures is { MatchOption result ((u : ℕ) → IsAbove self.now u h → ⊥) (λ u. IsAbove self.now u h) }
         ensures back { (u : ℕ) → IsAbove self.now u h → result ≡ Some u }
     {
-        let _halves = self.halves();
+        self.obeys_rules();
         let half = self.half(h);
         let stack = self.stack(half.stack);
         let tiers = stack.tiers;

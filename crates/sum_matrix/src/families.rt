@@ -127,7 +127,7 @@ pub fn block_at(ship: &Ship, call: CallNo, h: HalfNo) -> Parts
     requires { h < length (halves ship.now) }
     ensures { let half = slice_index_or (halves ship.now) h no_half in result ≡ two Sign.Minus (Sum.LiftedFrom call half) Sign.Minus (Sum.Staying call (above half)) }
 {
-    let _places = ship.places();
+    ship.obeys_rules();
     let half = half_at(ship, h);
     block_parts(call, half)
 }

@@ -123,6 +123,13 @@ impl<'a> SumMatrix<'a> {
         self.numbering
     }
 
+    /// The numbering is the voyage's: a law, which costs nothing when it runs.
+    pub fn is_numbered(&self)
+        ensures { IsNumbering self.now.voyage self.now.numbering }
+    {
+        let _opened = &self.numbering;
+    }
+
     /// The variables of a sum by its number, rising.
     pub fn variables(&self, number: usize) -> &[usize]
         ensures are { (s : Sum) → IsThere self.now.voyage s → number ≡ number_of self.now.numbering s → result.now ≡ variables_of self.now.voyage s }

@@ -80,7 +80,7 @@ fn built_counts(ship: &Ship, cargo: &Cargo, kinds: &Kinds) -> Result<RowCounts, 
     requires vars { length (variables (record { ship = ship.now; cargo = cargo.now })) ≤ 200000 }
     ensures { BuildsCounts (record { ship = ship.now; cargo = cargo.now }) result }
 {
-    let _places = ship.places();
+    ship.obeys_rules();
     let counts = count_rows(ship, cargo, kinds);
     if counts.all > MOST_ROWS {
         return Err(ModelNo::TooLarge {
@@ -106,7 +106,7 @@ fn filed_rows(
     ensures lists { IfOk result (λ r. r.0 ≡ row_lists (record { ship = ship.now; cargo = cargo.now })) }
     ensures files { IfOk result (λ r. AreFiled ship.now (base_in r.0) r.1) }
 {
-    let _places = ship.places();
+    ship.obeys_rules();
     let lists = list_rows(alloc, ship, cargo, kinds)?;
     match file_rows(alloc, ship, &lists, base) {
         Ok(files) => Ok((lists, files)),

@@ -98,6 +98,15 @@ impl<'a> Model<'a> {
         self.rows
     }
 
+    /// A program keeps its limits: a law, which costs nothing when it runs.
+    pub fn keeps_limits(&self)
+        ensures vars { length (variables self.now) ≤ 200000 }
+        ensures rows { length (all_rows self.now) ≤ 2000000 }
+    {
+        let _vars = self.vars();
+        let _rows = self.rows();
+    }
+
     /// The number of base rows; they come first.
     pub fn base_rows(&self) -> u64
         ensures { result ≡ length (base_rows self.now) }
@@ -175,7 +184,7 @@ impl<'a> Model<'a> {
         requires kind { x.kind < length (all_kinds m) }
         ensures { result ≡ coef m r.now x }
     {
-        let _places = self.ship.places();
+        self.ship.obeys_rules();
         zero_one_rows::coefficient(self.ship, &self.kinds, r, x)
     }
 
@@ -185,7 +194,7 @@ impl<'a> Model<'a> {
         requires row { (whole m).has r.now ≡ true }
         ensures { result ≡ (whole m).rhs r.now }
     {
-        let _places = self.ship.places();
+        self.ship.obeys_rules();
         zero_one_rows::right_side(self.ship, self.cargo, &self.kinds, r)
     }
 
@@ -205,8 +214,8 @@ impl<'a> Model<'a> {
         ensures value { result ≡ (whole self.now).coef r.now x }
         ensures size { unsigned_abs result ≤ 2 ^ 17 }
     {
-        let _places = self.ship.places();
-        let _calls = self.cargo.calls();
+        self.ship.obeys_rules();
+        self.cargo.obeys_rules();
         self.coefficient_of(r, self.var(x))
     }
 
@@ -216,8 +225,8 @@ impl<'a> Model<'a> {
         ensures value { result ≡ (whole self.now).rhs r.now }
         ensures size { unsigned_abs result ≤ 2 ^ 37 }
     {
-        let _places = self.ship.places();
-        let _calls = self.cargo.calls();
+        self.ship.obeys_rules();
+        self.cargo.obeys_rules();
         self.rhs_of(r)
     }
 
@@ -383,7 +392,7 @@ impl<'a> Model<'a> {
         requires { x < length (variables self.now) }
         ensures { OnOk result (list.new ≡ list.old ++ filter (meets self.now x) (run_of self.now (var self.now x) r.now)) }
     {
-        let _calls = self.cargo.calls();
+        self.cargo.obeys_rules();
         let (first, count) = self.calls_of_run(self.var(x), r);
         for k in 0..count {
             self.keep(list, at_call(r, first + k), x)?;

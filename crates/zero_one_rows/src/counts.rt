@@ -107,7 +107,7 @@ fn count_lowest(ship: &Ship, half: HalfNo) -> u64
     ensures number { result ≡ length (hatches_of m half) }
     ensures size { result ≤ 6000 }
 {
-    let _places = ship.places();
+    ship.obeys_rules();
     let mut count = 0;
     for d in 0..ship.halves() {
         count += as_one(is_under_hatch(ship, half, HalfNo(d)));

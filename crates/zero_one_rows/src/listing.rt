@@ -121,7 +121,7 @@ fn add_kinds(
     ensures adds { OnOk result (Adds listing.old listing.new (at_put m put)) }
     ensures most { OnOk result (listing.new.total ≤ listing.old.total + 2 ^ 48) }
 {
-    let _places = ship.places();
+    ship.obeys_rules();
     for g in 0..kinds.len() {
         let dest = kind_at(kinds, KindNo(g)).dest;
         let places = offers.at(kinds, put, KindNo(g));

@@ -51,7 +51,7 @@ fn kind_or_past(ship: &Ship, cargo: &Cargo, kinds: &Kinds, c: ContainerNo) -> u3
     requires { AreKinds ship.now.weight_step cargo.now.containers kinds.now }
     ensures { (g : ℕ) → g < length kinds.now.list → (kind_number ship.now.weight_step cargo.now.containers (slice_index_or cargo.now.containers c no_container) == g) ≡ (result == g) }
 {
-    let _calls = cargo.calls();
+    cargo.obeys_rules();
     if c.0 >= cargo.len() {
         return kinds.len();
     }
@@ -100,7 +100,7 @@ pub fn gather_offers(
     requires arrival { length cargo.now.arrival ≡ length (places ship.now) }
     ensures { IfOk result (λ o. IsOffers (record { ship = ship.now; cargo = cargo.now }) o) }
 {
-    let _places = ship.places();
+    ship.obeys_rules();
     let keys = arrivals(alloc, ship, cargo, kinds)?;
     let arrived = group(alloc, keys.as_slice(), kinds.len() as usize)?;
     Ok(Offers {

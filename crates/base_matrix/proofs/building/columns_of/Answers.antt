@@ -9,4 +9,4 @@ columns_by-columns-requires-clause-weights c = c.as_slice.ensures ∙ c.in_ok-we
 pub columns_by-columns-requires-clause-few : goal.columns_by-columns-requires-clause-few
 columns_by-columns-requires-clause-few c =
     let long = as_long c.args.model.now c.as_slice.result.now (c.as_slice.ensures ∙ c.in_ok-weights.ensures) in
-    omega (arith, long, c.vars-count.ensures.number, c.vars-count.ensures.size)
+    omega (arith, long, c.keeps_limits.ensures.vars)

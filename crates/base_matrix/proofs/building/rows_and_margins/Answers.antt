@@ -10,6 +10,6 @@ pub margins_of-requires-clause-low : goal.margins_of-requires-clause-low
 margins_of-requires-clause-low c =
     let m = c.args.model.now in
     let z : Numbering = c.args.matrix.now.numbering in
-    let room : IsNumbering m z = subst (λ (y : Numbering). IsNumbering m y) c.numbering-numbering.ensures.same (subst (λ (w : Voyage). IsNumbering w c.numbering-numbering.result) c.requires.voyage c.numbering-numbering.ensures.room) in
+    let room : IsNumbering m z = subst (λ (w : Voyage). IsNumbering w z) c.requires.voyage c.is_numbered.ensures in
     let laws : Laws m z = record { has_parts = c.rows_obey_laws.ensures.parts; are_sums = c.rows_obey_laws.ensures.coefficients; share_none = c.rows_obey_laws.ensures.apart; names = c.rows_obey_laws.ensures.names; listed = c.rows_obey_laws.ensures.variables; rules = c.rows_obey_laws.ensures.ship; numbering = room } in
     none_plus m z laws c.rows_obey_laws.ensures.rows c.in_ok-rows.rows.plus c.in_ok-rows.ensures.plus

@@ -9,6 +9,6 @@ use Rattle.dual_bound.proofs.offers.choose_crossing.Goals as goal
 pub gaps_by_pair-gaps-requires-clause-small : goal.gaps_by_pair-gaps-requires-clause-small
 gaps_by_pair-gaps-requires-clause-small c =
     let few : length (all_rows c.args.model.now) ≤ 2000000 = omega (arith, c.rows-rows.ensures.number, c.rows-rows.ensures.size) in
-    let vars : length (variables c.args.model.now) ≤ 200000 = omega (arith, c.vars-vars.ensures.number, c.vars-vars.ensures.size) in
+    let vars : length (variables c.args.model.now) ≤ 200000 = c.keeps_limits.ensures.vars in
     subst (λ (ds : List ℤ). (v : ℕ) → v < length (variables c.args.model.now) → unsigned_abs (number_at ds v) ≤ 2 ^ 79) (sym c.as_slice.ensures.value)
     (has_room c.args.model.now c.args.b.now c.args.costs.now few vars c.requires.priced).reduced

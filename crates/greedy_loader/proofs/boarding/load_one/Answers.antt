@@ -8,10 +8,10 @@ use Rattle.greedy_loader.proofs.Aboard.{may_stand}
 use Rattle.greedy_loader.proofs.boarding.load_one.Goals as goal
 
 pub choice-requires-clause-kg : goal.choice-requires-clause-kg
-choice-requires-clause-kg c = (each_is (IsShipped (length c.args.cargo.now.rotation)) c.args.cargo.now.containers c.args.c c.container.result.now c.calls-calls.ensures.rules.each_shipped c.container.ensures).kg_to
+choice-requires-clause-kg c = (each_is (IsShipped (length c.args.cargo.now.rotation)) c.args.cargo.now.containers c.args.c c.container.result.now c.obeys_rules.ensures.each_shipped c.container.ensures).kg_to
 
 pub choice-requires-clause-dest : goal.choice-requires-clause-dest
-choice-requires-clause-dest c = (each_is (IsShipped (length c.args.cargo.now.rotation)) c.args.cargo.now.containers c.args.c c.container.result.now c.calls-calls.ensures.rules.each_shipped c.container.ensures).in_rotation
+choice-requires-clause-dest c = (each_is (IsShipped (length c.args.cargo.now.rotation)) c.args.cargo.now.containers c.args.c c.container.result.now c.obeys_rules.ensures.each_shipped c.container.ensures).in_rotation
 
 pub put-requires-clause-can : goal.put-requires-clause-can
 put-requires-clause-can c = may_stand c.args.ship.now c.args.cargo.now c.args.layout.now.plan c.container.result.now c.in-Some.p c.args.c c.requires.kept.formed c.requires.ashore c.container.ensures c.in-Some.ensures

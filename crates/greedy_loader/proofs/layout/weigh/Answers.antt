@@ -11,7 +11,7 @@ pub add_weight-requires-clause-inside : goal.add_weight-requires-clause-inside
 add_weight-requires-clause-inside c = rw c.requires.each_stack (stack_in c.args.ship.now c.args.p c.args.place.now c.requires.can.is_place)
 
 pub add_weight-requires-clause-small : goal.add_weight-requires-clause-small
-add_weight-requires-clause-small c = λ w h. let e = c.requires.weights c.args.place.now.stack w h in omega (arith, e, weight_small c.args.ship.now c.args.cargo.now c.args.plan.now c.args.place.now.stack c.places-places.ensures.rules c.calls-calls.ensures.rules)
+add_weight-requires-clause-small c = λ w h. let e = c.requires.weights c.args.place.now.stack w h in omega (arith, e, weight_small c.args.ship.now c.args.cargo.now c.args.plan.now c.args.place.now.stack c.obeys_rules.ensures c.obeys_rules-2.ensures)
 
 pub returns-clause-weights : goal.returns-clause-weights
 returns-clause-weights c =

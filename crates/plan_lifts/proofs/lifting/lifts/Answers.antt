@@ -5,7 +5,7 @@ use Rattle.plan_lifts.proofs.LiftsHold.{counts_of, lifted_of, must_of}
 use Rattle.plan_lifts.proofs.lifting.lifts.Goals as goal
 
 pub returns-clause-count : goal.returns-clause-count
-returns-clause-count c = counts_of c.args.ship.now c.args.cargo.now c.arrival.result.now c.args.plans.now c.new-lists.result c.lift_from.new.lists c.in_ok-count.count c.obeys_rules.ensures c.calls-calls.ensures.rules c.requires.each_call c.requires.arrival c.arrival.ensures
+returns-clause-count c = counts_of c.args.ship.now c.args.cargo.now c.arrival.result.now c.args.plans.now c.new-lists.result c.lift_from.new.lists c.in_ok-count.count c.obeys_rules.ensures c.obeys_rules-2.ensures c.requires.each_call c.requires.arrival c.arrival.ensures
     (subst (λ (ps : List Plan). LiftsFrom c.args.ship.now c.args.cargo.now 1 c.arrival.result.now ps c.new-lists.result c.lift_from.new.lists c.in_ok-count.count) c.as_slice.ensures c.in_ok-count.ensures)
 
 pub returns-clause-must : goal.returns-clause-must

@@ -22,5 +22,5 @@ returns t c =
     c.move_from.result
     (λ later. sail_step c.args.ship.now c.args.cargo.now c.args.earlier (c.earlier.inside.0 + 1) c.args.before.now s.after.now c.args.plans.now s.others.now s.list.now c.args.lists.now s.rest.now c.in_ok-moves.moves c.args.voyage.now c.push.new.self c.move_from.new.voyage
     s.ensures.cases.0 s.ensures'.cases.0 (omega (arith, same))
-    c.obeys_rules.ensures c.calls-calls.ensures.rules c.requires.stowed c.requires.legal c.requires.lifted c.in_ok-moves.ensures c.in_ok-push.ensures later)
+    c.obeys_rules.ensures c.obeys_rules-2.ensures c.requires.stowed c.requires.legal c.requires.lifted c.in_ok-moves.ensures c.in_ok-push.ensures later)
     c.move_from.ensures

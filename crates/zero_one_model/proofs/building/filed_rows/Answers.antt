@@ -12,7 +12,7 @@ pub file_rows-requires-clause-names : goal.file_rows-requires-clause-names
 file_rows-requires-clause-names c k r h =
     let m : Voyage = record { ship = c.args.ship.now; cargo = c.args.cargo.now } in
     let at = subst (λ (l : RowLists). slice_get (base_in l) k ≡ Some r) c.in_ok-lists.ensures h in
-    names_cells m c.places-places.ensures.rules c.requires.arrival r (base_has m r (member_of (base_rows m) k r at))
+    names_cells m c.obeys_rules.ensures c.requires.arrival r (base_has m r (member_of (base_rows m) k r at))
 
 pub file_rows-requires-clause-few : goal.file_rows-requires-clause-few
 file_rows-requires-clause-few c = subst (λ (l : RowLists). length (rows_in l) ≤ 2000000) (sym c.in_ok-lists.ensures) c.requires.few

@@ -12,4 +12,4 @@ loop-d-preserved g c =
 pub returns-clause-size : goal.returns-clause-size
 returns-clause-size g c =
     let few = halves_few c.args.ship.now in
-    omega (arith, c.loop-d.invariant.low, c.loop-d-test.false, c.loop-d.auto.d-end, c.halves-d-end.ensures, few, c.places-places.ensures.rules.few_places)
+    omega (arith, c.loop-d.invariant.low, c.loop-d-test.false, c.loop-d.auto.d-end, c.halves-d-end.ensures, few, c.obeys_rules.ensures.few_places)

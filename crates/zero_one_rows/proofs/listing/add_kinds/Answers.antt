@@ -11,7 +11,7 @@ use Rattle.zero_one_rows.proofs.listing.add_kinds.Goals as goal
 
 pub add_lifts-requires-clause-few : goal.add_lifts-requires-clause-few
 add_lifts-requires-clause-few g c =
-    let few : length (places g.m.ship) ≤ 3000 = subst (λ (s : Ship). length (places s) ≤ 3000) c.requires.0 c.places-places.ensures.rules.few_places in
+    let few : length (places g.m.ship) ≤ 3000 = subst (λ (s : Ship). length (places s) ≤ 3000) c.requires.0 c.obeys_rules.ensures.few_places in
     let here = ap length c.at-places.ensures in
     omega (arith, here, few_offered g.m c.args.put c.loop-g.g few)
 

@@ -5,7 +5,7 @@ use Rattle.zero_one_rows.proofs.offers.kind_or_past.Goals as goal
 pub returns-then-c-len : goal.returns-then-c-len
 returns-then-c-len c g l =
     let past : length c.args.cargo.now.containers ≤ c.args.c = omega (arith, c.if-c-len.true, c.len.ensures, c.c.view_is) in
-    ap (λ (z : ℕ). z == g) (no_kind_past c.args.ship.now.weight_step c.args.cargo.now c.args.c c.calls-calls.ensures.rules past ∙ (sym (ap length c.requires.list) ∙ sym c.len-then-c-len.ensures))
+    ap (λ (z : ℕ). z == g) (no_kind_past c.args.ship.now.weight_step c.args.cargo.now c.args.c c.obeys_rules.ensures past ∙ (sym (ap length c.requires.list) ∙ sym c.len-then-c-len.ensures))
 
 pub returns : goal.returns
 returns c g l =

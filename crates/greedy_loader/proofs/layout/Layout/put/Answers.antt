@@ -13,7 +13,7 @@ pub weigh-requires-clause-can : goal.weigh-requires-clause-can
 weigh-requires-clause-can c = c.requires.can c.place-place.result c.container-x.result.now c.place-place.ensures c.container-x.ensures
 
 pub weigh-requires-clause-kg : goal.weigh-requires-clause-kg
-weigh-requires-clause-kg c = (each_is (IsShipped (length c.args.cargo.now.rotation)) c.args.cargo.now.containers c.args.c c.container-x.result.now c.calls-calls.ensures.rules.each_shipped c.container-x.ensures).kg_to
+weigh-requires-clause-kg c = (each_is (IsShipped (length c.args.cargo.now.rotation)) c.args.cargo.now.containers c.args.c c.container-x.result.now c.obeys_rules.ensures.each_shipped c.container-x.ensures).kg_to
 
 pub raise-requires-clause-can : goal.raise-requires-clause-can
 raise-requires-clause-can c = c.requires.can c.place-place.result c.container-x.result.now c.place-place.ensures c.container-x.ensures

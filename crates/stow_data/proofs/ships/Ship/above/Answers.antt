@@ -1,6 +1,7 @@
 use Rattle.std.proofs.Common.{◌≡◌, ◌+◌, ℕ, arith, ap, subst, length}
 use Rattle.std.proofs.lemmas.Option.{slice_get_within}
 use Rattle.stow_data.specs.Ship.{halves, sides, IsAbove}
+use Rattle.stow_data.proofs.Listed.{halves_few}
 use Rattle.stow_data.proofs.InOrder.{half_stack_in, half_low, above_at, none_above, one_above}
 use Rattle.stow_data.proofs.OneCover.{back_from}
 use Rattle.stow_data.proofs.ships.Ship.above.Goals as goal
@@ -19,7 +20,7 @@ overflow_add-result c =
     let low = half_low c.args.self.now c.args.h c.half-half.result c.stack-stack.result.now c.half-half.ensures c.stack-stack.ensures in
     let at = above_at c.args.self.now c.args.h c.half-half.result c.stack-stack.result.now c.half-half.ensures c.stack-stack.ensures (omega (arith, low, c.if-half-tiers.false)) in
     let within = slice_get_within (halves c.args.self.now) (c.args.h + length (sides c.stack-stack.result.now.lengths)) at.upper at.is_upper in
-    omega (arith, within, c.h.view_is, ap length c.sides_of.ensures, c.halves-halves.ensures, c.halves-halves.type_inv)
+    omega (arith, within, c.h.view_is, ap length c.sides_of.ensures, halves_few c.args.self.now, c.obeys_rules.ensures.few_places)
 
 pub returns-then-half-tiers-clause-back : goal.returns-then-half-tiers-clause-back
 returns-then-half-tiers-clause-back c = back_from (λ u. IsAbove c.args.self.now u c.args.h) _ (returns-then-half-tiers-clause-is c) (λ u v a b. one_above c.args.self.now u v c.args.h a b)

@@ -26,8 +26,8 @@ coefficient_of-requires c =
 
 pub returns-clause-size : goal.returns-clause-size
 returns-clause-size c =
-    let sound : IsShip c.args.self.now.ship = subst (λ (v : Voyage). IsShip v.ship) c.self.view_is c.places-places.ensures.rules in
-    let lawful : IsCargo c.args.self.now.cargo = subst (λ (v : Voyage). IsCargo v.cargo) c.self.view_is c.calls-calls.ensures.rules in
+    let sound : IsShip c.args.self.now.ship = subst (λ (v : Voyage). IsShip v.ship) c.self.view_is c.obeys_rules.ensures in
+    let lawful : IsCargo c.args.self.now.cargo = subst (λ (v : Voyage). IsCargo v.cargo) c.self.view_is c.obeys_rules-2.ensures in
     let fits : FitsSigned w64 c.coefficient_of.result = search rules in
     let small : unsigned_abs c.coefficient_of.result ≤ 2 ^ 17 = subst (λ (z : ℤ). unsigned_abs z ≤ 2 ^ 17) (sym c.coefficient_of.ensures) (coefficient_small c.args.self.now c.args.r.now c.var.result sound lawful c.requires.row) in
     subst (λ (z : ℤ). unsigned_abs z ≤ 2 ^ 17) (sym (to_z-of_z w64 c.coefficient_of.result fits)) small

@@ -12,12 +12,12 @@ coefficient-requires g c =
       (
         c.self.invariant.kinds.list ∙ ap all_kinds (c.self.view_is ∙ c.requires.0),
         (
-          in_range g.m c.args.r.now (subst IsShip ship c.places-places.ensures.rules) c.requires.1.0,
+          in_range g.m c.args.r.now (subst IsShip ship c.obeys_rules.ensures) c.requires.1.0,
           (
             c.requires.1.1.0,
             (
               c.requires.1.1.1,
-              (halves_low g.m (subst IsShip ship c.places-places.ensures.rules)),
+              (halves_low g.m (subst IsShip ship c.obeys_rules.ensures)),
             ),
           ),
         ),

@@ -13,7 +13,7 @@ use Rattle.zero_one_model.proofs.model.Model.keep_run.Goals as goal
 
 pub calls_of_run-first-requires : goal.calls_of_run-first-requires
 calls_of_run-first-requires c =
-    let lawful : IsCargo c.args.self.now.cargo = subst (λ (m : Voyage). IsCargo m.cargo) c.self.view_is c.calls-calls.ensures.rules in
+    let lawful : IsCargo c.args.self.now.cargo = subst (λ (m : Voyage). IsCargo m.cargo) c.self.view_is c.obeys_rules.ensures in
     let listed = var_listed c.args.self.now c.args.x c.requires in
     let x : Var = var c.args.self.now c.args.x in
     let put : x.put < x.lifted = ltb-true x.put x.lifted (first_true _ _ listed.0) in

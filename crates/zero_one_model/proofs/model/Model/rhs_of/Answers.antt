@@ -14,7 +14,7 @@ right_side-requires g c =
         cargo,
         (
           subst (λ (v : Voyage). AreKinds v.ship.weight_step v.cargo.containers c.self.inside.kinds) (c.self.view_is ∙ c.requires.0) c.self.invariant.kinds,
-          in_range g.m c.args.r.now (subst IsShip ship c.places-places.ensures.rules) c.requires.1,
+          in_range g.m c.args.r.now (subst IsShip ship c.obeys_rules.ensures) c.requires.1,
         ),
       ),
     )
