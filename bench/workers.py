@@ -1,7 +1,7 @@
 #!/usr/bin/env python3
 """Measures the nodes a second of `stow plan` with several workers, beside those with one.
 
-    bench/workers.py INSTANCES [--numbers FIRST COUNT] [--budget N] [--groups NAME,..] [--workers N,..] [--runs N] [--program FILE]
+    bench/workers.py INSTANCES [--numbers FIRST COUNT] [--budget N] [--groups NAME,..] [--workers N,..] [--runs N] [--beside] [--program FILE]
 
 INSTANCES is a folder with `instances.py`, which makes the ships (`instances.py list` names the groups, `instances.py GROUP FIRST
 COUNT FOLDER` writes them). Ships that need fewer than 2,000 nodes with one worker are left out. From each run one with a budget of
@@ -9,15 +9,23 @@ COUNT FOLDER` writes them). Ships that need fewer than 2,000 nodes with one work
 what comes behind it does, since it grows with the nodes: one tree of all records, and the check of its bound. "A second" is by the
 clock, so nothing else is to run; "us a node" is the processor time of all workers, which other programs spoil less.
 
+What processors do while others rest isn't what they do while all are busy, least of all those of a virtual machine. With --beside a
+program with few workers runs beside copies of itself, so that as many workers run as with the most: four programs of one worker, two
+of two, one of four. So "times" says what the workers of one program cost each other, and not what busy processors do.
+
 --numbers FIRST COUNT   the ships of each group (0 3 where it is missing)
 --budget N              the nodes of each search (100000 where it is missing)
 --groups NAME,..        these groups alone
 --workers N,..          these numbers of workers (1,2,4 where it is missing); the first is what the others stand beside
---runs N                how often each run is made (1 where it is missing); the middle one by its nodes a second counts
+--runs N                how often each run is made (1 where it is missing), one number of workers after the other; the middle of each
+                        figure counts, "times" among them, as a machine's speed changes from one minute to the next
+--beside                each run beside copies of itself, as above; the mean of the copies counts
 --program FILE          the program that is measured, in place of the built one
 """
 import argparse
+import concurrent.futures
 import os
+import statistics
 import subprocess
 import tempfile
 import time
@@ -29,8 +37,8 @@ FIRST = 1001
 class Run:
     """One run: the nodes that were handled, the seconds by the clock and those of all processors; no nodes where the ship is refused."""
 
-    def __init__(self, program, folder, ship, budget, workers):
-        words = [program, "plan", f"{ship}.ship.toml", f"{ship}.cargo.toml", "X", "--budget", str(budget), "--workers", str(workers)]
+    def __init__(self, program, folder, ship, out, budget, workers):
+        words = [program, "plan", f"{ship}.ship.toml", f"{ship}.cargo.toml", out, "--budget", str(budget), "--workers", str(workers)]
         begun = time.perf_counter()
         running = subprocess.Popen(words, cwd=folder, stdout=subprocess.PIPE, text=True)
         printed = running.stdout.read()
@@ -44,29 +52,40 @@ class Run:
         self.nodes = int(said.get("nodes", 0))
 
 
+def side_by_side(args, folder, ship, budget, workers):
+    """Runs of one search, at the same time: one, or with --beside as many as make up the most workers."""
+    copies = max(args.workers) // workers if args.beside else 1
+    with concurrent.futures.ThreadPoolExecutor(copies) as pool:
+        return list(pool.map(lambda k: Run(args.program, folder, ship, f"X{k}", budget, workers), range(copies)))
+
+
 class Speed:
     """What a search did past its first nodes: the nodes, those a second by the clock, and the processor time of each."""
 
     def __init__(self, args, folder, ship, workers):
-        first = Run(args.program, folder, ship, FIRST, workers)
-        whole = Run(args.program, folder, ship, args.budget, workers)
-        nodes = whole.nodes - first.nodes
-        self.first, self.nodes, self.past = first.nodes, whole.nodes, nodes
-        self.rate = nodes / max(whole.seconds - first.seconds, 0.001)
-        self.used = 1e6 * (whole.used - first.used) / max(nodes, 1)
+        firsts = side_by_side(args, folder, ship, FIRST, workers)
+        wholes = side_by_side(args, folder, ship, args.budget, workers)
+        self.first, self.nodes = firsts[0].nodes, wholes[0].nodes
+        self.past = self.nodes - self.first
+        past = [(whole.nodes - first.nodes, whole.seconds - first.seconds, whole.used - first.used) for first, whole in zip(firsts, wholes)]
+        self.rate = statistics.mean(nodes / max(seconds, 0.001) for nodes, seconds, _ in past)
+        self.used = statistics.mean(1e6 * used / max(nodes, 1) for nodes, _, used in past)
 
 
 def measured(args, folder, ship):
     """The row of one ship: its nodes a second with each number of workers; None where it is left out."""
-    row, least = [ship], None
-    for workers in args.workers:
-        speeds = [Speed(args, folder, ship, workers)]
-        if least is None and (speeds[0].first < FIRST or speeds[0].past < 1000):
+    rounds = []
+    for _ in range(args.runs):
+        rounds.append([Speed(args, folder, ship, workers) for workers in args.workers])
+        if rounds[0][0].first < FIRST or rounds[0][0].past < 1000:
             return None
-        speeds += [Speed(args, folder, ship, workers) for _ in range(args.runs - 1)]
-        middle = sorted(speeds, key=lambda speed: speed.rate)[args.runs // 2]
-        least = least or middle.rate
-        row += [str(middle.nodes), f"{middle.rate:.0f}", f"{middle.rate / least:.2f}", f"{middle.used:.0f}"]
+    row = [ship]
+    for place in range(len(args.workers)):
+        speeds = [speeds[place] for speeds in rounds]
+        rate = statistics.median(speed.rate for speed in speeds)
+        times = statistics.median(speeds[place].rate / speeds[0].rate for speeds in rounds)
+        used = statistics.median(speed.used for speed in speeds)
+        row += [str(speeds[0].nodes), f"{rate:.0f}", f"{times:.2f}", f"{used:.0f}"]
     return row
 
 
@@ -78,6 +97,7 @@ def main():
     asked.add_argument("--groups")
     asked.add_argument("--workers", default="1,2,4")
     asked.add_argument("--runs", type=int, default=1)
+    asked.add_argument("--beside", action="store_true")
     asked.add_argument("--program", default=f"{ROOT}/crates/stow_main/out/stow_main")
     args = asked.parse_args()
     args.workers = [int(n) for n in args.workers.split(",")]
