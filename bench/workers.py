@@ -67,7 +67,10 @@ class Speed:
         wholes = side_by_side(args, folder, ship, args.budget, workers)
         self.first, self.nodes = firsts[0].nodes, wholes[0].nodes
         self.past = self.nodes - self.first
-        past = [(whole.nodes - first.nodes, whole.seconds - first.seconds, whole.used - first.used) for first, whole in zip(firsts, wholes)]
+        past = [
+            (whole.nodes - first.nodes, whole.seconds - first.seconds, whole.used - first.used)
+            for first, whole in zip(firsts, wholes)
+        ]
         self.rate = statistics.mean(nodes / max(seconds, 0.001) for nodes, seconds, _ in past)
         self.used = statistics.mean(1e6 * used / max(nodes, 1) for nodes, _, used in past)
 
@@ -81,9 +84,9 @@ def measured(args, folder, ship):
             return None
     row = [ship]
     for place in range(len(args.workers)):
-        speeds = [speeds[place] for speeds in rounds]
+        speeds = [one_round[place] for one_round in rounds]
         rate = statistics.median(speed.rate for speed in speeds)
-        times = statistics.median(speeds[place].rate / speeds[0].rate for speeds in rounds)
+        times = statistics.median(one_round[place].rate / one_round[0].rate for one_round in rounds)
         used = statistics.median(speed.used for speed in speeds)
         row += [str(speeds[0].nodes), f"{rate:.0f}", f"{times:.2f}", f"{used:.0f}"]
     return row
