@@ -1,3 +1,4 @@
+pub mod Elementwise
 pub mod Digits
 pub mod CellDigits
 pub mod Least

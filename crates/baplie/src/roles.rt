@@ -118,15 +118,8 @@ pub(crate) fn same_element(a: &Segment, n: usize, b: &Segment, m: usize) -> bool
     ensures { result ≡ same_element (element a.now n) (element b.now m) }
 {
     let count = a.elements.components(n - 1);
-    if count != b.elements.components(m - 1) {
-        return false;
-    }
-    for k in 0..count {
-        if a.elements.component(n - 1, k) != b.elements.component(m - 1, k) {
-            return false;
-        }
-    }
-    true
+    count == b.elements.components(m - 1)
+        && (0..count).all(|k| a.elements.component(n - 1, k) == b.elements.component(m - 1, k))
 }
 
 /// Whether an EQD is of a container or of breakbulk.
@@ -193,24 +186,14 @@ impl Role {
     pub(crate) fn first(self, segments: &[Segment]) -> Option<&Segment>
         ensures { option_map (λ s. s.now) result ≡ find (has_role self) segments.now }
     {
-        for segment in segments {
-            if self.has(segment) {
-                return Some(segment);
-            }
-        }
-        None
+        segments.iter().find(|segment| self.has(segment))
     }
 
     /// Whether a segment has the role.
     pub(crate) fn any(self, segments: &[Segment]) -> bool
         ensures { result ≡ list_any (has_role self) segments.now }
     {
-        for segment in segments {
-            if self.has(segment) {
-                return true;
-            }
-        }
-        false
+        segments.iter().any(|segment| self.has(segment))
     }
 
     /// Where the first segment with the role stands, from a place on, or the length.

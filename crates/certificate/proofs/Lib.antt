@@ -1,3 +1,4 @@
+pub mod SameLists
 pub mod RowsAlike
 pub mod RowsTold
 pub mod Texts

@@ -59,30 +59,14 @@ fn same_raise(a: &KeptRaise, b: &KeptRaise) -> bool
 fn same_rows(a: &[KeptRow], b: &[KeptRow]) -> bool
     ensures { result ≡ true → a.now ≡ b.now }
 {
-    if a.len() != b.len() {
-        return false;
-    }
-    for (index, row) in a.iter().enumerate() {
-        if !same_kept(row, &b[index]) {
-            return false;
-        }
-    }
-    true
+    a.len() == b.len() && a.iter().zip(b).all(|(x, y)| same_kept(x, y))
 }
 
 // Whether two lists of raises are the same.
 fn same_raises(a: &[KeptRaise], b: &[KeptRaise]) -> bool
     ensures { result ≡ true → a.now ≡ b.now }
 {
-    if a.len() != b.len() {
-        return false;
-    }
-    for (index, raise) in a.iter().enumerate() {
-        if !same_raise(raise, &b[index]) {
-            return false;
-        }
-    }
-    true
+    a.len() == b.len() && a.iter().zip(b).all(|(x, y)| same_raise(x, y))
 }
 
 impl Record {

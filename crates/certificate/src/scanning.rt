@@ -24,12 +24,7 @@ fn word_end(bytes: &[u8], from: usize) -> Option<usize>
     ensures word { MatchOption result ⊤ (λ end. (k : ℕ) → from ≤ k → k < end → is_break (slice_index bytes.now k) ≡ false) }
     ensures separator { MatchOption result ⊤ (λ end. is_break (slice_index bytes.now end) ≡ true) }
 {
-    for at in from..bytes.len() {
-        if is_separator(bytes[at]) {
-            return Some(at);
-        }
-    }
-    None
+    (from..bytes.len()).find(|at| is_separator(bytes[*at]))
 }
 
 /// The words of the line that begins at a place, and the place behind its line feed.

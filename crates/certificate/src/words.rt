@@ -130,12 +130,7 @@ impl Default for Token {
 fn find_key(word: &[u8]) -> Option<Key>
     ensures { MatchOption result ((k : Key) → key_text k ≢ word.now) (λ k. key_text k ≡ word.now) }
 {
-    for key in &KEYS {
-        if key.is_written(word) {
-            return Some(*key);
-        }
-    }
-    None
+    KEYS.iter().copied().find(|key| key.is_written(word))
 }
 
 /// The number below 2^63 that a word writes without leading zeros.

@@ -68,12 +68,7 @@ fn dest_at(
     if taken >= 2 && here[dest].one <= 0 {
         return None;
     }
-    for d in dest..last + 1 {
-        if wanted(here[d], taken) != wanted(here[d + 1], taken) {
-            return Some(d);
-        }
-    }
-    None
+    (dest..last + 1).find(|d| wanted(here[*d], taken) != wanted(here[*d + 1], taken))
 }
 
 // A chain of the best pairs of calls below a floor and of calls from it on.

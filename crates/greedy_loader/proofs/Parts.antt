@@ -1,6 +1,8 @@
 -- What an open place asks, part by part.
 use Rattle.std.specs.Prelude.{◌≡◌, ◌↔◌, ◌⊎◌, ℕ, ◌<◌, ◌≤◌, ◌+◌, Bool, true, false, not, IsTrue, List, Some, None, slice_get, slice_index_or, length}
-use Rattle.std.proofs.Common.{sym, ◌∙◌, ap, subst, arith, inl, inr, ⊎_elim}
+use Rattle.std.specs.Bool.{MatchBool}
+use Rattle.std.specs.List.{AllWithin, HoldsAt}
+use Rattle.std.proofs.Common.{refl, sym, ◌∙◌, ap, subst, arith, inl, inr, ⊎_elim}
 use Rattle.std.proofs.lemmas.Option.{same_Some, slice_get_within, none-some, slice_get-get_or}
 use Rattle.std.proofs.lemmas.Bool.{both_ways, cases_Bool, cases_eq, not-true, not_from_false}
 use Rattle.stow_data.specs.declared.geometry.Place.{Place}
@@ -75,13 +77,18 @@ apart_unnamed ship cargo plan x place e rule is unnamed q d r other y named stan
     (λ (b : (x.class ≡ Some rule.b) × (y.class ≡ Some rule.a)). unnamed (inr b.0))
     (subst (λ (w : Separation). AreSeparated w x y) one says))
 
--- one item more of a list
-pub item_more : (P : ℕ → Type 0) (xs : List ℕ) (i x : ℕ) → x ≡ slice_index_or xs i x → i < length xs → ((k q : ℕ) → k < i → slice_index_or xs k q ≡ q → P q) → P x → (k q : ℕ) → k < i + 1 → slice_index_or xs k q ≡ q → P q
-item_more P xs i x is l all here k q m at = ⊎_elim
-    (λ (e : k ≡ i).
-    let one : slice_get xs i ≡ Some (slice_index_or xs i x) = slice_get-get_or xs i x l in
-    let two : slice_get xs i ≡ Some (slice_index_or xs i q) = slice_get-get_or xs i q l in
-    let same : slice_index_or xs i x ≡ slice_index_or xs i q = same_Some _ _ (sym one ∙ two) in
-    subst P (is ∙ (same ∙ (ap (λ (n : ℕ). slice_index_or xs n q) (sym e) ∙ at))) here)
-    (λ (ne : k ≡ i → ⊥). all k q (omega (arith, ne)) at)
-    (cases_eq k i)
+-- what holds of all, if it holds of each item of a list
+pub tells_all_items : (P : ℕ → Type 0) (xs : List ℕ) (r : Bool) → MatchBool r (AllWithin P xs 0 (length xs)) ((k : ℕ) × (k < length xs) × HoldsAt (λ q. P q → ⊥) xs k)
+    → (((k q : ℕ) → k < length xs → slice_index_or xs k q ≡ q → P q) → (q : ℕ) → P q) → (IsTrue r → (q : ℕ) → P q) × (((q : ℕ) → P q) → IsTrue r)
+tells_all_items P xs true h whole = (λ e. whole (λ k q l at. subst P at (h k q (omega arith) l)), λ x. refl)
+tells_all_items P xs false h whole = (λ e. absurd (both_ways false refl e), λ all. absurd (h.2 0 (all (slice_index_or xs h.0 0))))
+
+-- what a test says of what it answers, as one thing for a search to find
+pub record Told (P : Type 0) : Type 0 where
+  pub holds : P
+
+pub told_true : {P : Type 0} {b : Bool} → (IsTrue b → P) × (P → IsTrue b) → true ≡ b → Told P
+told_true d e = record { holds = d.0 (sym e) }
+
+pub told_false : {P : Type 0} {b : Bool} → (IsTrue b → P) × (P → IsTrue b) → false ≡ b → Told (P → ⊥)
+told_false d e = record { holds = λ x. both_ways _ (sym e) (d.1 x) }

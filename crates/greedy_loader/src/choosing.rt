@@ -16,12 +16,8 @@ fn first_clean(ship: &Ship, cargo: &Cargo, layout: &Layout, x: &Container) -> Op
     requires dest { x.now.dest ≤ length cargo.now.rotation }
     ensures { MatchOption result ((p : ℕ) → IsClean ship.now cargo.now layout.now.plan x.now p → ⊥) (λ p. IsLeast (IsClean ship.now cargo.now layout.now.plan x.now) p) }
 {
-    for p in 0..ship.places() {
-        if is_clean(ship, cargo, layout, x, PlaceNo(p)) {
-            return Some(PlaceNo(p));
-        }
-    }
-    None
+    let first = (0..ship.places()).find(|p| is_clean(ship, cargo, layout, x, PlaceNo(*p)))?;
+    Some(PlaceNo(first))
 }
 
 /// The first place that is open for a container.
@@ -30,12 +26,8 @@ fn first_open(ship: &Ship, cargo: &Cargo, layout: &Layout, x: &Container) -> Opt
     requires kg { x.now.kg ≤ 99999 }
     ensures { MatchOption result ((p : ℕ) → IsOpen ship.now cargo.now layout.now.plan x.now p → ⊥) (λ p. IsLeast (IsOpen ship.now cargo.now layout.now.plan x.now) p) }
 {
-    for p in 0..ship.places() {
-        if is_open(ship, cargo, layout, x, PlaceNo(p)) {
-            return Some(PlaceNo(p));
-        }
-    }
-    None
+    let first = (0..ship.places()).find(|p| is_open(ship, cargo, layout, x, PlaceNo(*p)))?;
+    Some(PlaceNo(first))
 }
 
 /// Where a container goes: to the first clean place by number; where none is clean, to the first open one. None

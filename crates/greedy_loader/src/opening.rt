@@ -107,12 +107,11 @@ fn is_apart_under(
     if !names_class(ship.separation(e), x) {
         return true;
     }
-    for q in layout.classed.as_slice() {
-        if !is_apart_by(ship, cargo, &layout.plan, x, place, *q, e) {
-            return false;
-        }
-    }
-    true
+    let plan = &layout.plan;
+    layout
+        .classed
+        .iter()
+        .all(|q| is_apart_by(ship, cargo, plan, x, place, *q, e))
 }
 
 /// Whether all separations keep a container, at a place, from all that stands.
@@ -124,12 +123,7 @@ fn is_apart(ship: &Ship, cargo: &Cargo, layout: &Layout, x: &Container, place: &
     if x.class.is_none() {
         return true;
     }
-    for e in 0..ship.separations() {
-        if !is_apart_under(ship, cargo, layout, x, place, e) {
-            return false;
-        }
-    }
-    true
+    (0..ship.separations()).all(|e| is_apart_under(ship, cargo, layout, x, place, e))
 }
 
 /// Whether a tier is more than one above another.

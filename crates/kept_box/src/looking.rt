@@ -34,12 +34,9 @@ fn forces_any(b: &Box01, terms: &[Term], slack: i64) -> bool
     ensures none { result ≡ false → NoneForced b.now slack terms.now }
     ensures some { result ≡ true → AnyForced b.now slack terms.now }
 {
-    for term in terms {
-        if is_forced(b.at(term.at), slack, term.by) {
-            return true;
-        }
-    }
-    false
+    terms
+        .iter()
+        .any(|term| is_forced(b.at(term.at), slack, term.by))
 }
 
 // Whether no coefficient of a base row passes this slack.

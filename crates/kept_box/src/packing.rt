@@ -64,12 +64,7 @@ fn leaves_out(model: &Model, r: &Row, vars: &[VarNo]) -> bool
     requires inside { All (λ v. v < length (variables model.now)) vars.now }
     ensures { result ≡ true → All (λ v. (whole model.now).coef r.now v ≡ pos 0) vars.now }
 {
-    for x in vars {
-        if !is_left_out(model, r, *x) {
-            return false;
-        }
-    }
-    true
+    vars.iter().all(|x| is_left_out(model, r, *x))
 }
 
 // Whether a row is a packing row none of whose variables is at 1. Then it isn't violated, and forces nothing.

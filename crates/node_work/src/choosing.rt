@@ -11,12 +11,8 @@ pub fn first_free(model: &Model, b: &Box01) -> Option<VarNo>
     requires { length b.now ≡ length (variables model.now) }
     ensures { MatchOption result (All IsSome b.now) (λ x. (x < length (variables model.now)) × (slice_get b.now x ≡ Some None)) }
 {
-    for v in 0..model.vars() {
-        if b.at(VarNo(v)).is_none() {
-            return Some(VarNo(v));
-        }
-    }
-    None
+    let first = (0..model.vars()).find(|v| b.at(VarNo(*v)).is_none())?;
+    Some(VarNo(first))
 }
 
 /// A free variable: one of the cheapest voyage that the planner finds, or else the first.

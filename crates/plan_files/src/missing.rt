@@ -21,10 +21,6 @@ pub fn first_missing(cargo: &Cargo, call: CallNo, placed: &FlagList) -> Option<C
     ensures is { result ≡ first_missing cargo.now call placed.now }
     ensures inside { IfSome result (λ c. c < length cargo.now.containers) }
 {
-    for number in 0..cargo.len() {
-        if is_missing(cargo, call, placed, ContainerNo(number)) {
-            return Some(ContainerNo(number));
-        }
-    }
-    None
+    let first = (0..cargo.len()).find(|n| is_missing(cargo, call, placed, ContainerNo(*n)))?;
+    Some(ContainerNo(first))
 }

@@ -1,8 +1,9 @@
 -- Full boxes, variable by variable and row by row.
-use Rattle.std.proofs.Common.{◌≡◌, ◌≢◌, ℕ, zero, suc, ◌+◌, ◌<◌, ◌≤◌, ◌⊎◌, inl, inr, Bool, true, false, not, ◌&&◌, List, ◌∷◌, drop, length, Option, Some, None, pos, refl, sym, ◌∙◌, ap, add-one, arith}
+use Rattle.std.proofs.Common.{◌≡◌, ◌≢◌, ℕ, zero, suc, ◌+◌, ◌<◌, ◌≤◌, ◌⊎◌, inl, inr, Bool, true, false, not, ◌&&◌, List, [], ◌∷◌, length, Option, Some, None, pos, refl, sym, ◌∙◌, ap, arith}
 use Rattle.std.specs.Prelude.{slice_get}
-use Rattle.std.proofs.lemmas.Option.{get_or_from_slice_get, slice_get_within}
-use Rattle.std.proofs.lemmas.List.{drop_all}
+use Rattle.std.specs.Bool.{MatchBool}
+use Rattle.std.specs.Option.{is_some}
+use Rattle.std.proofs.lemmas.Bool.{both_ways}
 use Rattle.zero_one_rows.specs.declared.program.Row.{Row}
 use Rattle.zero_one_rows.specs.Variables.{Voyage, variables}
 use Rattle.zero_one_rows.specs.Rows.{whole}
@@ -11,19 +12,16 @@ use Rattle.proof_trees.specs.Boxes.{Box, at, violated}
 use Rattle.search_core.specs.Machine.{bit_of, is_fixed, fixed_below, bits, nat_of, price, breaks_none}
 use Rattle.kept_box.specs.Full.{is_one, ones}
 use Rattle.dual_bound.proofs.Summing.{sum_same, same_or_other}
-use Rattle.record_judge.proofs.Ways.{there}
-use Rattle.record_judge.proofs.Listed.{rest_cons}
 
 -- ## Variables
 
-fixed_here : (o : Option Bool) → (o ≡ None → ⊥) → is_fixed o ≡ true
-fixed_here None some = absurd (some refl)
-fixed_here (Some y) some = refl
+fixed : (o : Option Bool) → is_fixed o ≡ is_some o
+fixed None = refl
+fixed (Some y) = refl
 
-pub fixed_more : (b : Box) (v : ℕ) (o : Option Bool) → fixed_below v b ≡ true → slice_get b v ≡ Some o → (o ≡ None → ⊥) → fixed_below (v + 1) b ≡ true
-fixed_more b v o h at_v some =
-    let here : is_fixed (at b v) ≡ true = ap is_fixed (get_or_from_slice_get b v o None at_v) ∙ fixed_here o some in
-    rw add-one (ap (λ (c : Bool). c && fixed_below v b) here ∙ h)
+free : (o : Option Bool) → is_some o ≡ false → o ≡ None
+free None e = refl
+free (Some y) e = absurd (both_ways false refl (sym e))
 
 and_false : (c : Bool) → (c && false) ≡ false
 and_false true = refl
@@ -37,20 +35,36 @@ one_free b (suc n) v lt free = by (same_or_other v n) (λ below. one_free b n v 
     by (inl same) rest = ap (λ (o : Option Bool). is_fixed o && fixed_below n b) (ap (at b) (sym same) ∙ free)
     by (inr other) rest = ap (λ (c : Bool). is_fixed (at b n) && c) (rest (omega (arith, lt, other))) ∙ and_false (is_fixed (at b n))
 
+-- what a test of each variable answered
+pub told_fixed : (b : Box) (r : Bool) (n m : ℕ) → m ≡ n → MatchBool r ((k : ℕ) → 0 ≤ k → k < m → is_some (at b k) ≡ true) ((k : ℕ) × (0 ≤ k) × (k < m) × (is_some (at b k) ≡ false)) → r ≡ fixed_below n b
+told_fixed b r n m is h = by r h
+  where
+    all_fixed : (i : ℕ) → ((k : ℕ) → k < i → is_some (at b k) ≡ true) → fixed_below i b ≡ true
+    all_fixed zero each = refl
+    all_fixed (suc i) each = ap (λ (c : Bool). c && fixed_below i b) (fixed (at b i) ∙ each i (omega arith)) ∙ all_fixed i (λ k l. each k (omega arith))
+
+    by : (answer : Bool) → MatchBool answer ((k : ℕ) → 0 ≤ k → k < m → is_some (at b k) ≡ true) ((k : ℕ) × (0 ≤ k) × (k < m) × (is_some (at b k) ≡ false)) → answer ≡ fixed_below n b
+    by true each = sym (all_fixed n (λ k l. each k (omega arith) (omega (arith, l, is))))
+    by false one = sym (one_free b n one.0 (omega (arith, one.2, is)) (free (at b one.0) one.3))
+
 -- ## Rows
 
-module _ (m : Voyage) (base : List Row) (b : Box) (k : ℕ) (r : Row) (here : slice_get base k ≡ Some r) where
-  rest_is : drop k base ≡ r ∷ drop (k + 1) base
-  rest_is = rest_cons base k r (slice_get_within base k r here) (there base k r here)
+module _ (m : Voyage) (b : Box) where
+  all_kept : (rows : List Row) → ((k : ℕ) (r : Row) → k < length rows → slice_get rows k ≡ Some r → violated (whole m) b r ≡ false) → breaks_none (whole m) rows b ≡ true
+  all_kept [] each = refl
+  all_kept (r ∷ rs) each = ap (λ (c : Bool). not c && breaks_none (whole m) rs b) (each 0 r (omega arith) refl) ∙ all_kept rs (λ k q l e. each (suc k) q (omega arith) e)
 
-  pub none_more : breaks_none (whole m) (drop k base) b ≡ breaks_none (whole m) base b → violated (whole m) b r ≡ false → breaks_none (whole m) (drop (k + 1) base) b ≡ breaks_none (whole m) base b
-  none_more h meets = sym (ap (λ (rs : List Row). breaks_none (whole m) rs b) rest_is ∙ ap (λ (c : Bool). not c && breaks_none (whole m) (drop (k + 1) base) b) meets) ∙ h
+  one_broken : (rows : List Row) (k : ℕ) → k < length rows → ((r : Row) → slice_get rows k ≡ Some r → violated (whole m) b r ≡ true) → breaks_none (whole m) rows b ≡ false
+  one_broken [] k l broken = absurd (omega arith)
+  one_broken (r ∷ rs) zero l broken = ap (λ (c : Bool). not c && breaks_none (whole m) rs b) (broken r refl)
+  one_broken (r ∷ rs) (suc k) l broken = ap (λ (c : Bool). not (violated (whole m) b r) && c) (one_broken rs k (omega arith) broken) ∙ and_false (not (violated (whole m) b r))
 
-  pub one_broken : breaks_none (whole m) (drop k base) b ≡ breaks_none (whole m) base b → violated (whole m) b r ≡ true → breaks_none (whole m) base b ≡ false
-  one_broken h broken = sym h ∙ (ap (λ (rs : List Row). breaks_none (whole m) rs b) rest_is ∙ ap (λ (c : Bool). not c && breaks_none (whole m) (drop (k + 1) base) b) broken)
-
-pub none_left : (m : Voyage) (base : List Row) (b : Box) (k : ℕ) → length base ≤ k → breaks_none (whole m) (drop k base) b ≡ breaks_none (whole m) base b → breaks_none (whole m) base b ≡ true
-none_left m base b k le h = sym h ∙ ap (λ (rs : List Row). breaks_none (whole m) rs b) (drop_all k base le)
+  -- what a test of each row answered
+  pub told_kept : (rows : List Row) (r : Bool) (n : ℕ) → n ≡ length rows
+      → MatchBool r ((k : ℕ) → 0 ≤ k → k < n → (q : Row) → slice_get rows k ≡ Some q → violated (whole m) b q ≡ false) ((k : ℕ) × (0 ≤ k) × (k < n) × ((q : Row) → slice_get rows k ≡ Some q → violated (whole m) b q ≡ true))
+      → r ≡ breaks_none (whole m) rows b
+  told_kept rows true n is each = sym (all_kept rows (λ k q l. each k (omega arith) (omega (arith, l, is)) q))
+  told_kept rows false n is one = sym (one_broken rows one.0 (omega (arith, one.2, is)) one.3)
 
 -- ## The price
 

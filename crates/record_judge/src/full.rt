@@ -16,13 +16,7 @@ fn fixes_all(model: &Model, b: &Box01) -> bool
     requires { length b.now ≡ length (variables model.now) }
     ensures { result ≡ fixed_below (length (variables model.now)) b.now }
 {
-    for v in 0..model.vars() {
-        match b.at(VarNo(v)) {
-            Some(_) => (),
-            None => return false,
-        }
-    }
-    true
+    (0..model.vars()).all(|v| b.at(VarNo(v)).is_some())
 }
 
 // Whether no base row is violated.
@@ -31,13 +25,7 @@ fn breaks_none(model: &Model, b: &Box01) -> bool
     ensures { result ≡ breaks_none_of (whole model.now) (base_rows model.now) b.now }
 {
     rows_are_listed();
-    for k in 0..model.base_rows() {
-        let row = base_row(model, k);
-        if violates(model, b, &row) {
-            return false;
-        }
-    }
-    true
+    (0..model.base_rows()).all(|k| !violates(model, b, &base_row(model, k)))
 }
 
 /// Whether each variable is fixed, and no base row is violated. It takes no memory.

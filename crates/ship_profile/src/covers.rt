@@ -99,12 +99,7 @@ fn pairs_at(
 fn named_again(named: &NamedStacks, these: &[StackNo]) -> Option<StackNo>
     ensures { result ≡ find (is_among named.now) these.now }
 {
-    for stack in these {
-        if named.has(*stack) {
-            return Some(*stack);
-        }
-    }
-    None
+    these.iter().copied().find(|stack| named.has(*stack))
 }
 
 /// Appends stacks to a list.

@@ -1,3 +1,5 @@
+pub mod Ranges
+pub mod Turns
 pub mod Members
 pub mod Fitting
 pub mod Distinct

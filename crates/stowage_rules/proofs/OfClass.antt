@@ -1,8 +1,9 @@
 -- The places of a class, gathered in their order, and the first of them that is too near.
-use Rattle.std.specs.Prelude.{◌≡◌, ℕ, suc, zero, ◌+◌, ◌<◌, ◌≤◌, ◌⊎◌, List, [], ◌∷◌, ◌++◌, Bool, true, Some, length, slice_get}
-use Rattle.std.proofs.Common.{refl, sym, ◌∙◌, ap, arith, subst, ⊎_elim}
-use Rattle.std.proofs.lemmas.Bool.{cases_order}
-use Rattle.std.proofs.lemmas.Option.{none-some, same_Some, slice_get_within}
+use Rattle.std.specs.Prelude.{◌≡◌, ℕ, suc, zero, ◌+◌, ◌<◌, ◌≤◌, ◌⊎◌, List, [], ◌∷◌, ◌++◌, Bool, true, false, Some, length, slice_get}
+use Rattle.std.specs.List.{AllWithin}
+use Rattle.std.proofs.Common.{get_or, refl, sym, ◌∙◌, ap, arith, subst, ⊎_elim}
+use Rattle.std.proofs.lemmas.Bool.{both_ways, cases_order}
+use Rattle.std.proofs.lemmas.Option.{none-some, same_Some, slice_get_within, slice_get-get_or}
 use Rattle.stow_data.specs.declared.geometry.Place.{Place}
 use Rattle.stow_data.specs.declared.geometry.Separation.{Separation as Separated}
 use Rattle.stow_data.specs.Ship.{Ship, places}
@@ -61,14 +62,18 @@ module _ (cargo : Cargo) (plan : Plan) (class : List ℕ) where
         (split_get found (n ∷ []) k q b);
   }
 
--- one item more of which something doesn't hold
-pub none_more : (P : ℕ → Type 0) (found : List ℕ) (i q : ℕ) → slice_get found i ≡ Some q → ((j r : ℕ) → j < i → slice_get found j ≡ Some r → P r → ⊥) → (P q → ⊥) → (j r : ℕ) → j < i + 1 → slice_get found j ≡ Some r → P r → ⊥
-none_more P found i q is before not_here j r l at x = ⊎_elim
-    (λ (e : j ≡ i). not_here (subst P (same_Some r q (sym at ∙ (ap (slice_get found) e ∙ is))) x))
-    (λ (o : (j < i) ⊎ (i < j)). before j r (⊎_elim (λ (y : j < i). y) (λ (y : i < j). omega arith) o) at x)
-    (cases_order j i)
-
 module _ (ship : Ship) (cargo : Cargo) (plan : Plan) (rule : Separated) (p : ℕ) (found : List ℕ) where
+  -- what a test for one place answered of this one
+  abbrev pub IsTold : Bool → ℕ → Type 0
+  IsTold answer q = (first second : Place) → slice_get (places ship) p ≡ Some first → slice_get (places ship) q ≡ Some second → answer ≡ near ship rule.level first second
+
+  -- the first items, of which the test answered no, aren't too near
+  pub none_told : (n : ℕ) → AllWithin (IsTold false) found 0 n → (j r : ℕ) → j < n → slice_get found j ≡ Some r → AreTooNear ship cargo plan rule p r → ⊥
+  none_told n told j r l at x =
+      let within : j < length found = slice_get_within found j r at in
+      let same : get_or found j 0 ≡ r = same_Some _ _ (sym (slice_get-get_or found j 0 within) ∙ at) in
+      both_ways false refl (subst (IsTold false) same (told j 0 (omega arith) l) x.first x.second x.is_first x.is_second ∙ x.near)
+
   -- where no item of the list before this one is too near, no place before it is
   pub none_before : (k q : ℕ) → AreOfClass cargo plan rule.b (length (places ship)) found → slice_get found k ≡ Some q → ((j r : ℕ) → j < k → slice_get found j ≡ Some r → AreTooNear ship cargo plan rule p r → ⊥) → (r : ℕ) → r < q → AreTooNear ship cargo plan rule p r → ⊥
   none_before k q gathered is before r l x =

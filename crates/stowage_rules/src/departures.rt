@@ -44,12 +44,7 @@ fn all_fit(ship: &Ship, cargo: &Cargo, plan: &Plan) -> bool
     requires { length plan.now ≡ length (places ship.now) }
     ensures { IsTrue result ↔ ((n : ℕ) → FitsAt ship.now cargo.now plan.now n) }
 {
-    for p in 0..ship.places() {
-        if !fits_at(ship, cargo, plan, PlaceNo(p)) {
-            return false;
-        }
-    }
-    true
+    (0..ship.places()).all(|p| fits_at(ship, cargo, plan, PlaceNo(p)))
 }
 
 /// Whether two places, if they aren't one, hold different containers and have no half-cell in common where both are filled.
@@ -74,12 +69,7 @@ fn stands_alone_at(ship: &Ship, plan: &Plan, p: PlaceNo) -> bool
     requires inside { p < length (places ship.now) }
     ensures { IsTrue result ↔ StandsAloneAt ship.now plan.now p }
 {
-    for q in 0..ship.places() {
-        if !stands_alone(ship, plan, p, PlaceNo(q)) {
-            return false;
-        }
-    }
-    true
+    (0..ship.places()).all(|q| stands_alone(ship, plan, p, PlaceNo(q)))
 }
 
 /// Whether each place is so beside all others.
@@ -87,12 +77,7 @@ fn all_stand_alone(ship: &Ship, plan: &Plan) -> bool
     requires { length plan.now ≡ length (places ship.now) }
     ensures { IsTrue result ↔ ((n : ℕ) → StandsAloneAt ship.now plan.now n) }
 {
-    for p in 0..ship.places() {
-        if !stands_alone_at(ship, plan, PlaceNo(p)) {
-            return false;
-        }
-    }
-    true
+    (0..ship.places()).all(|p| stands_alone_at(ship, plan, PlaceNo(p)))
 }
 
 /// Whether a plan with an entry for each place is well formed.
@@ -123,12 +108,7 @@ fn is_somewhere(ship: &Ship, plan: &Plan, c: ContainerNo) -> bool
     requires { length plan.now ≡ length (places ship.now) }
     ensures { IsTrue result ↔ IsSomewhere plan.now c }
 {
-    for p in 0..ship.places() {
-        if holds(plan, PlaceNo(p), c) {
-            return true;
-        }
-    }
-    false
+    (0..ship.places()).any(|p| holds(plan, PlaceNo(p), c))
 }
 
 /// Whether a container stands somewhere exactly where it is aboard after the call.
@@ -145,12 +125,7 @@ pub fn holds_aboard(ship: &Ship, cargo: &Cargo, plan: &Plan, call: CallNo) -> bo
     requires { length plan.now ≡ length (places ship.now) }
     ensures { IsTrue result ↔ HoldsAboard cargo.now call plan.now }
 {
-    for c in 0..cargo.len() {
-        if !aboard_at(ship, cargo, plan, call, ContainerNo(c)) {
-            return false;
-        }
-    }
-    true
+    (0..cargo.len()).all(|c| aboard_at(ship, cargo, plan, call, ContainerNo(c)))
 }
 
 /// Whether a plan is a legal departure of the call.

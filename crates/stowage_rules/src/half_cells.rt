@@ -80,10 +80,5 @@ pub fn is_taken(ship: &Ship, plan: &Plan, h: &Half) -> bool
     requires { length plan.now ≡ length (places ship.now) }
     ensures { IsTrue result ↔ IsTaken ship.now plan.now h.now }
 {
-    for p in 0..ship.places() {
-        if takes(ship, plan, h, PlaceNo(p)) {
-            return true;
-        }
-    }
-    false
+    (0..ship.places()).any(|p| takes(ship, plan, h, PlaceNo(p)))
 }

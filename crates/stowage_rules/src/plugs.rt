@@ -22,10 +22,6 @@ pub fn first_unplugged(ship: &Ship, cargo: &Cargo, plan: &Plan) -> Option<PlaceN
     requires { length plan.now ≡ length (places ship.now) }
     ensures { MatchOption result ((p : ℕ) → IsUnplugged ship.now cargo.now plan.now p → ⊥) (λ p. IsLeast (IsUnplugged ship.now cargo.now plan.now) p) }
 {
-    for p in 0..ship.places() {
-        if is_unplugged(ship, cargo, plan, PlaceNo(p)) {
-            return Some(PlaceNo(p));
-        }
-    }
-    None
+    let first = (0..ship.places()).find(|p| is_unplugged(ship, cargo, plan, PlaceNo(*p)))?;
+    Some(PlaceNo(first))
 }

@@ -35,12 +35,10 @@ fn first_near_to(
     if !has_class(cargo, plan, p, &rule.a) {
         return None;
     }
-    for q in of_second {
-        if are_near(ship, rule.level, p, PlaceNo(*q)) {
-            return Some(PlaceNo(*q));
-        }
-    }
-    None
+    let first = of_second
+        .iter()
+        .find(|q| are_near(ship, rule.level, p, PlaceNo(**q)))?;
+    Some(PlaceNo(*first))
 }
 
 /// The first two places that are too near, against a separation.

@@ -213,12 +213,7 @@ fn is_table(value: &Value) -> bool
 fn all_tables(array: &Array) -> bool
     ensures { result ≡ all_tables (array_view array.now) }
 {
-    for value in array {
-        if !is_table(value) {
-            return false;
-        }
-    }
-    true
+    array.iter().all(|value| is_table(value))
 }
 
 /// An array of tables.

@@ -11,12 +11,7 @@ use stow_data::{Bytes, Length, Name, NameList, NoMemory, Word, WordList};
 
 /// Whether a text holds another one.
 fn has(text: &Bytes, part: &[u8]) -> bool {
-    for front in 0..text.len() {
-        if text.as_slice()[front..].starts_with(part) {
-            return true;
-        }
-    }
-    false
+    (0..text.len()).any(|front| text.as_slice()[front..].starts_with(part))
 }
 
 fn group(alloc: Global, bay: u32, tier: u32, facts: Option<Facts>) -> CellGroup

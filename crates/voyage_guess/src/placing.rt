@@ -95,12 +95,7 @@ fn is_kept_away(yard: &Yard, facts: &Facts, class: u32, bay: u32, spot: Spot) ->
     if class == 0 {
         return false;
     }
-    for other in yard.classed.iter() {
-        if is_near(facts.level(class, other.class), bay, spot, other) {
-            return true;
-        }
-    }
-    false
+    yard.classed.iter().any(|other| is_near(facts.level(class, other.class), bay, spot, other))
 }
 
 /// What a place costs by what stands below it and under its cover: `least` is the least due there.

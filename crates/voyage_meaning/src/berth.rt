@@ -60,12 +60,8 @@ fn first_set(flags: &FlagList) -> Option<u32>
     requires { length flags.now < 2 ^ 32 }
     ensures { MatchOption result (NoneSet flags.now) (λ n. IsFirstSet flags.now n) }
 {
-    for n in 0..flags.len() as u32 {
-        if *flags.at(n as usize) {
-            return Some(n);
-        }
-    }
-    None
+    let first = flags.iter().position(|is_set| *is_set)?;
+    Some(first as u32)
 }
 
 /// Whether the call is the destination of a container.

@@ -62,12 +62,7 @@ fn is_same(ship: &Ship, a: &Plan, b: &Plan) -> bool
     requires second { length b.now ≡ length (places ship.now) }
     ensures { IsTrue result ↔ (a.now ≡ b.now) }
 {
-    for p in 0..ship.places() {
-        if !is_same_at(a, b, PlaceNo(p)) {
-            return false;
-        }
-    }
-    true
+    (0..ship.places()).all(|p| is_same_at(a, b, PlaceNo(p)))
 }
 
 /// Whether the plan is this one, the quay is empty and all covers are on.

@@ -172,12 +172,7 @@ fn is_same_at(a: &Plan, b: &Plan, p: u32) -> bool {
 
 /// Whether two plans of a ship are the same.
 fn is_same(ship: &Ship, a: &Plan, b: &Plan) -> bool {
-    for p in 0..ship.places() {
-        if !is_same_at(a, b, p) {
-            return false;
-        }
-    }
-    true
+    (0..ship.places()).all(|p| is_same_at(a, b, p))
 }
 
 /// Does the moves of a call at a berth, prints them, what is unfinished and whether the departure is the one that is given;

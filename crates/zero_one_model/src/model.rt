@@ -98,7 +98,7 @@ impl<'a> Model<'a> {
         self.rows
     }
 
-    /// A program keeps its limits: a law, which costs nothing when it runs.
+    /// A program has at most 200,000 variables and 2,000,000 rows: a law, which costs nothing when it runs.
     pub fn keeps_limits(&self)
         ensures vars { length (variables self.now) ≤ 200000 }
         ensures rows { length (all_rows self.now) ≤ 2000000 }

@@ -1,3 +1,4 @@
+pub mod AnyOf
 pub mod Places
 pub mod EachOnce
 pub mod Signed

@@ -7,7 +7,7 @@ ghost use Rattle.zero_one_rows.specs.Levels.{has_level, near_at, pairs_with, pai
 
 use crate::counts::as_one;
 use crate::row_lists::push_item;
-use crate::row_tests::{are_near, level_of};
+use crate::row_tests::are_near;
 use std::alloc::Global;
 use stow_data::{NoMemory, PlaceNo, Seq, Ship};
 
@@ -38,12 +38,7 @@ pub struct LevelPairs {
 fn is_used(ship: &Ship, level: u32) -> bool
     ensures { result ≡ has_level ship.now.separations level }
 {
-    for e in 0..ship.separations() {
-        if level_of(ship, e) == level {
-            return true;
-        }
-    }
-    false
+    (0..ship.separations()).any(|e| ship.separation(e).level == level)
 }
 
 /// How many places are near a place by a level.

@@ -95,12 +95,7 @@ fn lies_between(cover: &Cover, s: StackNo, t: StackNo) -> bool
 fn are_joined(ship: &Ship, s: StackNo, t: StackNo) -> bool
     ensures { result ≡ cover_joins ship.now.covers s t }
 {
-    for c in 0..ship.covers() {
-        if lies_between(ship.cover(CoverNo(c)), s, t) {
-            return true;
-        }
-    }
-    false
+    (0..ship.covers()).any(|c| lies_between(ship.cover(CoverNo(c)), s, t))
 }
 
 /// Whether a half-cell lies under a cover on which the other is the lowest of its column.

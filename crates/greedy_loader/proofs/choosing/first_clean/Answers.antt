@@ -1,14 +1,22 @@
-use Rattle.std.proofs.Common.{arith, below_more}
-use Rattle.std.proofs.lemmas.Bool.{both_ways}
+use Rattle.std.proofs.Common.{ℕ, arith, rules, ◌<◌, ◌≤◌, length, subst, sym, MatchOption, None, Some}
+use Rattle.std.specs.Prelude.{Option}
+use Rattle.std.proofs.lemmas.Iterator.{first_from_Range}
 use Rattle.std.proofs.lemmas.Option.{slice_get_within}
 use Rattle.stow_data.specs.Ship.{places}
+use Rattle.stowage_rules.specs.Faults.{IsLeast}
+use Rattle.greedy_loader.specs.Rule.{IsClean}
 use Rattle.greedy_loader.proofs.choosing.first_clean.Goals as goal
 
-pub loop-p-preserved : goal.loop-p-preserved
-loop-p-preserved c = below_more _ _ c.loop-p.invariant (λ x. both_ways c.is_clean.result c.if-is_clean.false (c.is_clean.ensures.1 x))
-
-pub returns-then-is_clean : goal.returns-then-is_clean
-returns-then-is_clean c = record { holds = c.is_clean.ensures.0 c.if-is_clean.true; none_below = c.loop-p.invariant }
+pub returns-in_err-first : goal.returns-in_err-first
+returns-in_err-first c =
+    let at : ℕ → Type 0 = λ n. IsClean c.args.ship.now c.args.cargo.now c.args.layout.now.plan c.args.x.now n in
+    let none : (k : ℕ) → 0 ≤ k → k < c.places.result → at k → ⊥ = first_from_Range _ _ _ None at (λ n. at n → ⊥) c.in_err-first.ensures.ran (λ x q k. search rules) (λ x q k. search rules) in
+    subst (λ (r : Option ℕ). MatchOption r ((p : ℕ) → at p → ⊥) (IsLeast at)) (sym c.from_residual.ensures)
+    (λ p x. none p (omega arith) (omega (arith, slice_get_within (places c.args.ship.now) p x.place x.is_place)) x)
 
 pub returns : goal.returns
-returns c = λ p x. c.loop-p.invariant p (omega (arith, slice_get_within (places c.args.ship.now) p x.place x.is_place)) x
+returns c =
+    let at : ℕ → Type 0 = λ n. IsClean c.args.ship.now c.args.cargo.now c.args.layout.now.plan c.args.x.now n in
+    let p : ℕ = c.in_ok-first.first in
+    let found : (0 ≤ p) × (p < c.places.result) × at p × ((k : ℕ) → 0 ≤ k → k < p → at k → ⊥) = first_from_Range _ _ _ (Some p) at (λ n. at n → ⊥) c.in_ok-first.ensures.ran (λ x q k. search rules) (λ x q k. search rules) in
+    record { holds = found.2; none_below = λ k l. found.3 k (omega arith) l }

@@ -1,13 +1,14 @@
-use Rattle.std.proofs.Common.{arith, sym, ◌∙◌}
+use Rattle.std.proofs.Common.{rules, ◌≡◌, ℕ, Bool, true, false, Some, slice_get}
+use Rattle.zero_one_rows.specs.declared.program.Row.{Row as Rows}
+use Rattle.proof_trees.specs.Boxes.{violated}
+use Rattle.zero_one_rows.specs.Rows.{whole}
 use Rattle.zero_one_rows.specs.Counted.{base_rows}
-use Rattle.record_judge.proofs.Fixed.{none_more, one_broken, none_left}
+use Rattle.stow_data.proofs.Ranges.{all_from_Range}
+use Rattle.record_judge.proofs.Fixed.{told_kept}
 use Rattle.record_judge.proofs.full.breaks_none.Goals as goal
 
-pub loop-k-preserved : goal.loop-k-preserved
-loop-k-preserved c = none_more c.args.model.now (base_rows c.args.model.now) c.args.b.now c.loop-k.k c.base_row-row.result c.base_row-row.ensures.place c.loop-k.invariant (sym c.violates.ensures ∙ c.if-violates.false)
-
-pub returns-then-violates : goal.returns-then-violates
-returns-then-violates c = sym (one_broken c.args.model.now (base_rows c.args.model.now) c.args.b.now c.loop-k.k c.base_row-row.result c.base_row-row.ensures.place c.loop-k.invariant (sym c.violates.ensures ∙ c.if-violates.true))
-
 pub returns : goal.returns
-returns c = sym (none_left c.args.model.now (base_rows c.args.model.now) c.args.b.now c.loop-k.k (omega (arith, c.loop-k-test.false, c.base_rows-k-end.ensures)) c.loop-k.invariant)
+returns c =
+    let breaks : Bool → ℕ → Type 0 = λ answer k. (r : Rows) → slice_get (base_rows c.args.model.now) k ≡ Some r → violated (whole c.args.model.now) c.args.b.now r ≡ answer in
+    told_kept c.args.model.now c.args.b.now (base_rows c.args.model.now) c.all.result c.base_rows.result c.base_rows.ensures
+    (all_from_Range _ _ _ _ (breaks false) (breaks true) c.all.ensures.ran (λ x q k. search rules) (λ x q k. search rules))
