@@ -28,6 +28,6 @@ pub use lines::Line;
 pub use nodes::Node;
 pub use reading::read_cert;
 pub use refusals::BoundNo;
-pub use trails::{SharedRecord, Trail, share_all};
+pub use trails::{SharedRecord, Trail};
 pub use tree::{End, Head, Outcome, Record, Tree};
 pub use writing::{write_cert, write_row};

@@ -61,9 +61,8 @@ fn work_on_stand(
     ensures worked { IfOk result (Works model.now (begins_at model.now node.now) (most_at node.now) cut) }
 {
     let path = node.path.as_slice();
-    let trail = node.trail.as_slice();
-    stand.walk_to(alloc, model, path, trail)?;
-    scale.price_along(alloc, model, table, trail)?;
+    stand.walk_to(alloc, model, path, &node.trail)?;
+    scale.price_along(alloc, model, table, &node.trail)?;
     let wanted = Wanted {
         cut,
         enough: 0,

@@ -1,5 +1,5 @@
 //! Multipliers that are kept from node to node, with the dual value of a box.
-ghost use Rattle.std.specs.Prelude.{◌≡◌, ◌+◌, ◌≤◌, ◌<◌, true, All, IfOk, IfSome, OnOk, Some, [], length, map, slice_set, take};
+ghost use Rattle.std.specs.Prelude.{◌≡◌, ◌+◌, ◌≤◌, ◌<◌, true, All, IfOk, IfSome, OnOk, Some, [], drop, length, map, slice_set, take};
 ghost use Rattle.proof_trees.specs.Multipliers.{Multipliers as Prices, raised, raised_all};
 ghost use Rattle.proof_trees.specs.Trees.{begun};
 ghost use Rattle.zero_one_rows.specs.declared.program.Row.{Row as Rows};
@@ -12,7 +12,7 @@ ghost use Rattle.node_work.specs.Starts.{priced, prices_along, InRange};
 ghost use Rattle.node_work.specs.Scales.{AreNamed, IsScale};
 
 use crate::stages::{Stage, lengthened, lower_to, stages_in_common};
-use certificate::{Record, SharedRecord};
+use certificate::{Record, Trail};
 use dual_bound::{AddNo, Gauge, Raised, RowTable};
 use kept_box::BaseMatrix;
 use std::alloc::Global;
@@ -166,23 +166,24 @@ impl<'a> Scale<'a> {
         Ok(())
     }
 
-    // Goes on by the raises of records.
+    // Goes on by the raises of the records from a depth on.
     fn follow(
         &mut self,
         alloc: Global,
         model: &Model,
         table: &RowTable,
-        trail: &[SharedRecord],
+        trail: &Trail,
+        depth: usize,
     ) -> Result<(), NoMemory>
         requires table { table.now ≡ model.now }
         requires scale { IsScale model.now self.old }
-        requires rows { AreNamed model.now trail.now }
-        requires range { InRange self.old.gauge.multipliers trail.now }
+        requires rows { AreNamed model.now (drop depth trail.now) }
+        requires range { InRange self.old.gauge.multipliers (drop depth trail.now) }
         ensures scale { IsScale model.now self.new }
-        ensures prices { OnOk result (self.new.gauge.multipliers ≡ prices_along self.old.gauge.multipliers trail.now) }
+        ensures prices { OnOk result (self.new.gauge.multipliers ≡ prices_along self.old.gauge.multipliers (drop depth trail.now)) }
     {
-        for entry in trail {
-            self.go_on(alloc, model, table, entry.record())?;
+        for k in depth..trail.len() {
+            self.go_on(alloc, model, table, trail.get(k).record())?;
         }
         Ok(())
     }
@@ -193,7 +194,7 @@ impl<'a> Scale<'a> {
         alloc: Global,
         model: &Model,
         table: &RowTable,
-        trail: &[SharedRecord],
+        trail: &Trail,
     ) -> Option<usize>
         requires table { table.now ≡ model.now }
         requires scale { IsScale model.now self.old }
@@ -209,13 +210,7 @@ impl<'a> Scale<'a> {
     }
 
     // Goes back to the last multipliers that are those after the first records. How many they are.
-    fn go_back(
-        &mut self,
-        alloc: Global,
-        model: &Model,
-        table: &RowTable,
-        trail: &[SharedRecord],
-    ) -> usize
+    fn go_back(&mut self, alloc: Global, model: &Model, table: &RowTable, trail: &Trail) -> usize
         requires table { table.now ≡ model.now }
         requires scale { IsScale model.now self.old }
         ensures scale { IsScale model.now self.new }
@@ -237,7 +232,7 @@ impl<'a> Scale<'a> {
         alloc: Global,
         model: &Model,
         table: &RowTable,
-        trail: &[SharedRecord],
+        trail: &Trail,
     ) -> Result<(), NoMemory>
         requires table { table.now ≡ model.now }
         requires scale { IsScale model.now self.old }
@@ -247,7 +242,7 @@ impl<'a> Scale<'a> {
         ensures prices { OnOk result (self.new.gauge.multipliers ≡ prices_along [] trail.now) }
     {
         let depth = self.go_back(alloc, model, table, trail);
-        self.follow(alloc, model, table, &trail[depth..])
+        self.follow(alloc, model, table, trail, depth)
     }
 
     /// Raises multipliers, as a gauge does.

@@ -6,7 +6,7 @@ ghost use Rattle.zero_one_rows.specs.Rows.{whole};
 ghost use Rattle.certificate.specs.Entries.{same_row, raise_of};
 ghost use Rattle.node_work.specs.Scales.{Matches, Staged};
 
-use certificate::{KeptRaise, Record, SharedRecord};
+use certificate::{KeptRaise, Record, Trail};
 use dual_bound::{Gauge, RowTable};
 use std::alloc::Global;
 use stow_data::NoMemory;
@@ -42,15 +42,7 @@ fn same_raise(a: &Raise, b: &KeptRaise) -> bool
 fn same_raises(a: &[Raise], b: &[KeptRaise]) -> bool
     ensures { result ≡ true → a.now ≡ b.now }
 {
-    if a.len() != b.len() {
-        return false;
-    }
-    for (index, raise) in a.iter().enumerate() {
-        if !same_raise(raise, &b[index]) {
-            return false;
-        }
-    }
-    true
+    a.len() == b.len() && a.iter().zip(b).all(|(x, y)| same_raise(x, y))
 }
 
 // Whether a stage is that of a record, which begins from the multipliers before it.
@@ -65,7 +57,7 @@ fn is_of(stage: &Stage, entry: &Record) -> bool
 }
 
 /// How many of the first stages are those of the first records.
-pub fn stages_in_common(stages: &[Stage], trail: &[SharedRecord]) -> usize
+pub fn stages_in_common(stages: &[Stage], trail: &Trail) -> usize
     ensures stages { result ≤ length stages.now }
     ensures records { result ≤ length trail.now }
     ensures alike { Matches (take result stages.now) (take result trail.now) }
@@ -74,7 +66,7 @@ pub fn stages_in_common(stages: &[Stage], trail: &[SharedRecord]) -> usize
         if depth >= trail.len() {
             return depth;
         }
-        if !is_of(stage, trail[depth].record()) {
+        if !is_of(stage, trail.get(depth).record()) {
             return depth;
         }
     }

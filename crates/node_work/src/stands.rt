@@ -16,7 +16,7 @@ ghost use Rattle.node_work.specs.Stands.{entry_in, value_in, box_along, IsStand}
 use crate::ending::end_box;
 use crate::retracing::{halve, retighten};
 use crate::scale::Scale;
-use certificate::{Record, SharedRecord};
+use certificate::{Record, SharedRecord, Trail};
 use dual_bound::RowTable;
 use kept_box::{BaseMatrix, KeptBox};
 use node_ends::Worked;
@@ -41,7 +41,7 @@ pub struct Stand<'a> {
 }
 
 /// How many of the first frames are of the node's first records: their records are the same, and the values too, but for the last.
-fn in_common(frames: &[Frame], path: &[bool], trail: &[SharedRecord]) -> usize
+fn in_common(frames: &[Frame], path: &[bool], trail: &Trail) -> usize
     requires { length trail.now ≡ length path.now }
     ensures frames { result ≤ length frames.now }
     ensures records { result ≤ length trail.now }
@@ -52,7 +52,7 @@ fn in_common(frames: &[Frame], path: &[bool], trail: &[SharedRecord]) -> usize
         if depth >= trail.len() {
             return depth;
         }
-        if !frame.entry.record().is_same(trail[depth].record()) {
+        if !frame.entry.record().is_same(trail.get(depth).record()) {
             return depth;
         }
         if frame.value != path[depth] {
@@ -141,7 +141,7 @@ impl<'a> Stand<'a> {
         model: &Model,
         depth: usize,
         path: &[bool],
-        trail: &[SharedRecord],
+        trail: &Trail,
     ) -> Result<(), NoMemory>
         requires stand { IsStand model.now self.old }
         requires frames { depth ≤ length self.old.frames.items }
@@ -159,7 +159,7 @@ impl<'a> Stand<'a> {
             self.back_to(model, 0);
             return Ok(());
         }
-        self.turn(model, &trail[depth - 1], path[depth - 1])
+        self.turn(model, trail.get(depth - 1), path[depth - 1])
     }
 
     // Goes on from so many records of a node to where it begins.
@@ -169,7 +169,7 @@ impl<'a> Stand<'a> {
         model: &Model,
         depth: usize,
         path: &[bool],
-        trail: &[SharedRecord],
+        trail: &Trail,
     ) -> Result<(), NoMemory>
         requires stand { IsStand model.now self.old }
         requires trail { IsTrail same_row (whole model.now) (root (whole model.now)) path.now (map (entry_of model.now) trail.now) }
@@ -182,7 +182,7 @@ impl<'a> Stand<'a> {
         ensures at { OnOk result (self.new.kept.known ≡ box_along model.now (free_box (whole model.now)) self.new.frames.items) }
     {
         for k in depth..trail.len() {
-            self.redo(alloc, model, &trail[k], path[k])?;
+            self.redo(alloc, model, trail.get(k), path[k])?;
         }
         Ok(())
     }
@@ -193,7 +193,7 @@ impl<'a> Stand<'a> {
         alloc: Global,
         model: &Model,
         path: &[bool],
-        trail: &[SharedRecord],
+        trail: &Trail,
     ) -> Result<(), NoMemory>
         requires stand { IsStand model.now self.old }
         requires trail { IsTrail same_row (whole model.now) (root (whole model.now)) path.now (map (entry_of model.now) trail.now) }

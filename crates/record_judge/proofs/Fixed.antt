@@ -61,10 +61,10 @@ module _ (m : Voyage) (b : Box) where
 
   -- what a test of each row answered
   pub told_kept : (rows : List Row) (r : Bool) (n : ℕ) → n ≡ length rows
-      → MatchBool r ((k : ℕ) → 0 ≤ k → k < n → (q : Row) → slice_get rows k ≡ Some q → violated (whole m) b q ≡ false) ((k : ℕ) × (0 ≤ k) × (k < n) × ((q : Row) → slice_get rows k ≡ Some q → violated (whole m) b q ≡ true))
-      → r ≡ breaks_none (whole m) rows b
-  told_kept rows true n is each = sym (all_kept rows (λ k q l. each k (omega arith) (omega (arith, l, is)) q))
-  told_kept rows false n is one = sym (one_broken rows one.0 (omega (arith, one.2, is)) one.3)
+      → MatchBool r ((k : ℕ) × (0 ≤ k) × (k < n) × ((q : Row) → slice_get rows k ≡ Some q → true ≡ violated (whole m) b q)) ((k : ℕ) → 0 ≤ k → k < n → (q : Row) → slice_get rows k ≡ Some q → false ≡ violated (whole m) b q)
+      → not r ≡ breaks_none (whole m) rows b
+  told_kept rows false n is each = sym (all_kept rows (λ k q l e. sym (each k (omega arith) (omega (arith, l, is)) q e)))
+  told_kept rows true n is one = sym (one_broken rows one.0 (omega (arith, one.2, is)) (λ q e. sym (one.3 q e)))
 
 -- ## The price
 

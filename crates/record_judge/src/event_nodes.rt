@@ -102,7 +102,7 @@ fn records_on(alloc: Global, ended: &[Done<Record>], way: &[Step]) -> Result<Tra
     for k in 0..way.len() {
         let step = item_at(way, k);
         let copy = ended[step.entry].entry.copy(alloc)?;
-        records.push(SharedRecord::new(alloc, copy)?)?;
+        records.push(alloc, SharedRecord::new(alloc, copy)?)?;
     }
     Ok(records)
 }

@@ -1,8 +1,10 @@
 //! Full boxes.
-ghost use Rattle.std.specs.Prelude.{◌≡◌, length};
+ghost use Rattle.std.specs.Prelude.{◌≡◌, ◌<◌, Some, length, slice_get};
 ghost use Rattle.zero_one_rows.specs.Variables.{variables};
 ghost use Rattle.zero_one_rows.specs.Rows.{whole};
 ghost use Rattle.zero_one_rows.specs.Counted.{base_rows};
+ghost use Rattle.zero_one_rows.specs.declared.program.Row.{Row as Rows};
+ghost use Rattle.proof_trees.specs.Boxes.{violated};
 ghost use Rattle.search_core.specs.Machine.{fixed_below, breaks_none as breaks_none_of, is_full as is_full_in, price as price_in};
 
 use base_matrix::base_row;
@@ -19,13 +21,23 @@ fn fixes_all(model: &Model, b: &Box01) -> bool
     (0..model.vars()).all(|v| b.at(VarNo(v)).is_some())
 }
 
+// Whether a base row is violated, by its number.
+fn breaks(model: &Model, b: &Box01, k: u64) -> bool
+    requires row { k < length (base_rows model.now) }
+    requires whole { length b.now ≡ length (variables model.now) }
+    ensures { (r : Rows) → slice_get (base_rows model.now) k ≡ Some r → result ≡ violated (whole model.now) b.now r }
+{
+    rows_are_listed();
+    let row = base_row(model, k);
+    violates(model, b, &row)
+}
+
 // Whether no base row is violated.
 fn breaks_none(model: &Model, b: &Box01) -> bool
     requires { length b.now ≡ length (variables model.now) }
     ensures { result ≡ breaks_none_of (whole model.now) (base_rows model.now) b.now }
 {
-    rows_are_listed();
-    (0..model.base_rows()).all(|k| !violates(model, b, &base_row(model, k)))
+    !(0..model.base_rows()).any(|k| breaks(model, b, k))
 }
 
 /// Whether each variable is fixed, and no base row is violated. It takes no memory.

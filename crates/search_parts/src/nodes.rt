@@ -52,7 +52,7 @@ fn push_shared(alloc: Global, trail: &mut Trail, entry: Record) -> Result<(), No
     ensures { OnOk result (trail.new ≡ trail.old ++ entry ∷ []) }
 {
     let shared = SharedRecord::new(alloc, entry)?;
-    trail.push(shared)
+    trail.push(alloc, shared)
 }
 
 /// Goes to the half of value 1 of a node that a record divides.

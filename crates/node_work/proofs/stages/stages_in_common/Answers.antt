@@ -5,8 +5,8 @@ use Rattle.node_work.proofs.stages.stages_in_common.Goals as goal
 
 pub loop-depth-preserved : goal.loop-depth-preserved
 loop-depth-preserved c = record {
-  records = omega (arith, c.if-depth-trail.false);
-  alike = matches_more c.args.stages.now c.args.trail.now c.loop-depth.depth c.index-stages-depth.result c.index-trail-depth.result c.loop-depth.invariant.alike c.loop-depth-test.true (omega (arith, c.if-depth-trail.false))
-      c.index-stages-depth.is c.index-trail-depth.is (ap (λ (r : Record). r.from_zero) (sym c.record.ensures) ∙ c.is_of.ensures.begins c.if-not-is_of.false)
+  records = omega (arith, c.if-depth-len.false, c.len.ensures);
+  alike = matches_more c.args.stages.now c.args.trail.now c.loop-depth.depth c.index-stages-depth.result c.get.result.now c.loop-depth.invariant.alike c.loop-depth-test.true (omega (arith, c.if-depth-len.false, c.len.ensures))
+      c.index-stages-depth.is c.get.ensures (ap (λ (r : Record). r.from_zero) (sym c.record.ensures) ∙ c.is_of.ensures.begins c.if-not-is_of.false)
       (c.is_of.ensures.raises c.if-not-is_of.false ∙ ap (λ (r : Record). r.raises) c.record.ensures);
 }

@@ -3,12 +3,12 @@ use Rattle.zero_one_rows.specs.declared.program.Row.{Row as Rows}
 use Rattle.proof_trees.specs.Boxes.{violated}
 use Rattle.zero_one_rows.specs.Rows.{whole}
 use Rattle.zero_one_rows.specs.Counted.{base_rows}
-use Rattle.stow_data.proofs.Ranges.{all_from_Range}
+use Rattle.stow_data.proofs.Ranges.{any_from_Range}
 use Rattle.record_judge.proofs.Fixed.{told_kept}
 use Rattle.record_judge.proofs.full.breaks_none.Goals as goal
 
 pub returns : goal.returns
 returns c =
-    let breaks : Bool → ℕ → Type 0 = λ answer k. (r : Rows) → slice_get (base_rows c.args.model.now) k ≡ Some r → violated (whole c.args.model.now) c.args.b.now r ≡ answer in
-    told_kept c.args.model.now c.args.b.now (base_rows c.args.model.now) c.all.result c.base_rows.result c.base_rows.ensures
-    (all_from_Range _ _ _ _ (breaks false) (breaks true) c.all.ensures.ran (λ x q k. search rules) (λ x q k. search rules))
+    let breaks : Bool → ℕ → Type 0 = λ answer k. (r : Rows) → slice_get (base_rows c.args.model.now) k ≡ Some r → answer ≡ violated (whole c.args.model.now) c.args.b.now r in
+    told_kept c.args.model.now c.args.b.now (base_rows c.args.model.now) c.any.result c.base_rows.result c.base_rows.ensures
+    (any_from_Range _ _ _ _ (breaks true) (breaks false) c.any.ensures.ran (λ x q k. search rules) (λ x q k. search rules))

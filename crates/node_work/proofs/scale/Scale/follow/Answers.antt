@@ -1,4 +1,4 @@
-use Rattle.std.proofs.Common.{◌≡◌, ◌+◌, All, true, List, Some, drop, refl, sym, subst, ◌∙◌, ap}
+use Rattle.std.proofs.Common.{◌≡◌, ◌+◌, All, true, List, Some, drop, refl, sym, subst, ◌∙◌, ap, arith}
 use Rattle.std.proofs.lemmas.List.{drop_all}
 use Rattle.proof_trees.specs.Multipliers.{Multipliers}
 use Rattle.zero_one_rows.specs.declared.program.Row.{Row}
@@ -13,28 +13,28 @@ use Rattle.node_work.proofs.scale.Scale.follow.Goals as goal
 pub go_on-requires-clause-rows : goal.go_on-requires-clause-rows
 go_on-requires-clause-rows c =
     subst (λ (r : Record). All (λ x. (whole c.args.model.now).has x.row ≡ true) r.raises) (sym c.record.ensures)
-    (subst (λ (rs : List Record). AreNamed c.args.model.now rs) (rest_cons c.args.trail.now c.loop-entry.entry-index c.entry-item.result c.loop-entry-test.true c.entry-item.is) c.loop-entry.invariant.named).0
+    (subst (λ (rs : List Record). AreNamed c.args.model.now rs) (rest_cons c.args.trail.now c.loop-k.k c.get.result.now (omega (arith, c.loop-k-test.true, c.len-k-end.ensures)) c.get.ensures) c.loop-k.invariant.named).0
 
 pub go_on-requires-clause-range : goal.go_on-requires-clause-range
 go_on-requires-clause-range c =
-    let h = subst (λ (rs : List Record). InRange c.loop-entry.self.gauge.multipliers rs) (rest_cons c.args.trail.now c.loop-entry.entry-index c.entry-item.result c.loop-entry-test.true c.entry-item.is) c.loop-entry.invariant.range in
-    subst (λ (r : Record). (ms : Multipliers Row) × (priced c.loop-entry.self.gauge.multipliers r ≡ Some ms)) (sym c.record.ensures) (h.0, h.1)
+    let h = subst (λ (rs : List Record). InRange c.loop-k.self.gauge.multipliers rs) (rest_cons c.args.trail.now c.loop-k.k c.get.result.now (omega (arith, c.loop-k-test.true, c.len-k-end.ensures)) c.get.ensures) c.loop-k.invariant.range in
+    subst (λ (r : Record). (ms : Multipliers Row) × (priced c.loop-k.self.gauge.multipliers r ≡ Some ms)) (sym c.record.ensures) (h.0, h.1)
 
-pub loop-entry-preserved : goal.loop-entry-preserved
-loop-entry-preserved c =
-    let i = c.loop-entry.invariant in
-    let priced_so : priced c.loop-entry.self.gauge.multipliers c.entry-item.result ≡ Some c.go_on.new.self.gauge.multipliers = ap (priced c.loop-entry.self.gauge.multipliers) (sym c.record.ensures) ∙ c.in_ok-go_on.ensures.priced in
-    let cons = rest_cons c.args.trail.now c.loop-entry.entry-index c.entry-item.result c.loop-entry-test.true c.entry-item.is in
+pub loop-k-preserved : goal.loop-k-preserved
+loop-k-preserved c =
+    let i = c.loop-k.invariant in
+    let priced_so : priced c.loop-k.self.gauge.multipliers c.get.result.now ≡ Some c.go_on.new.self.gauge.multipliers = ap (priced c.loop-k.self.gauge.multipliers) (sym c.record.ensures) ∙ c.in_ok-go_on.ensures.priced in
+    let cons = rest_cons c.args.trail.now c.loop-k.k c.get.result.now (omega (arith, c.loop-k-test.true, c.len-k-end.ensures)) c.get.ensures in
     record {
       scale = c.in_ok-go_on.ensures.scale;
       named = (subst (λ (rs : List Record). AreNamed c.args.model.now rs) cons i.named).1;
-      range = ranged_on c.loop-entry.self.gauge.multipliers c.go_on.new.self.gauge.multipliers c.entry-item.result (drop (c.loop-entry.entry-index + 1) c.args.trail.now) priced_so (subst (λ (rs : List Record). InRange c.loop-entry.self.gauge.multipliers rs) cons i.range);
-      along = priced_on c.loop-entry.self.gauge.multipliers c.go_on.new.self.gauge.multipliers c.entry-item.result (drop (c.loop-entry.entry-index + 1) c.args.trail.now) priced_so
-          ∙ sym (ap (prices_along c.loop-entry.self.gauge.multipliers) cons) ∙ i.along;
+      range = ranged_on c.loop-k.self.gauge.multipliers c.go_on.new.self.gauge.multipliers c.get.result.now (drop (c.loop-k.k + 1) c.args.trail.now) priced_so (subst (λ (rs : List Record). InRange c.loop-k.self.gauge.multipliers rs) cons i.range);
+      along = priced_on c.loop-k.self.gauge.multipliers c.go_on.new.self.gauge.multipliers c.get.result.now (drop (c.loop-k.k + 1) c.args.trail.now) priced_so
+          ∙ sym (ap (prices_along c.loop-k.self.gauge.multipliers) cons) ∙ i.along;
     }
 
-pub loop-entry-init : goal.loop-entry-init
-loop-entry-init c = record { scale = c.requires.scale; named = c.requires.rows; range = c.requires.range; along = refl }
+pub loop-k-init : goal.loop-k-init
+loop-k-init c = record { scale = c.requires.scale; named = c.requires.rows; range = c.requires.range; along = refl }
 
 pub returns-clause-prices : goal.returns-clause-prices
-returns-clause-prices c = sym (ap (prices_along c.loop-entry.self.gauge.multipliers) (drop_all c.loop-entry.entry-index c.args.trail.now c.loop-entry-test.false)) ∙ c.loop-entry.invariant.along
+returns-clause-prices c = sym (ap (prices_along c.loop-k.self.gauge.multipliers) (drop_all c.loop-k.k c.args.trail.now (omega (arith, c.loop-k-test.false, c.len-k-end.ensures)))) ∙ c.loop-k.invariant.along

@@ -32,5 +32,5 @@ turn-requires-clause-same c = λ fs f is.
     let trail : List Record = c.args.trail.now in
     let few : c.args.depth ≤ length frames = c.requires.frames in
     let short : c.args.depth ≤ length trail = c.requires.records in
-    same_last frames fs f trail k c.index-trail-depth.result (subst (λ (n : ℕ). map entry_in (take n frames) ≡ take n trail) one c.requires.entries)
-    (ap (λ (n : ℕ). take n frames) (sym one) ∙ sym c.truncate.ensures.items ∙ is) (omega arith) (omega arith) c.index-trail-depth.is
+    same_last frames fs f trail k c.get.result.now (subst (λ (n : ℕ). map entry_in (take n frames) ≡ take n trail) one c.requires.entries)
+    (ap (λ (n : ℕ). take n frames) (sym one) ∙ sym c.truncate.ensures.items ∙ is) (omega arith) (omega arith) c.get.ensures
