@@ -1,3 +1,4 @@
 mod Numbering
 mod Shuffles
 mod Order
+mod Parting

@@ -14,9 +14,8 @@ use stow_data::NoMemory;
 fn compare_paths(a: &[bool], b: &[bool]) -> Ordering
     ensures { result ≡ by_preorder a.now b.now }
 {
-    a.iter()
-        .map(|value| !*value)
-        .cmp(b.iter().map(|value| !*value))
+    let both = a.len().min(b.len());
+    b[..both].cmp(&a[..both]).then(a.len().cmp(&b.len()))
 }
 
 /// Sorts nodes into the order of a tree by runs that are in order: nearly all of a journal is in a few of them, since a worker goes down before it turns.
