@@ -1,6 +1,6 @@
 -- A tree that is settled at a value is walked past the subtrees of which no node was left open: they are proved at that value.
 use Rattle.std.proofs.Common.{◌≡◌, ◌≢◌, ℕ, zero, suc, ◌+◌, ◌<◌, ◌≤◌, inl, inr, Bool, true, false, ◌&&◌, cond, nat_lt, List, [], ◌∷◌, length, drop, map, get_or, set, replicate, Option, Some, None, Result, Ok, Err, arith, refl, sym, ◌∙◌, ap, subst}
-use Rattle.std.specs.Prelude.{IfOk, IfErr}
+use Rattle.std.specs.Prelude.{IfOk, IfErr, IfSome}
 use Rattle.std.specs.Option.{is_none, option_or}
 use Rattle.std.specs.Result.{result_ok}
 use borrow.Author.Differences.{ints}
@@ -22,7 +22,7 @@ use Rattle.bound_checker.specs.declared.walk.Walk.{Walk}
 use Rattle.bound_checker.specs.Entries.{ProvesBound, SettlesBound, IsBestBound}
 use Rattle.bound_checker.specs.Faults.{end_fault, tree_fault, first_fault}
 use Rattle.bound_checker.specs.Walks.{Stands, StandsSome, IsAt, Narrows, behind_end, IsBehind, Takes}
-use Rattle.bound_checker.specs.Subtrees.{Shape, Tip, Fork, size_of, Divides, Begins, IsSubtree, IsSize, AreSizes, Stays}
+use Rattle.bound_checker.specs.Subtrees.{Shape, Tip, Fork, size_of, Divides, Begins, IsSubtree, AreSizes, Stays}
 use Rattle.bound_checker.proofs.Bounding.{best_of, up_to}
 use Rattle.bound_checker.proofs.FirstFault.{no_step, rows_same, closed, and_true, below_is, no_fault}
 use Rattle.bound_checker.proofs.Walks.{opened_fault, behind, ends, tree_fails}
@@ -40,52 +40,58 @@ dropped_length zero rs = omega arith
 dropped_length (suc k) [] = omega arith
 dropped_length (suc k) (r ∷ rs) = omega (arith, dropped_length k rs)
 
-pub size_within : (records : List Record) (place size : ℕ) → IsSize records place size → size ≤ length records
-size_within records place size (inl none) = omega (arith, none)
-size_within records place size (inr sub) = omega (arith, length_begins sub.shape _ _ sub.begins, dropped_length place records, sub.counts)
+size_some : (s : Shape) → 0 < size_of s
+size_some Tip = omega arith
+size_some (Fork a b) = omega arith
+
+pub subtree_within : (records : List Record) (place size : ℕ) → IsSubtree records place size → size ≤ length records
+subtree_within records place size sub = omega (arith, length_begins sub.shape _ _ sub.begins, dropped_length place records, sub.counts)
+
+pub subtree_some : (records : List Record) (place size : ℕ) → IsSubtree records place size → 0 < size
+subtree_some records place size sub = omega (arith, size_some sub.shape, sub.counts)
 
 front : (rs : List Record) (k : ℕ) (d : Record) → k < length rs → drop k rs ≡ get_or rs k d ∷ drop (suc k) rs
 front [] k d lt = absurd (omega arith)
 front (r ∷ rs) zero d lt = refl
 front (r ∷ rs) (suc k) d lt = front rs k d (omega arith)
 
-some_size : (records : List Record) (place size : ℕ) → IsSize records place size → size ≢ 0 → IsSubtree records place size
-some_size records place size (inl none) some = absurd (some none)
-some_size records place size (inr sub) some = sub
-
-pub leaf_size : (records : List Record) (place : ℕ) (d : Record) → place < length records → (get_or records place d).end ≡ leaf.Leaf → IsSize records place 1
-leaf_size records place d lt is = inr (record {
+pub leaf_subtree : (records : List Record) (place : ℕ) (d : Record) → place < length records → (get_or records place d).end ≡ leaf.Leaf → IsSubtree records place 1
+leaf_subtree records place d lt is = record {
   shape = Tip;
   begins = subst (λ (rs : List Record). Begins Tip rs (drop (place + 1) records)) (sym (front records place d lt)) (is, ap (λ (k : ℕ). drop k records) (let e : suc place ≡ place + 1 = omega arith in e));
   counts = refl;
-})
+}
 
-pub fork_size : (records : List Record) (place first second : ℕ) (d : Record) → place < length records → Divides (get_or records place d).end → IsSize records (place + 1) first → IsSize records (place + 1 + first) second
-    → first ≢ 0 → second ≢ 0 → IsSize records place (1 + first + second)
-fork_size records place first second d lt is one two some other =
-    let a = some_size records (place + 1) first one some in
-    let b = some_size records (place + 1 + first) second two other in
+pub fork_subtree : (records : List Record) (place first second : ℕ) (d : Record) → place < length records → Divides (get_or records place d).end → IsSubtree records (place + 1) first → IsSubtree records (place + 1 + first) second
+    → IsSubtree records place (1 + first + second)
+fork_subtree records place first second d lt is a b =
     let next : place + 1 ≡ suc place = omega arith in
     let last : place + 1 + first + second ≡ place + (1 + first + second) = omega arith in
-    inr (record {
+    record {
       shape = Fork a.shape b.shape;
       begins = subst (λ (rs : List Record). Begins (Fork a.shape b.shape) rs (drop (place + (1 + first + second)) records)) (sym (front records place d lt))
           (is, (drop (place + 1 + first) records, subst (λ (k : ℕ). Begins a.shape (drop k records) (drop (place + 1 + first) records)) next a.begins, subst (λ (k : ℕ). Begins b.shape (drop (place + 1 + first) records) (drop k records)) last b.begins));
       counts = omega (arith, a.counts, b.counts);
-    })
+    }
 
-zeros_at : (n place : ℕ) → get_or (replicate n zero) place zero ≡ zero
-zeros_at zero place = refl
-zeros_at (suc n) zero = refl
-zeros_at (suc n) (suc place) = zeros_at n place
+abbrev unknown : Option ℕ
+unknown = None
 
-pub no_sizes : (records : List Record) (n : ℕ) (sizes : List ℕ) → sizes ≡ replicate n 0 → AreSizes records sizes
-no_sizes records n sizes is place = inl (ap (λ (xs : List ℕ). get_or xs place 0) is ∙ zeros_at n place)
+none_at : (n place : ℕ) → get_or (replicate n unknown) place unknown ≡ unknown
+none_at zero place = refl
+none_at (suc n) zero = refl
+none_at (suc n) (suc place) = none_at n place
 
-pub sizes_set : (records : List Record) (sizes : List ℕ) (place size : ℕ) → AreSizes records sizes → place < length sizes → IsSize records place size → AreSizes records (set sizes place size)
-sizes_set records sizes place size are lt is other = elim (eqb_tells other place) [
-  | inl same ↦ subst (λ (k : ℕ). IsSize records k (get_or (set sizes place size) k 0)) (sym same.1) (subst (IsSize records place) (sym (get_or-set_same sizes place size 0 lt)) is)
-  | inr far ↦ subst (IsSize records other) (sym (get_or-set_other sizes place other size 0 far.1)) (are other)
+if_known : (P : ℕ → Type 0) (known other : Option ℕ) → known ≡ other → IfSome other P → IfSome known P
+if_known P known other is h = subst (λ (o : Option ℕ). IfSome o P) (sym is) h
+
+pub no_sizes : (records : List Record) (n : ℕ) (sizes : List (Option ℕ)) → sizes ≡ replicate n None → AreSizes records sizes
+no_sizes records n sizes is place = if_known (IsSubtree records place) (get_or sizes place None) None (ap (λ (xs : List (Option ℕ)). get_or xs place None) is ∙ none_at n place) tt
+
+pub sizes_set : (records : List Record) (sizes : List (Option ℕ)) (place : ℕ) (known : Option ℕ) → AreSizes records sizes → place < length sizes → IfSome known (IsSubtree records place) → AreSizes records (set sizes place known)
+sizes_set records sizes place known are lt is other = elim (eqb_tells other place) [
+  | inl same ↦ subst (λ (k : ℕ). IfSome (get_or (set sizes place known) k None) (IsSubtree records k)) (sym same.1) (if_known (IsSubtree records place) _ known (get_or-set_same sizes place known None lt) is)
+  | inr far ↦ if_known (IsSubtree records other) _ _ (get_or-set_other sizes place other known None far.1) (are other)
 ]
 
 -- ## A record whose node wasn't left open
@@ -197,18 +203,15 @@ module _ (m : Voyage) (most : ℕ) where
     stands_with s rest begins [] at settled = absurd (nothing_settled s (drop place records) rest begins settled)
     stands_with s rest begins (q ∷ waiting) at settled = (q, waiting, at)
 
-    pub stands_there : (size : ℕ) → IsSize records place size → size ≢ 0 → StandsSome m w
-    stands_there size is some = let sub = some_size records place size is some in stands_with sub.shape _ sub.begins stays.boxes stays.at stays.settled
+    pub stands_there : (size : ℕ) → IsSubtree records place size → StandsSome m w
+    stands_there size sub = stands_with sub.shape _ sub.begins stays.boxes stays.at stays.settled
 
     pub somewhere : (boxes : List (Pending Row)) × IsAt m w boxes
     somewhere = (stays.boxes, stays.at)
 
-    pub passed_by : (size : ℕ) (v : Walk) → IsSize records place size → size ≢ 0 → ((q : Pending Row) (qs : List (Pending Row)) → Stands m w q qs → IsAt m v qs) → Stays m most records (place + size) best v
-    passed_by size v is some leaves = by stays.boxes stays.at stays.settled stays.narrows
+    pub passed_by : (size : ℕ) (v : Walk) → IsSubtree records place size → ((q : Pending Row) (qs : List (Pending Row)) → Stands m w q qs → IsAt m v qs) → Stays m most records (place + size) best v
+    passed_by size v sub leaves = by stays.boxes stays.at stays.settled stays.narrows
       where
-        sub : IsSubtree records place size
-        sub = some_size records place size is some
-
         by : (boxes : List (Pending Row)) → IsAt m w boxes → Settles boxes (entries (drop place records))
             → Narrows 0 most best (λ bound. first_fault m records bound ≡ tree_fault (whole m) bound (place + 1) boxes (entries (drop place records))) (λ bound. first_fault m records bound ≢ None) → Stays m most records (place + size) best v
         by [] at settled narrows = absurd (nothing_settled sub.shape (drop place records) _ sub.begins settled)

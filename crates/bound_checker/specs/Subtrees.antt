@@ -1,5 +1,5 @@
 -- Subtrees of which no node was left open, in a list of records, and where a walk stands that passes them by. No public clause cites this module.
-use Rattle.std.specs.Prelude.{◌≡◌, ◌≢◌, ◌⊎◌, ℕ, ◌+◌, List, [], ◌∷◌, drop, get_or, map, None}
+use Rattle.std.specs.Prelude.{◌≡◌, ◌≢◌, ℕ, ◌+◌, List, [], ◌∷◌, drop, get_or, map, Option, None, IfSome}
 use Rattle.zero_one_rows.specs.declared.program.Var.{Var}
 use Rattle.zero_one_rows.specs.declared.program.Row.{Row}
 use Rattle.zero_one_rows.specs.Variables.{Voyage}
@@ -39,12 +39,9 @@ pub record IsSubtree (records : List Record) (place size : ℕ) : Type 0 where
   pub begins : Begins shape (drop place records) (drop (place + size) records)
   pub counts : size ≡ size_of shape
 
--- so many records has the subtree at a place; 0 says nothing
-abbrev pub IsSize : List Record → ℕ → ℕ → Type 0
-IsSize records place size = (size ≡ 0) ⊎ IsSubtree records place size
-
-abbrev pub AreSizes : List Record → List ℕ → Type 0
-AreSizes records sizes = (place : ℕ) → IsSize records place (get_or sizes place 0)
+-- where the number of records of the subtree at a place is known, one begins there and has so many
+abbrev pub AreSizes : List Record → List (Option ℕ) → Type 0
+AreSizes records sizes = (place : ℕ) → IfSome (get_or sizes place None) (IsSubtree records place)
 
 -- The records from a place on are those of the boxes that are left, but for nodes left open. At each bound up to the best the first fault is the first of theirs, and at each above it there was one.
 pub record Stays (m : Voyage) (most : ℕ) (records : List Record) (place best : ℕ) (w : Walk) : Type 0 where

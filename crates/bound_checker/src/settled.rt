@@ -47,7 +47,7 @@ fn go_on(
     model: &Model,
     walk: &mut Walk,
     tree: &[Record],
-    sizes: &[usize],
+    sizes: &[Option<usize>],
     at: Standing,
 ) -> Result<Standing, BoundNo>
     requires place { at.place < length tree.now }
@@ -58,14 +58,13 @@ fn go_on(
     ensures further { IfOk result (λ next. at.place < next.place) }
     ensures refused { (most : ℕ) → Stays model.now most tree.now at.place at.best walk.old → ProvesBound model.now tree.now 0 → IfErr result (λ fault. fault ≢ BoundNo.NoMemory → ⊥) }
 {
-    let size = known_size(tree, sizes, at.place);
-    if size == 0 {
+    let Some(size) = known_size(tree, sizes, at.place) else {
         let best = take_at(alloc, model, walk, tree, at)?;
         return Ok(Standing {
             place: at.place + 1,
             best,
         });
-    }
+    };
     walk.leave(alloc, model)?;
     Ok(Standing {
         place: at.place + size,
@@ -79,7 +78,7 @@ fn go_through(
     model: &Model,
     walk: &mut Walk,
     tree: &[Record],
-    sizes: &[usize],
+    sizes: &[Option<usize>],
     most: u64,
 ) -> Result<u64, BoundNo>
     requires few { length tree.now < 2 ^ 32 }
@@ -104,7 +103,7 @@ fn walk_settled(
     alloc: Global,
     model: &Model,
     tree: &[Record],
-    sizes: &[usize],
+    sizes: &[Option<usize>],
     most: u64,
 ) -> Result<u64, BoundNo>
     requires few { length tree.now < 2 ^ 32 }

@@ -13,8 +13,8 @@ returns-in_err-best-clause-refused c = λ most stays proves.
     if_err_at (λ (f : BoundNo). f ≢ NoMemory → ⊥) c.from_residual.result c.in_err-best.field-0.0 g (c.in_err-best.ensures.refused most stays proves)
 
 pub leave-requires : goal.leave-requires
-leave-requires c = record { stands = stands_there c.args.model.now c.requires.stays.0 c.args.tree.now c.args.at.place c.args.at.best c.args.walk.now c.requires.stays.1 c.known_size-size.result c.known_size-size.ensures.size c.if-size-eq0.false }
+leave-requires c = record { stands = stands_there c.args.model.now c.requires.stays.0 c.args.tree.now c.args.at.place c.args.at.best c.args.walk.now c.requires.stays.1 c.in-Some.size c.in-Some.ensures.size }
 
 pub returns-clause-best : goal.returns-clause-best
 returns-clause-best c = λ most stays.
-    passed_by c.args.model.now most c.args.tree.now c.args.at.place c.args.at.best c.args.walk.now stays c.known_size-size.result c.leave.new.self c.known_size-size.ensures.size c.if-size-eq0.false c.in_ok-leave.ensures
+    passed_by c.args.model.now most c.args.tree.now c.args.at.place c.args.at.best c.args.walk.now stays c.in-Some.size c.leave.new.self c.in-Some.ensures.size c.in_ok-leave.ensures
