@@ -1,7 +1,7 @@
 #!/usr/bin/env python3
 """Measures the nodes a second of `stow plan` with several workers, beside those with one.
 
-    bench/workers.py INSTANCES [--numbers FIRST COUNT] [--budget N] [--groups NAME,..] [--workers N,..] [--runs N] [--beside] [--program FILE]
+    bench/workers.py INSTANCES [--numbers FIRST COUNT] [--budget N] [--groups NAME,..] [--workers N,..] [--runs N] [--beside] [--same] [--program FILE]
 
 INSTANCES is a folder with `instances.py`, which makes the ships (`instances.py list` names the groups, `instances.py GROUP FIRST
 COUNT FOLDER` writes them). Ships that need fewer than 2,000 nodes with one worker are left out. From each run one with a budget of
@@ -13,6 +13,10 @@ What processors do while others rest isn't what they do while all are busy, leas
 program with few workers runs beside copies of itself, so that as many workers run as with the most: four programs of one worker, two
 of two, one of four. So "times" says what the workers of one program cost each other, and not what busy processors do.
 
+Several workers search other parts of the tree than one does, and nodes there can take more or less time. With --same the workers also
+run on one processor, where they take turns, so that they search as they do on several: "same" is how many times as fast they are on
+one processor each as on one for all, which tells what the processors bring from what the nodes of another tree take.
+
 --numbers FIRST COUNT   the ships of each group (0 3 where it is missing)
 --budget N              the nodes of each search (100000 where it is missing)
 --groups NAME,..        these groups alone
@@ -20,6 +24,8 @@ of two, one of four. So "times" says what the workers of one program cost each o
 --runs N                how often each run is made (1 where it is missing), one number of workers after the other; the middle of each
                         figure counts, "times" among them, as a machine's speed changes from one minute to the next
 --beside                each run beside copies of itself, as above; the mean of the copies counts
+--same                  the same workers on one processor besides, as above: with --beside as many programs of them as there are workers
+                        at most, each on a processor of its own
 --program FILE          the program that is measured, in place of the built one
 """
 import argparse
@@ -37,10 +43,11 @@ FIRST = 1001
 class Run:
     """One run: the nodes that were handled, the seconds by the clock and those of all processors; no nodes where the ship is refused."""
 
-    def __init__(self, program, folder, ship, out, budget, workers):
+    def __init__(self, program, folder, ship, out, budget, workers, processors):
         words = [program, "plan", f"{ship}.ship.toml", f"{ship}.cargo.toml", out, "--budget", str(budget), "--workers", str(workers)]
         begun = time.perf_counter()
         running = subprocess.Popen(words, cwd=folder, stdout=subprocess.PIPE, text=True)
+        os.sched_setaffinity(running.pid, processors)
         printed = running.stdout.read()
         _, status, used = os.wait4(running.pid, 0)
         self.seconds = time.perf_counter() - begun
@@ -52,19 +59,25 @@ class Run:
         self.nodes = int(said.get("nodes", 0))
 
 
-def side_by_side(args, folder, ship, budget, workers):
-    """Runs of one search, at the same time: one, or with --beside as many as make up the most workers."""
-    copies = max(args.workers) // workers if args.beside else 1
+def side_by_side(args, folder, ship, budget, workers, bound):
+    """Runs of one search, at the same time: one, or with --beside as many as make up the most workers. Where they are bound, each has one processor for all its workers."""
+    copies = (max(args.workers) // (1 if bound else workers)) if args.beside else 1
+    all_processors = sorted(os.sched_getaffinity(0))
+
+    def run(k):
+        processors = {all_processors[k % len(all_processors)]} if bound else all_processors
+        return Run(args.program, folder, ship, f"X{k}", budget, workers, processors)
+
     with concurrent.futures.ThreadPoolExecutor(copies) as pool:
-        return list(pool.map(lambda k: Run(args.program, folder, ship, f"X{k}", budget, workers), range(copies)))
+        return list(pool.map(run, range(copies)))
 
 
 class Speed:
     """What a search did past its first nodes: the nodes, those a second by the clock, and the processor time of each."""
 
-    def __init__(self, args, folder, ship, workers):
-        firsts = side_by_side(args, folder, ship, FIRST, workers)
-        wholes = side_by_side(args, folder, ship, args.budget, workers)
+    def __init__(self, args, folder, ship, workers, bound=False):
+        firsts = side_by_side(args, folder, ship, FIRST, workers, bound)
+        wholes = side_by_side(args, folder, ship, args.budget, workers, bound)
         self.first, self.nodes = firsts[0].nodes, wholes[0].nodes
         self.past = self.nodes - self.first
         past = [
@@ -77,11 +90,13 @@ class Speed:
 
 def measured(args, folder, ship):
     """The row of one ship: its nodes a second with each number of workers; None where it is left out."""
-    rounds = []
+    rounds, bound = [], []
     for _ in range(args.runs):
         rounds.append([Speed(args, folder, ship, workers) for workers in args.workers])
         if rounds[0][0].first < FIRST or rounds[0][0].past < 1000:
             return None
+        if args.same:
+            bound.append([Speed(args, folder, ship, workers, bound=True) for workers in args.workers[1:]])
     row = [ship]
     for place in range(len(args.workers)):
         speeds = [one_round[place] for one_round in rounds]
@@ -89,6 +104,9 @@ def measured(args, folder, ship):
         times = statistics.median(one_round[place].rate / one_round[0].rate for one_round in rounds)
         used = statistics.median(speed.used for speed in speeds)
         row += [str(speeds[0].nodes), f"{rate:.0f}", f"{times:.2f}", f"{used:.0f}"]
+        if args.same and place > 0:
+            same = statistics.median(free[place].rate / one[place - 1].rate for free, one in zip(rounds, bound))
+            row.append(f"{same:.2f}")
     return row
 
 
@@ -101,6 +119,7 @@ def main():
     asked.add_argument("--workers", default="1,2,4")
     asked.add_argument("--runs", type=int, default=1)
     asked.add_argument("--beside", action="store_true")
+    asked.add_argument("--same", action="store_true")
     asked.add_argument("--program", default=f"{ROOT}/crates/stow_main/out/stow_main")
     args = asked.parse_args()
     args.workers = [int(n) for n in args.workers.split(",")]
@@ -108,7 +127,10 @@ def main():
     maker = f"{os.path.realpath(args.instances)}/instances.py"
     listed = subprocess.run(["python3", maker, "list"], stdout=subprocess.PIPE, text=True, check=True)
     groups = args.groups.split(",") if args.groups else listed.stdout.split()
-    head = ["ship"] + [f"{what} ({n})" for n in args.workers for what in ("nodes", "a second", "times", "us a node")]
+    head = ["ship"]
+    for place, n in enumerate(args.workers):
+        head += [f"{what} ({n})" for what in ("nodes", "a second", "times", "us a node")]
+        head += [f"same ({n})"] if args.same and place > 0 else []
     print("| " + " | ".join(head) + " |")
     print("|---" + "|---:" * (len(head) - 1) + "|")
     first, count = args.numbers
