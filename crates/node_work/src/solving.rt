@@ -13,7 +13,7 @@ use std::marker;
 use stow_data::NoMemory;
 use voyage_guess::Planner;
 
-/// Ends nodes at a desk over a program's tables, which is made when the first node comes: by this planner where there is one, else by one of its own. Contracts see the voyage.
+/// Ends nodes at a desk over a program's tables, which is made when the first node comes, by the thread that works there. Its planner goes on where the given one stands, where there is one. Contracts see the voyage.
 #[derive(Drop)]
 pub struct TableSolver<'a> {
     tables: &'a Tables<'a>,
@@ -33,19 +33,23 @@ impl<'a> marker::Model for TableSolver<'a> {
     ghost invariant = { IsSolver };
 }
 
-// A planner of the program's voyages: this one, where there is one.
-fn planner_of(alloc: Global, tables: &Tables, given: Option<Planner>) -> Result<Planner, NoMemory> {
+// A planner of the program's voyages, made by this thread: it goes on where the given one stands, where there is one.
+fn planner_of(
+    alloc: Global,
+    tables: &Tables,
+    given: &Option<Planner>,
+) -> Result<Planner, NoMemory> {
     match given {
-        Some(planner) => Ok(planner),
+        Some(planner) => planner.moved(alloc, tables.model()),
         None => Planner::new(alloc, tables.model()),
     }
 }
 
-// A desk over the tables, with this planner where there is one.
+// A desk over the tables, whose planner goes on where the given one stands, where there is one.
 fn desk_of<'a>(
     alloc: Global,
     tables: &'a Tables<'a>,
-    given: Option<Planner>,
+    given: &Option<Planner>,
 ) -> Result<Desk<'a>, NoMemory>
     ensures { IfOk result (λ desk. desk ≡ tables.now) }
 {
@@ -54,7 +58,7 @@ fn desk_of<'a>(
 }
 
 impl<'a> TableSolver<'a> {
-    /// A solver over these tables, which makes its desk by this planner. It takes no memory yet.
+    /// A solver over these tables, whose planner goes on where this one stands. It takes no memory yet.
     pub fn new(tables: &'a Tables<'a>, planner: Option<Planner>) -> TableSolver<'a>
         ensures { result ≡ tables.now }
     {
@@ -70,7 +74,8 @@ impl<'a> TableSolver<'a> {
         ensures { self.new ≡ self.old }
     {
         if self.desk.is_none() {
-            self.desk = Some(desk_of(alloc, self.tables, self.planner.take())?);
+            self.desk = Some(desk_of(alloc, self.tables, &self.planner)?);
+            self.planner = None;
         }
         Ok(())
     }

@@ -64,6 +64,17 @@ impl Planner {
         })
     }
 
+    /// A planner that goes on where this one stands, with a work space that the caller takes anew. Two planners that one thread
+    /// made may lie in one cache line, and then each of two threads that write there waits for the other: so each thread makes
+    /// its own.
+    pub fn moved(&self, alloc: Global, model: &Model) -> Result<Planner, NoMemory> {
+        let mut planner = Planner::new(alloc, model)?;
+        planner.sailor.take_chance(&self.sailor);
+        planner.stays.extend_from_slice(self.stays.as_slice())?;
+        planner.cost = self.cost;
+        Ok(planner)
+    }
+
     /// How often the cheapest voyage of the last box rehandles; None where none was found.
     pub fn cost(&self) -> Option<u64> {
         if self.stays.is_empty() {

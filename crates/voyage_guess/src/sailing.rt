@@ -95,6 +95,11 @@ impl Sailor {
         })
     }
 
+    /// Goes on with the numbers by chance where another sailor stands.
+    pub fn take_chance(&mut self, other: &Sailor) {
+        self.chance = other.chance;
+    }
+
     /// Puts a container that stands aboard as the ship comes in.
     fn settle(&mut self, arrived: Arrived) -> Result<(), NoMemory> {
         let Some(lot) = self.facts.lot(0, arrived.kind).copied() else {

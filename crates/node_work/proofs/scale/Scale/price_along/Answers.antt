@@ -1,4 +1,4 @@
-use Rattle.std.proofs.Common.{List, [], drop, sym, subst, ◌∙◌, ap}
+use Rattle.std.proofs.Common.{[], drop, sym, subst, ◌∙◌, ap}
 use Rattle.std.proofs.lemmas.Result.{on_ok_weaker}
 use Rattle.zero_one_rows.specs.declared.program.Row.{Row}
 use Rattle.proof_trees.specs.Multipliers.{Multipliers}
