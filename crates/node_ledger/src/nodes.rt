@@ -10,7 +10,7 @@ use std::cmp::Ordering;
 use stow_data::NoMemory;
 
 /// Which of two nodes comes first in a tree: one above the other, or the one at value 1 of the branch at which their
-/// paths part.
+/// paths part. The common part is compared as slices, which pass by equal values some at a time.
 fn compare_paths(a: &[bool], b: &[bool]) -> Ordering
     ensures { result ≡ by_preorder a.now b.now }
 {

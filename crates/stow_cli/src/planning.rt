@@ -12,6 +12,7 @@ use crate::refusing::limit_text;
 use crate::work::texts_of;
 use plan_search::plan_voyage;
 use std::alloc::Global;
+use std::mem;
 use std::sync::Wait;
 use std::thread::Threads;
 use stow_data::NoMemory;
@@ -102,5 +103,9 @@ fn plan_within<G: Gate + Sync, R: Threads + Wait + Sync>(
     ensures { IfOk result (PlanWithin budget base.now v.now) }
 {
     let planned = plan_voyage(rt, alloc, &v.ship, &v.cargo, model, workers, budget, gate)?;
-    texts_of(alloc, base, v, &planned)
+    let texts = texts_of(alloc, base, v, &planned);
+    // A command plans once, and the process ends behind it. To give the tree of 100,000 records back, block by block, takes
+    // a twentieth of a second, in which no worker is busy.
+    mem::forget(planned);
+    texts
 }

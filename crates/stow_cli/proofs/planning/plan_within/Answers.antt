@@ -14,12 +14,12 @@ plan_voyage-requires-clause-ship g c kinds lives = ap (λ (m : Voyage). m.ship) 
 pub plan_voyage-requires-clause-cargo : goal.plan_voyage-requires-clause-cargo
 plan_voyage-requires-clause-cargo g c kinds lives = ap (λ (m : Voyage). m.cargo) c.requires.model
 
-pub texts_of-requires-clause-plans : goal.texts_of-requires-clause-plans
-texts_of-requires-clause-plans g c = can_be_written c.args.v.now _ _ (subst (λ (m : Voyage). HasPlans m c.in_ok-planned.planned.head.rehandles c.in_ok-planned.planned.plans) c.requires.model c.in_ok-planned.ensures.plans)
+pub texts_of-texts-requires-clause-plans : goal.texts_of-texts-requires-clause-plans
+texts_of-texts-requires-clause-plans g c = can_be_written c.args.v.now _ _ (subst (λ (m : Voyage). HasPlans m c.in_ok-planned.planned.head.rehandles c.in_ok-planned.planned.plans) c.requires.model c.in_ok-planned.ensures.plans)
 
 pub returns : goal.returns
 returns g c =
-    ok_answers c.texts_of.result c.args.base.now c.args.v.now c.args.budget c.in_ok-planned.planned c.requires.booked
+    ok_answers c.texts_of-texts.result c.args.base.now c.args.v.now c.args.budget c.in_ok-planned.planned c.requires.booked
     (subst (λ (m : Voyage). Certifies m c.args.budget c.in_ok-planned.planned.head c.in_ok-planned.planned.tree) c.requires.model c.in_ok-planned.ensures.certified)
     (subst (λ (m : Voyage). HasPlans m c.in_ok-planned.planned.head.rehandles c.in_ok-planned.planned.plans) c.requires.model c.in_ok-planned.ensures.plans)
-    c.texts_of.ensures
+    c.texts_of-texts.ensures
