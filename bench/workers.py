@@ -11,7 +11,8 @@ clock, so nothing else is to run; "us a node" is the processor time of all worke
 
 What processors do while others rest isn't what they do while all are busy, least of all those of a virtual machine. With --beside a
 program with few workers runs beside copies of itself, so that as many workers run as with the most: four programs of one worker, two
-of two, one of four. So "times" says what the workers of one program cost each other, and not what busy processors do.
+of two, one of four. So "times" says what the workers of one program cost each other, and not what busy processors do. Each run then
+stands for as many searches: one time the four programs of one worker, two times the two of two, four times the one of four.
 
 Several workers search other parts of the tree than one does, and nodes there can take more or less time. With --same the workers also
 run on one processor, where they take turns, so that they search as they do on several: "same" is how many times as fast they are on
@@ -21,9 +22,10 @@ one processor each as on one for all, which tells what the processors bring from
 --budget N              the nodes of each search (100000 where it is missing)
 --groups NAME,..        these groups alone
 --workers N,..          these numbers of workers (1,2,4 where it is missing); the first is what the others stand beside
---runs N                how often each run is made (1 where it is missing), one number of workers after the other; the middle of each
-                        figure counts, "times" among them, as a machine's speed changes from one minute to the next
---beside                each run beside copies of itself, as above; the mean of the copies counts
+--runs N                how often each run is made (1 where it is missing), one number of workers after the other, and every other time
+                        from the most workers on; the middle of each figure counts, "times" among them, as a machine's speed
+                        changes from one minute to the next
+--beside                each run beside copies of itself, as above; all their nodes are divided by all their seconds
 --same                  the same workers on one processor besides, as above: with --beside as many programs of them as there are workers
                         at most, each on a processor of its own
 --program FILE          the program that is measured, in place of the built one
@@ -60,16 +62,17 @@ class Run:
 
 
 def side_by_side(args, folder, ship, budget, workers, bound):
-    """Runs of one search, at the same time: one, or with --beside as many as make up the most workers. Where they are bound, each has one processor for all its workers."""
-    copies = (max(args.workers) // (1 if bound else workers)) if args.beside else 1
+    """Runs of one search: one, or with --beside as many as there are workers at most, so many of them at the same time as make up the most workers. Where they are bound, each has one processor for all its workers."""
+    together = (max(args.workers) // (1 if bound else workers)) if args.beside else 1
+    searches = max(args.workers) if args.beside else 1
     all_processors = sorted(os.sched_getaffinity(0))
 
     def run(k):
         processors = {all_processors[k % len(all_processors)]} if bound else all_processors
         return Run(args.program, folder, ship, f"X{k}", budget, workers, processors)
 
-    with concurrent.futures.ThreadPoolExecutor(copies) as pool:
-        return list(pool.map(run, range(copies)))
+    with concurrent.futures.ThreadPoolExecutor(together) as pool:
+        return [done for first in range(0, searches, together) for done in pool.map(run, range(first, first + together))]
 
 
 class Speed:
@@ -80,19 +83,22 @@ class Speed:
         wholes = side_by_side(args, folder, ship, args.budget, workers, bound)
         self.first, self.nodes = firsts[0].nodes, wholes[0].nodes
         self.past = self.nodes - self.first
-        past = [
-            (whole.nodes - first.nodes, whole.seconds - first.seconds, whole.used - first.used)
-            for first, whole in zip(firsts, wholes)
-        ]
-        self.rate = statistics.mean(nodes / max(seconds, 0.001) for nodes, seconds, _ in past)
-        self.used = statistics.mean(1e6 * used / max(nodes, 1) for nodes, _, used in past)
+
+        def past(what):
+            return sum(map(what, wholes)) - sum(map(what, firsts))
+
+        nodes = past(lambda run: run.nodes)
+        self.rate = nodes / max(past(lambda run: run.seconds), 0.001)
+        self.used = 1e6 * past(lambda run: run.used) / max(nodes, 1)
 
 
 def measured(args, folder, ship):
     """The row of one ship: its nodes a second with each number of workers; None where it is left out."""
     rounds, bound = [], []
-    for _ in range(args.runs):
-        rounds.append([Speed(args, folder, ship, workers) for workers in args.workers])
+    for number in range(args.runs):
+        order = args.workers if number % 2 == 0 else args.workers[::-1]
+        speeds = {workers: Speed(args, folder, ship, workers) for workers in order}
+        rounds.append([speeds[workers] for workers in args.workers])
         if rounds[0][0].first < FIRST or rounds[0][0].past < 1000:
             return None
         if args.same:
