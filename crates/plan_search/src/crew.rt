@@ -94,7 +94,7 @@ fn search_over<G: Gate + Sync, R: Threads + Wait + Sync>(
 
 /// Searches the program for a solution that costs less than the start, by 1 to 16 workers.
 ///
-/// One worker dives at one desk. Several have a desk each, and steal from one another; the first chooses by which variable a box is divided by a planner that goes on from the given one, the others by planners that they begin.
+/// One worker dives at one desk. Several have a desk each, and steal from one another. A desk's planner chooses the variables by which boxes are divided: the first worker's goes on from the given one, the others begin their own.
 pub fn search_program<G: Gate + Sync, R: Threads + Wait + Sync>(
     rt: &R,
     alloc: Global,

@@ -161,10 +161,11 @@ impl Facts {
         }
     }
 
-    /// How many containers of a kind load at a call.
-    pub fn load(&self, call: u32, kind: u32) -> u32 {
-        let index = index_of(call, self.kinds.len(), kind);
-        self.loads.get(index).copied().unwrap_or(0)
+    /// How many containers of each kind load at a call.
+    pub fn loads_at(&self, call: u32) -> &[u32] {
+        let first = index_of(call, self.kinds.len(), 0);
+        let past = first.wrapping_add(self.kinds.len());
+        self.loads.get(first..past).unwrap_or(&[])
     }
 
     /// The place of a stack, tier and half-cells.

@@ -9,6 +9,7 @@ use stow_data::NoMemory;
 /// Stays of an earlier voyage that a run takes over: those in some stacks, and those that begin before a call.
 #[derive(Drop)]
 pub struct Guide {
+    /// By the calls at which they begin.
     stays: Vec<Planned>,
     /// For each place the calls at which such stays begin there, as bits.
     pledged: Vec<u32>,
@@ -26,7 +27,7 @@ impl Guide {
         })
     }
 
-    /// The stays that are taken over.
+    /// The stays that are taken over, by the calls at which they begin.
     pub fn stays(&self) -> &[Planned] {
         self.stays.as_slice()
     }

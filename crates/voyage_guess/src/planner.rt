@@ -25,7 +25,7 @@ pub struct Wanted {
 #[derive(Drop)]
 pub struct Planner {
     sailor: Sailor,
-    /// The variables of the stays of the cheapest voyage that was found, and how often it rehandles.
+    /// The stays of the cheapest voyage that was found, by the calls at which they begin, and how often it rehandles.
     stays: Vec<Planned>,
     cost: u64,
 }
@@ -124,6 +124,7 @@ impl Planner {
         if self.sailor.sail(limit, self.stays.as_slice())? {
             self.cost = self.sailor.yard.cost;
             mem::swap(&mut self.stays, &mut self.sailor.yard.stays);
+            self.stays.sort_by_key(|stay| stay.put)?;
         }
         Ok(())
     }

@@ -8,6 +8,7 @@ use crate::lifting::{Lifting, lift_all};
 use crate::placing::{ONE, Offer, Scene, Taste, Wish};
 use crate::yard::{Planned, Stay, Yard};
 use std::alloc::Global;
+use std::ops::Range;
 use stow_data::NoMemory;
 
 /// What a run likes, by chance.
@@ -31,8 +32,8 @@ fn draw_taste(chance: &mut Chance) -> Taste {
     }
 }
 
-/// Draws the order in which kinds are put: the latest destination first, or a mixture of that and chance. Each entry has
-/// the kind's number in its lower half.
+/// Draws the order in which kinds are put: the latest destination first, or a mixture of that and chance. Each kind's entry
+/// has its number in the lower half.
 fn draw_order(facts: &Facts, chance: &mut Chance, order: &mut Vec<u64>) {
     let (weight, spread) = if chance.below(100) < 35 {
         (chance.below(65_536), 4)
@@ -50,17 +51,32 @@ fn draw_order(facts: &Facts, chance: &mut Chance, order: &mut Vec<u64>) {
             .wrapping_add(number);
         number = number.wrapping_add(1);
     }
-    order.sort_unstable();
+}
+
+/// Lines up the kinds that wait on the quay, in the order in which they are put. They are few, and a voyage often fails early:
+/// so this takes less time than an order of all kinds.
+fn line_up(order: &[u64], quay: &[u32], line: &mut Vec<u64>) -> Result<(), NoMemory> {
+    line.clear();
+    for (entry, waiting) in order.iter().zip(quay.iter()) {
+        if *waiting > 0 {
+            line.push(*entry)?;
+        }
+    }
+    line.sort_unstable();
+    Ok(())
+}
+
+/// Which of some stays, which stand by the calls at which they begin, begin at a call.
+fn beginning_at(stays: &[Planned], call: u32) -> Range<usize> {
+    let first = stays.partition_point(|stay| stay.put < call);
+    let past = stays.partition_point(|stay| stay.put <= call);
+    first..past
 }
 
 /// Takes the containers from the quay for which these stays ask at a call. False where one isn't there.
 fn reserve_from(stays: &[Planned], yard: &mut Yard, call: u32) -> bool {
-    for pledge in stays {
-        if pledge.put == call && !yard.take(pledge.kind) {
-            return false;
-        }
-    }
-    true
+    let asked = stays.get(beginning_at(stays, call)).unwrap_or(&[]);
+    asked.iter().all(|pledge| yard.take(pledge.kind))
 }
 
 /// Sails voyages by chance.
@@ -72,7 +88,10 @@ pub struct Sailor {
     pub yard: Yard,
     chance: Chance,
     taste: Taste,
+    /// For each kind its entry in the order of a run.
     order: Vec<u64>,
+    /// The entries of the kinds that wait, in order.
+    line: Vec<u64>,
 }
 
 impl Sailor {
@@ -92,6 +111,7 @@ impl Sailor {
             chance,
             taste,
             order,
+            line: Vec::new(alloc),
         })
     }
 
@@ -141,12 +161,7 @@ impl Sailor {
 
     /// What loads at a call comes to the quay.
     fn load(&mut self, call: u32) {
-        let mut kind: u32 = 0;
-        for _ in 0..self.facts.kinds.len() {
-            let count = self.facts.load(call, kind);
-            self.yard.load(kind, count);
-            kind = kind.wrapping_add(1);
-        }
+        self.yard.load_all(self.facts.loads_at(call));
     }
 
     /// Takes the containers from the quay for which a stay is asked for at this call. False where one isn't there.
@@ -187,14 +202,11 @@ impl Sailor {
         }
     }
 
-    /// Begins a stay that is asked for at a call, where it is open.
-    fn redeem_one(&mut self, pledge: Option<Planned>, call: u32) -> Result<(), NoMemory> {
+    /// Begins a stay that is asked for, where it is open.
+    fn redeem_one(&mut self, pledge: Option<Planned>) -> Result<(), NoMemory> {
         let Some(pledge) = pledge else {
             return Ok(());
         };
-        if pledge.put != call {
-            return Ok(());
-        }
         match self.pledged_offer(&pledge) {
             None => Ok(()),
             Some(offer) => self.accept(&offer),
@@ -203,18 +215,18 @@ impl Sailor {
 
     /// Begins those stays that the box asks for at a call and that are open.
     fn redeem_pledges(&mut self, call: u32) -> Result<(), NoMemory> {
-        for number in 0..self.leave.pledges().len() {
+        for number in beginning_at(self.leave.pledges(), call) {
             let pledge = self.leave.pledges().get(number).copied();
-            self.redeem_one(pledge, call)?;
+            self.redeem_one(pledge)?;
         }
         Ok(())
     }
 
     /// Begins those stays that are taken over at a call and that are open.
     fn redeem_guide(&mut self, call: u32) -> Result<(), NoMemory> {
-        for number in 0..self.guide.stays().len() {
+        for number in beginning_at(self.guide.stays(), call) {
             let pledge = self.guide.stays().get(number).copied();
-            self.redeem_one(pledge, call)?;
+            self.redeem_one(pledge)?;
         }
         Ok(())
     }
@@ -235,10 +247,14 @@ impl Sailor {
 
     /// Puts the containers of a kind that wait, as far as places are open.
     fn put_kind(&mut self, kind: u32, call: u32) -> Result<(), NoMemory> {
+        let waiting = self.yard.on_quay(kind);
+        if waiting == 0 {
+            return Ok(());
+        }
         let Some(wish) = Wish::of(&self.facts, kind, call) else {
             return Ok(());
         };
-        for _ in 0..self.yard.on_quay(kind) {
+        for _ in 0..waiting {
             if !self.put_one(&wish)? {
                 return Ok(());
             }
@@ -248,8 +264,8 @@ impl Sailor {
 
     /// Puts the containers that wait, as far as places are open.
     fn put_waiting(&mut self, call: u32) -> Result<(), NoMemory> {
-        for number in 0..self.order.len() {
-            let entry = self.order.get(number).copied().unwrap_or(0);
+        for number in 0..self.line.len() {
+            let entry = self.line.get(number).copied().unwrap_or(0);
             self.put_kind((entry % 4_294_967_296) as u32, call)?;
         }
         Ok(())
@@ -260,6 +276,11 @@ impl Sailor {
         if !self.reserve(call) {
             return Ok(false);
         }
+        line_up(
+            self.order.as_slice(),
+            self.yard.quay.as_slice(),
+            &mut self.line,
+        )?;
         for _ in 0..TIERS {
             let before = self.yard.waiting;
             self.redeem_pledges(call)?;

@@ -443,6 +443,14 @@ impl Yard {
         }
     }
 
+    /// So many more containers of each kind wait on the quay.
+    pub fn load_all(&mut self, loads: &[u32]) {
+        for (waiting, count) in self.quay.iter_mut().zip(loads) {
+            *waiting = waiting.wrapping_add(*count);
+            self.waiting = self.waiting.wrapping_add(*count);
+        }
+    }
+
     /// How many containers of a kind wait on the quay.
     pub fn on_quay(&self, kind: u32) -> u32 {
         self.quay.get(kind as usize).copied().unwrap_or(0)
