@@ -23,8 +23,8 @@ one processor each as on one for all, which tells what the processors bring from
 --groups NAME,..        these groups alone
 --workers N,..          these numbers of workers (1,2,4 where it is missing); the first is what the others stand beside
 --runs N                how often each run is made (1 where it is missing), one number of workers after the other, and every other time
-                        from the most workers on; the middle of each figure counts, "times" among them, as a machine's speed
-                        changes from one minute to the next
+                        from the most workers on; each ship is run once before one is run again, so that minutes in which the
+                        machine is slow spoil one run of a ship and not all; the middle of each figure counts, "times" among them
 --beside                each run beside copies of itself, as above; all their nodes are divided by all their seconds
 --same                  the same workers on one processor besides, as above: with --beside as many programs of them as there are workers
                         at most, each on a processor of its own
@@ -35,6 +35,7 @@ import concurrent.futures
 import os
 import statistics
 import subprocess
+import sys
 import tempfile
 import time
 
@@ -92,28 +93,42 @@ class Speed:
         self.used = 1e6 * past(lambda run: run.used) / max(nodes, 1)
 
 
-def measured(args, folder, ship):
-    """The row of one ship: its nodes a second with each number of workers; None where it is left out."""
-    rounds, bound = [], []
-    for number in range(args.runs):
-        order = args.workers if number % 2 == 0 else args.workers[::-1]
-        speeds = {workers: Speed(args, folder, ship, workers) for workers in order}
-        rounds.append([speeds[workers] for workers in args.workers])
-        if rounds[0][0].first < FIRST or rounds[0][0].past < 1000:
-            return None
+class Series:
+    """The runs of one ship: in each its speed with each number of workers, and with --same that of several on one processor."""
+
+    def __init__(self, ship):
+        self.ship, self.rounds, self.bound = ship, [], []
+
+    def run(self, args, folder):
+        """Makes one more run."""
+        order = args.workers if len(self.rounds) % 2 == 0 else args.workers[::-1]
+        speeds = {workers: Speed(args, folder, self.ship, workers) for workers in order}
+        self.rounds.append([speeds[workers] for workers in args.workers])
+        if not self.is_long():
+            return
         if args.same:
-            bound.append([Speed(args, folder, ship, workers, bound=True) for workers in args.workers[1:]])
-    row = [ship]
-    for place in range(len(args.workers)):
-        speeds = [one_round[place] for one_round in rounds]
-        rate = statistics.median(speed.rate for speed in speeds)
-        times = statistics.median(one_round[place].rate / one_round[0].rate for one_round in rounds)
-        used = statistics.median(speed.used for speed in speeds)
-        row += [str(speeds[0].nodes), f"{rate:.0f}", f"{times:.2f}", f"{used:.0f}"]
-        if args.same and place > 0:
-            same = statistics.median(free[place].rate / one[place - 1].rate for free, one in zip(rounds, bound))
-            row.append(f"{same:.2f}")
-    return row
+            self.bound.append([Speed(args, folder, self.ship, workers, bound=True) for workers in args.workers[1:]])
+        times = " ".join(f"{speed.rate / self.rounds[-1][0].rate:.2f}" for speed in self.rounds[-1])
+        print(f"run {len(self.rounds)} of {args.runs}: {self.ship} {times}", file=sys.stderr, flush=True)
+
+    def is_long(self):
+        """Whether the ship needs nodes enough to tell a speed."""
+        one = self.rounds[0][0]
+        return one.first >= FIRST and one.past >= 1000
+
+    def row(self, workers):
+        """The middle of each figure."""
+        row = [self.ship]
+        for place in range(len(workers)):
+            speeds = [one_round[place] for one_round in self.rounds]
+            rate = statistics.median(speed.rate for speed in speeds)
+            times = statistics.median(one_round[place].rate / one_round[0].rate for one_round in self.rounds)
+            used = statistics.median(speed.used for speed in speeds)
+            row += [str(speeds[0].nodes), f"{rate:.0f}", f"{times:.2f}", f"{used:.0f}"]
+            if self.bound and place > 0:
+                same = statistics.median(free[place].rate / one[place - 1].rate for free, one in zip(self.rounds, self.bound))
+                row.append(f"{same:.2f}")
+        return row
 
 
 def main():
@@ -143,10 +158,13 @@ def main():
     with tempfile.TemporaryDirectory() as folder:
         for group in groups:
             subprocess.run(["python3", maker, group, str(first), str(count), folder], check=True)
-            for number in range(first, first + count):
-                row = measured(args, folder, f"{group}-{number}")
-                if row:
-                    print("| " + " | ".join(row) + " |", flush=True)
+        series = [Series(f"{group}-{number}") for group in groups for number in range(first, first + count)]
+        for _ in range(args.runs):
+            for one in series:
+                one.run(args, folder)
+            series = [one for one in series if one.is_long()]
+    for one in series:
+        print("| " + " | ".join(one.row(args.workers)) + " |")
 
 
 main()
