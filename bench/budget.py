@@ -101,8 +101,7 @@ def main():
             for row in measured(args, folder, size):
                 rows.append(row)
                 print(" ".join(row), flush=True)
-    lines = ["| " + " | ".join(HEAD) + " |", "|---:" * len(HEAD) + "|"]
-    table = "\n".join(lines + ["| " + " | ".join(row) + " |" for row in rows])
+    table = "\n".join([" | ".join(HEAD), "|".join(["---:"] * len(HEAD)), *(" | ".join(row) for row in rows)])
     if args.into:
         with open(args.into, encoding="utf-8") as file:
             head, _, rest = file.read().partition(BEGIN)

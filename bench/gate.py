@@ -31,7 +31,7 @@ ROOT = os.path.dirname(os.path.dirname(os.path.realpath(__file__)))
 BUDGET = {"proof": 5.0, "tests": 3.0, "again": 5.0, "edits": 5.0}
 WHOLE, CHAIN = 300.0, 40.0
 BEGIN, END = "<!-- gate table: begin -->", "<!-- gate table: end -->"
-HEAD = ["crate", "lines", "proof", "tests", "proof again", "edits", "sum", "edits tried"]
+HEAD = ["crate", "proof", "tests", "proof again", "edits", "sum", "edits tried"]
 
 
 def crates_of(root):
@@ -60,11 +60,6 @@ def below(deps, name):
     """Returns the crates that this one stands on, lowest first."""
     found = {it for dep in deps[name] for it in [*below(deps, dep), dep]}
     return [it for it in deps if it in found]
-
-
-def lines_of(folder):
-    files = [f"{at}/{it}" for part in ("src", "specs", "proofs") for at, _, names in os.walk(f"{folder}/{part}") for it in names]
-    return sum(open(it, "rb").read().count(b"\n") for it in files)
 
 
 def copied(source, to):
@@ -142,7 +137,7 @@ def measure(base, name, deps):
             minutes = dict.fromkeys(minutes, float("nan"))
         cost.update(minutes)
         print(f"gate: {name}:", *[f"{part} {it:.2f}" for part, it in minutes.items()], "minutes", file=sys.stderr, flush=True)
-    row = {"lines": lines_of(f"{base}/crates/{name}"), "edits tried": edits, **{it: cost.get(it, 0.0) for it in BUDGET}}
+    row = {"edits tried": edits, **{it: cost.get(it, 0.0) for it in BUDGET}}
     shutil.rmtree(top)
     return row
 
@@ -200,7 +195,7 @@ def watch(names, deps):
             continue
         folder = f"{ROOT}/crates/{name}"
         edits = len(os.listdir(f"{folder}/must-fail")) if os.path.isdir(f"{folder}/must-fail") else 0
-        row = rows.setdefault(name, {"lines": lines_of(folder), "edits tried": edits})
+        row = rows.setdefault(name, {"edits tried": edits})
         row[part] = row.get(part, 0.0) + minutes
     return rows
 
@@ -218,12 +213,12 @@ def table(deps, rows):
     """Returns the lines of the table, its sums and its longest chain."""
     marked = lambda row, part: f"{row[part]:.1f}{' (over)' if row[part] > BUDGET[part] else ''}"
     whole = lambda row: sum(row[it] for it in BUDGET)
-    lines = [f"| {' | '.join(HEAD)} |", "|---|---:|---:|---:|---:|---:|---:|---:|"]
+    lines = [" | ".join(HEAD), "---" + "|---:" * (len(HEAD) - 1)]
     for name, row in sorted(rows.items(), key=lambda it: -whole(it[1])):
-        lines.append(f"| `{name}` | {row['lines']} | {' | '.join(marked(row, it) for it in BUDGET)} | {whole(row):.1f} | {row['edits tried']} |")
-    sums = {it: sum(row[it] for row in rows.values()) for it in [*BUDGET, "lines", "edits tried"]}
+        lines.append(f"`{name}` | {' | '.join(marked(row, it) for it in BUDGET)} | {whole(row):.1f} | {row['edits tried']}")
+    sums = {it: sum(row[it] for row in rows.values()) for it in [*BUDGET, "edits tried"]}
     total = sum(sums[it] for it in BUDGET)
-    lines.append(f"| {len(rows)} crates | {sums['lines']} | {' | '.join(f'{sums[it]:.1f}' for it in BUDGET)} | {total:.1f} | {sums['edits tried']} |")
+    lines.append(f"{len(rows)} crates | {' | '.join(f'{sums[it]:.1f}' for it in BUDGET)} | {total:.1f} | {sums['edits tried']}")
     minutes, chain = chain_of(deps, rows)
     lines += ["", f"Sum: {total:.0f} processor minutes (budget {WHOLE:.0f}). Longest chain: {minutes:.1f} (budget {CHAIN:.0f}), {len(chain)} crates: {', '.join(chain)}."]
     return lines
@@ -235,7 +230,7 @@ def rows_in(text):
     for line in text.splitlines():
         cells = [it.strip().removesuffix(" (over)") for it in line.strip("|").split("|")]
         if len(cells) == len(HEAD) and re.fullmatch(r"`\w+`", cells[0]):
-            found[cells[0].strip("`")] = {"lines": int(cells[1]), "edits tried": int(cells[7]), **{it: float(cells[at]) for at, it in enumerate(BUDGET, 2)}}
+            found[cells[0].strip("`")] = {"edits tried": int(cells[6]), **{it: float(cells[at]) for at, it in enumerate(BUDGET, 1)}}
     return found
 
 
