@@ -1,19 +1,27 @@
 #!/usr/bin/env python3
-"""Measures how far the search of `stow plan` comes on made ships.
+"""Measures how far the search of `stow plan` comes on made ships, perhaps beside another program.
 
-    bench/search.py INSTANCES [--numbers FIRST COUNT] [--budget N] [--groups NAME,..] [--at-once N] [--into FILE]
+    bench/search.py INSTANCES [--numbers FIRST COUNT] [--budget N] [--groups NAME,..] [--workers N] [--beside PROGRAM] [--at-once N]
+        [--each] [--into FILE]
 
 INSTANCES is a folder with `instances.py`, which makes the ships (`instances.py list` names the groups, `instances.py GROUP FIRST
 COUNT FOLDER` writes them), and perhaps `cbc.csv`, with what CBC found on some of them (group, number, calls, containers,
-variables, first plan, status, best, bound, seconds).
+variables, first plan, status, best, bound, seconds). The group `literature` has the ships that `literature.csv` there names, which
+`literature.py` makes: transportation matrices of one bay in the form of the literature. The other columns of that file, what other
+methods find, are summed below the table, over the ships that have them all.
 
-Ships that `plan` refuses are left out. For each group the table has the sums of rehandles of the loader's first plan (the search with a budget of one node), of the search, and of
-CBC where it was run on all the ships; how many optima the search proved, and CBC; and the slowest run, in a processor's seconds.
+Ships that `plan` refuses are left out. For each group the table has the sums of rehandles with a budget of one node, of the search, and
+of CBC where it was run on all the ships; how many optima the search proved, and CBC; and the mean and the slowest run, in a
+processor's seconds. With --beside each search is made by the other program too, right before, and its sum, proofs and times stand
+beside.
 
---numbers FIRST COUNT   the ships of each group (0 6 where it is missing)
+--numbers FIRST COUNT   the ships of each group (0 6 where it is missing); all of `literature`
 --budget N              the nodes of each search (1000 where it is missing)
 --groups NAME,..        these groups alone
---at-once N             runs N searches side by side (1 where it is missing, since times count)
+--workers N             so many workers
+--beside PROGRAM        another program
+--at-once N             runs N ships side by side (1 where it is missing, since times count)
+--each                  prints each ship
 --into FILE             writes the table between the two lines '<!-- search table .. -->' of FILE
 """
 import argparse
@@ -26,12 +34,15 @@ import tempfile
 ROOT = os.path.dirname(os.path.dirname(os.path.realpath(__file__)))
 PROGRAM = f"{ROOT}/crates/stow_main/out/stow_main"
 BEGIN, END = "<!-- search table: begin -->", "<!-- search table: end -->"
-HEAD = ["group", "ships", "first plan", "search", "CBC", "proved", "CBC proved", "no plan found", "slowest, s"]
+HEAD = ["group", "ships", "budget 1", "search", "CBC", "proved", "CBC proved", "no plan found", "mean, s", "slowest, s"]
+BESIDE = ["beside", "proved", "no plan found", "mean, s", "slowest, s"]
+LITERATURE = "literature"
 
 
-def run(folder, ship, budget):
+def run(program, folder, ship, budget, workers):
     """Plans one ship; answers the report's words by name, and the processor's seconds that it took. None where the ship is refused."""
-    words = [PROGRAM, "plan", f"{ship}.ship.toml", f"{ship}.cargo.toml", f"{ship}-{budget}", "--budget", str(budget)]
+    words = [program, "plan", f"{ship}.ship.toml", f"{ship}.cargo.toml", f"{ship}-{budget}", "--budget", str(budget)]
+    words += ["--workers", str(workers)] if workers != 1 else []
     with subprocess.Popen(words, cwd=folder, stdout=subprocess.PIPE, text=True) as child:
         text = child.stdout.read()
         _, status, used = os.wait4(child.pid, 0)
@@ -66,36 +77,92 @@ def cbc_of(row):
     return best, row[6].startswith("Optimal")
 
 
+def peers(folder):
+    """What other methods find on the ships of the literature: a row for each ship, with names as keys."""
+    with open(f"{folder}/literature.csv", encoding="utf-8") as file:
+        return list(csv.DictReader(file))
+
+
+def made(args, group, folder):
+    """Makes the ships of a group; answers their names, with their numbers."""
+    if group == LITERATURE:
+        names = [row["name"] for row in peers(args.instances)]
+        maker = f"{args.instances}/literature.py"
+        subprocess.run(["python3", maker, "all", folder], check=True, stdout=subprocess.DEVNULL)
+        subprocess.run(["python3", maker, "toml", *(f"{folder}/{name}.mat" for name in names), folder], check=True)
+        return list(enumerate(names))
+    first, count = args.numbers
+    subprocess.run(["python3", f"{args.instances}/instances.py", group, str(first), str(count), folder], check=True)
+    return [(number, f"{group}-{number}") for number in range(first, first + count)]
+
+
+def searched(args, folder, ship):
+    """One ship: with a budget of one node, by the other program where there is one, and by the search."""
+    begun = run(PROGRAM, folder, ship, 1, 1)
+    if begun is None:
+        return None
+    beside = run(args.beside, folder, ship, args.budget, args.workers) if args.beside else None
+    found = run(PROGRAM, folder, ship, args.budget, args.workers)
+    if args.each:
+        told = [ship] + [f"{said['outcome']} {said['rehandles']} {said['bound']} {took:.2f}" for said, took in filter(None, (beside, found))]
+        print("  " + " | ".join(told), flush=True)
+    return begun, beside, found
+
+
+def proofs(found):
+    return str(sum(said["outcome"] in ("optimal", "no-plan") for said, _ in found))
+
+
+def planless(found):
+    return str(sum(said["outcome"] in ("no-plan", "undecided") for said, _ in found))
+
+
+def times(found):
+    took = [it[1] for it in found]
+    return [f"{sum(took) / len(took):.2f}", f"{max(took):.2f}"]
+
+
+def total(found):
+    return str(sum(rehandles(said) for said, _ in found))
+
+
 def measured(args, group, cbc, folder):
     """The row of one group."""
-    maker = f"{args.instances}/instances.py"
-    first, count = args.numbers
-    subprocess.run(["python3", maker, group, str(first), str(count), folder], check=True)
-    numbers = range(first, first + count)
+    ships = made(args, group, folder)
     with concurrent.futures.ThreadPoolExecutor(args.at_once) as pool:
-        begun = list(pool.map(lambda number: run(folder, f"{group}-{number}", 1), numbers))
-        numbers = [number for number, it in zip(numbers, begun) if it]
-        found = list(pool.map(lambda number: run(folder, f"{group}-{number}", args.budget), numbers))
-    firsts = [it[0] for it in begun if it]
+        runs = list(pool.map(lambda it: searched(args, folder, it[1]), ships))
+    numbers = [number for (number, _), it in zip(ships, runs) if it]
+    begun, beside, found = ([it[k] for it in runs if it] for k in range(3))
     rows = [cbc.get((group, number)) for number in numbers]
     best = [cbc_of(row) if row else None for row in rows]
     whole = all(best) and all(it[0] is not None for it in best)
     return [
         group,
         str(len(numbers)),
-        str(sum(rehandles(said) for said in firsts)),
-        str(sum(rehandles(said) for said, _ in found)),
+        total(begun),
+        total(found),
         f"{sum(it[0] for it in best):.0f}" if whole else "",
-        str(sum(said["outcome"] in ("optimal", "no-plan") for said, _ in found)),
+        proofs(found),
         str(sum(it[1] for it in best)) if all(best) else "",
-        str(sum(said["outcome"] in ("no-plan", "undecided") for said, _ in found)),
-        f"{max(took for _, took in found):.2f}",
+        planless(found),
+        *times(found),
+        *([total(beside), proofs(beside), planless(beside), *times(beside)] if args.beside else []),
     ]
 
 
-def as_text(rows):
-    lines = ["| " + " | ".join(HEAD) + " |", "|---" + "|---:" * (len(HEAD) - 1) + "|"]
-    return "\n".join(lines + ["| " + " | ".join(row) + " |" for row in rows])
+def told_peers(folder):
+    """The sums of what other methods find on the ships of the literature, where they were run on all."""
+    rows = peers(folder)
+    names = [name for name in rows[0] if name != "name"]
+    whole = [name for name in names if all(row[name] for row in rows)]
+    few = [row for row in rows if all(row[name] for name in names)]
+    sums = [f"{name} {sum(int(row[name]) for row in rows)}" for name in whole]
+    part = [f"{name} {sum(int(row[name]) for row in few)}" for name in names]
+    return f"on all {len(rows)}: {', '.join(sums)}\non {len(few)}: {', '.join(part)}"
+
+
+def as_text(rows, head):
+    return "\n".join([" | ".join(head), "---" + "|---:" * (len(head) - 1), *(" | ".join(row) for row in rows)])
 
 
 def main():
@@ -104,18 +171,25 @@ def main():
     asked.add_argument("--numbers", nargs=2, type=int, default=[0, 6])
     asked.add_argument("--budget", type=int, default=1000)
     asked.add_argument("--groups")
+    asked.add_argument("--workers", type=int, default=1)
+    asked.add_argument("--beside")
     asked.add_argument("--at-once", type=int, default=1)
+    asked.add_argument("--each", action="store_true")
     asked.add_argument("--into")
     args = asked.parse_args()
     args.instances = os.path.realpath(args.instances)
+    args.beside = args.beside and os.path.realpath(args.beside)
     listed = subprocess.run(["python3", f"{args.instances}/instances.py", "list"], stdout=subprocess.PIPE, text=True, check=True)
-    groups = args.groups.split(",") if args.groups else listed.stdout.split()
+    whole = listed.stdout.split() + ([LITERATURE] if os.path.exists(f"{args.instances}/literature.csv") else [])
+    groups = args.groups.split(",") if args.groups else whole
     cbc, rows = known(args.instances), []
     with tempfile.TemporaryDirectory() as folder:
         for group in groups:
             rows.append(measured(args, group, cbc, folder))
             print(" ".join(rows[-1]), flush=True)
-    table = as_text(rows)
+    table = as_text(rows, HEAD + (BESIDE if args.beside else []))
+    if LITERATURE in groups:
+        print(told_peers(args.instances))
     if args.into:
         with open(args.into, encoding="utf-8") as file:
             text = file.read()

@@ -5,10 +5,11 @@ ghost use Rattle.node_work.specs.Scales.{IsScale};
 ghost use Rattle.node_work.specs.Stands.{IsStand};
 ghost use Rattle.node_ends.specs.Work.{IsNode, begins_at, most_at, most_rehandles, Works};
 
+use crate::ending::least_cost;
 use crate::scale::Scale;
 use crate::stands::Stand;
 use crate::tables::Tables;
-use crate::working::{most_raises, runs_at};
+use crate::working::{MOST_LOOKS, MOST_RUNS, most_raises};
 use certificate::Node;
 use dual_bound::RowTable;
 use node_ends::Worked;
@@ -66,7 +67,8 @@ fn work_on_stand(
     let wanted = Wanted {
         cut,
         enough: 0,
-        runs: runs_at(node),
+        runs: MOST_RUNS,
+        looks: MOST_LOOKS,
     };
     let most = most_raises(node);
     stand.end(alloc, model, table, planner, scale, most, wanted)
@@ -116,6 +118,11 @@ impl<'a> Desk<'a> {
             stand,
             scale,
         })
+    }
+
+    /// The least cost that the last node's multipliers allow, as far as they tell.
+    pub fn bound(&self) -> u64 {
+        least_cost(self.scale.gauge.value())
     }
 
     /// Ends a node against a cut, as `work` does.

@@ -30,8 +30,8 @@ fn closing_amount(most_rehandles: u64) -> i64
     (16 * most_rehandles + 1) as i64
 }
 
-// The least cost that a dual value allows: a sixteenth of it, rounded up.
-fn least_cost(value: i128) -> u64 {
+/// The least cost that a dual value allows: a sixteenth of it, rounded up.
+pub fn least_cost(value: i128) -> u64 {
     u64::try_from(value.saturating_add(15) / 16).unwrap_or(0)
 }
 

@@ -1,6 +1,7 @@
 //! One node of the search: its box tightened, its multipliers raised, and then closed, divided, or a solution.
 #![tactic(auto)]
 
+mod bounding;
 mod choosing;
 mod desk;
 mod ending;
@@ -12,6 +13,7 @@ mod stands;
 mod tables;
 mod working;
 
+pub use bounding::root_bound;
 pub use desk::Desk;
 pub use kept_box::BaseMatrix;
 pub use solving::TableSolver;

@@ -40,7 +40,7 @@ fn planner_of(
     given: &Option<Planner>,
 ) -> Result<Planner, NoMemory> {
     match given {
-        Some(planner) => planner.moved(alloc, tables.model()),
+        Some(planner) => planner.moved(alloc),
         None => Planner::new(alloc, tables.model()),
     }
 }

@@ -20,10 +20,11 @@ pub fn most_raises(node: &Node) -> u32
     if node.path.is_empty() { 4096 } else { 64 }
 }
 
-/// How many voyages are tried for the branch of a node.
-pub fn runs_at(node: &Node) -> u32 {
-    if node.path.is_empty() { 2_000 } else { 100 }
-}
+/// How many voyages are tried at most for the branch of a node.
+pub const MOST_RUNS: u32 = 100;
+
+/// After how many looks at places none is begun, so that large ships have fewer.
+pub const MOST_LOOKS: u64 = 5_000;
 
 // The work on a node at a desk that is made for it; want of memory is an error.
 fn work_by(alloc: Global, tables: &Tables, node: &Node, cut: u64) -> Result<Worked, NoMemory>

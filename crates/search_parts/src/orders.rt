@@ -2,9 +2,10 @@
 ghost use Rattle.std.specs.Prelude.{◌≡◌};
 ghost use Rattle.stow_data.specs.Shipment.{IsCargo};
 
+use crate::bounds::write_best;
 use crate::files::{cargo_of, records_in, ship_of};
 use crate::nodes::{Ways, write_ways, write_work};
-use box_parts::{write_along, write_dives, write_kept, write_plain, write_steps};
+use box_parts::{write_along, write_dives, write_kept, write_plain, write_steps, write_voyage};
 use certificate::Tree;
 use price_parts::{write_follows, write_raises, write_root, write_value};
 use std::alloc::Global;
@@ -23,9 +24,11 @@ enum Part {
     Steps,
     Along,
     Dive,
+    Voyage,
     Value,
     Raise,
     Root,
+    Best,
     Gauge,
     Prices,
     Work,
@@ -40,9 +43,11 @@ fn part_of(word: &str) -> Option<Part> {
         "steps" => Some(Part::Steps),
         "along" => Some(Part::Along),
         "dive" => Some(Part::Dive),
+        "voyage" => Some(Part::Voyage),
         "value" => Some(Part::Value),
         "raise" => Some(Part::Raise),
         "root" => Some(Part::Root),
+        "best" => Some(Part::Best),
         "gauge" => Some(Part::Gauge),
         "prices" => Some(Part::Prices),
         "work" => Some(Part::Work),
@@ -79,9 +84,11 @@ fn write_part<'a>(
         Part::Steps => write_steps(alloc, model, records, out),
         Part::Along => write_along(alloc, model, records, out),
         Part::Dive => write_dives(alloc, model, number, out),
+        Part::Voyage => write_voyage(alloc, model, number, out),
         Part::Value => write_value(alloc, model, records, out),
         Part::Raise => write_raises(alloc, model, records, number, out),
         Part::Root => write_root(alloc, model, number, out),
+        Part::Best => write_best(alloc, model, records, number, out),
         Part::Gauge => write_follows(alloc, model, 0, number, out),
         Part::Prices => write_follows(alloc, model, MOST_RAISES, number, out),
         Part::Work => write_work(alloc, model, number, out),

@@ -1,5 +1,6 @@
 //! What of a voyage is the same in every run: stacks, kinds, and which variables belong together.
 
+use crate::bonds::Bonds;
 use stow_data::{Length, Lengths, Place, Span};
 
 /// Tiers that a stack has at most.
@@ -30,6 +31,11 @@ pub struct StackFacts {
 }
 
 impl StackFacts {
+    /// The hatch cover that it lies under or stands on.
+    pub fn cover(&self) -> Option<u32> {
+        self.over.or(self.under)
+    }
+
     /// The place of a tier that takes these half-cells, where the stack offers it.
     pub fn place(&self, tier: u32, span: Span) -> Option<u32> {
         let (each_tier, before) = match (self.lengths, span) {
@@ -56,7 +62,7 @@ pub struct KindFacts {
     pub reefer: bool,
     /// The rounded weight, in kilograms.
     pub kg: u32,
-    /// The number of its class among the classes that separations name, from 1; 0 where none names it.
+    /// The number of its class among the cargo's, from 1; 0 where it has none.
     pub class: u32,
 }
 
@@ -102,6 +108,7 @@ pub struct Mark {
 pub struct Arrived {
     pub kind: u32,
     pub place: u32,
+    pub spot: Spot,
     /// Its place's number in the lot.
     pub rank: u32,
 }
@@ -112,6 +119,8 @@ pub struct Facts {
     /// The last call.
     pub calls: u32,
     pub stacks: Vec<StackFacts>,
+    /// Which stacks are bound together.
+    pub bonds: Bonds,
     /// The number of hatch covers.
     pub covers: u32,
     pub places: Vec<Place>,
@@ -126,11 +135,17 @@ pub struct Facts {
     pub marks: Vec<Mark>,
     /// How many places all lots have.
     pub stays: u32,
+    /// By their places, so stack by stack and from the lowest tier up.
     pub arrived: Vec<Arrived>,
     /// For two classes the level of their separation, or 0.
     pub levels: Vec<u32>,
-    /// The number of classes that separations name.
+    /// The number of classes that the cargo has.
     pub classes: u32,
+}
+
+/// How many entries a list has: the limits of a voyage keep it far below the greatest number.
+pub fn count_of<T>(list: &[T]) -> u32 {
+    u32::try_from(list.len()).unwrap_or(u32::MAX)
 }
 
 /// An index into a table of rows of this width.
@@ -161,11 +176,34 @@ impl Facts {
         }
     }
 
+    /// Whether a stack stands on a hatch cover.
+    pub fn is_on_cover(&self, stack: u32) -> bool {
+        match self.stacks.get(stack as usize) {
+            None => false,
+            Some(stack) => stack.under.is_some(),
+        }
+    }
+
+    /// The destination of a kind.
+    pub fn dest(&self, kind: u32) -> u32 {
+        match self.kinds.get(kind as usize) {
+            None => 0,
+            Some(kind) => kind.dest,
+        }
+    }
+
     /// How many containers of each kind load at a call.
     pub fn loads_at(&self, call: u32) -> &[u32] {
         let first = index_of(call, self.kinds.len(), 0);
         let past = first.wrapping_add(self.kinds.len());
         self.loads.get(first..past).unwrap_or(&[])
+    }
+
+    /// What arrives in a stack, from the lowest tier up.
+    pub fn arrived_in(&self, stack: u32) -> &[Arrived] {
+        let first = self.arrived.partition_point(|a| a.spot.stack < stack);
+        let past = self.arrived.partition_point(|a| a.spot.stack <= stack);
+        self.arrived.get(first..past).unwrap_or(&[])
     }
 
     /// The place of a stack, tier and half-cells.
@@ -175,10 +213,17 @@ impl Facts {
             .place(spot.tier, spot.span)
     }
 
+    /// The width of the table of levels: the classes have numbers from 1.
+    pub fn class_width(&self) -> usize {
+        (self.classes as usize).wrapping_add(1)
+    }
+
     /// The level at which two classes are kept apart, or 0.
     pub fn level(&self, a: u32, b: u32) -> u32 {
-        let width = (self.classes as usize).wrapping_add(1);
-        self.levels.get(index_of(a, width, b)).copied().unwrap_or(0)
+        self.levels
+            .get(index_of(a, self.class_width(), b))
+            .copied()
+            .unwrap_or(0)
     }
 }
 

@@ -1,6 +1,9 @@
 //! What is the same in every run, gathered from the ship, the cargo and the 0-1 program.
 
-use crate::facts::{Arrived, Facts, KindFacts, Lot, Mark, NO_LOT, StackFacts, bit_of, index_of};
+use crate::bonds::Bonds;
+use crate::facts::{
+    Arrived, Facts, KindFacts, Lot, Mark, NO_LOT, Spot, StackFacts, bit_of, count_of, index_of,
+};
 use std::alloc::Global;
 use stow_data::{
     CallNo, CoverNo, Kind, KindNo, Kinds, Name, NoMemory, PlaceNo, Ship, StackNo, VarNo, kinds,
@@ -45,46 +48,49 @@ fn gather_places(facts: &mut Facts, ship: &Ship) -> Result<(), NoMemory> {
     Ok(())
 }
 
-/// The classes that separations name, each once.
-fn class_names(alloc: Global, ship: &Ship) -> Result<Vec<Name>, NoMemory> {
+/// The classes that the cargo has, each once and in order.
+fn class_names(alloc: Global, kinds: &Kinds) -> Result<Vec<Name>, NoMemory> {
     let mut names = Vec::new(alloc);
-    for e in 0..ship.separations() {
-        let separation = ship.separation(e);
-        if !names.contains(&separation.a) {
-            names.push(separation.a.copy())?;
-        }
-        if !names.contains(&separation.b) {
-            names.push(separation.b.copy())?;
+    for g in 0..kinds.len() {
+        if let Some(class) = &kinds.kind(KindNo(g)).class {
+            names.push(class.copy())?;
         }
     }
+    names.sort_unstable();
+    names.dedup();
     Ok(names)
 }
 
 /// The number of a class among these, from 1; 0 where it isn't among them.
 fn class_number(names: &[Name], class: &Name) -> u32 {
-    let mut number: u32 = 1;
-    for name in names {
-        if name == class {
-            return number;
-        }
-        number = number.wrapping_add(1);
+    let before = names.partition_point(|name| name < class);
+    match names.get(before) {
+        Some(name) if name == class => u32::try_from(before).unwrap_or(u32::MAX).saturating_add(1),
+        _ => 0,
     }
-    0
 }
 
-/// The levels of all pairs of classes.
+/// Enters the level of a separation, where the cargo has both classes.
+fn enter_level(facts: &mut Facts, a: u32, b: u32, level: u32) {
+    if a == 0 || b == 0 {
+        return;
+    }
+    let width = facts.class_width();
+    if let Some(known) = facts.levels.get_mut(index_of(a, width, b)) {
+        *known = level.max(*known);
+    }
+    if let Some(known) = facts.levels.get_mut(index_of(b, width, a)) {
+        *known = level.max(*known);
+    }
+}
+
+/// The levels of all pairs of the cargo's classes.
 fn gather_levels(facts: &mut Facts, ship: &Ship, names: &[Name]) {
-    let width = names.len().wrapping_add(1);
     for e in 0..ship.separations() {
         let separation = ship.separation(e);
         let a = class_number(names, &separation.a);
         let b = class_number(names, &separation.b);
-        if let Some(level) = facts.levels.get_mut(index_of(a, width, b)) {
-            *level = separation.level;
-        }
-        if let Some(level) = facts.levels.get_mut(index_of(b, width, a)) {
-            *level = separation.level;
-        }
+        enter_level(facts, a, b, separation.level);
     }
 }
 
@@ -145,6 +151,23 @@ fn open_lot(facts: &mut Facts, x: u32, v: &Var) -> Lot {
     }
 }
 
+/// Enters a container that stands aboard as the ship comes in.
+fn enter_arrived(facts: &mut Facts, rank: u32, v: &Var) -> Result<(), NoMemory> {
+    if let Some(place) = facts.places.get(v.place.0 as usize).copied() {
+        facts.arrived.push(Arrived {
+            kind: v.kind.0,
+            place: v.place.0,
+            spot: Spot {
+                stack: place.stack.0,
+                tier: place.tier,
+                span: place.span,
+            },
+            rank,
+        })?;
+    }
+    Ok(())
+}
+
 /// Enters a place of a lot, as the variables of its first lifting name them.
 fn enter_place(facts: &mut Facts, lot: &Lot, v: &Var) -> Result<(), NoMemory> {
     let index = index_of(v.put.0, facts.kinds.len(), v.kind.0);
@@ -153,12 +176,7 @@ fn enter_place(facts: &mut Facts, lot: &Lot, v: &Var) -> Result<(), NoMemory> {
     }
     facts.stays = facts.stays.wrapping_add(1);
     if v.put.0 == 0 {
-        facts.arrived.push(Arrived {
-            kind: v.kind.0,
-            place: v.place.0,
-            rank: lot.width,
-        })?;
-        return Ok(());
+        return enter_arrived(facts, lot.width, v);
     }
     let fit = facts.fit(v.kind.0);
     let index = index_of(fit, facts.places.len(), v.place.0);
@@ -200,6 +218,7 @@ fn no_facts(alloc: Global, calls: u32, covers: u32) -> Facts {
     Facts {
         calls,
         stacks: Vec::new(alloc),
+        bonds: Bonds::new(alloc),
         covers,
         places: Vec::new(alloc),
         kinds: Vec::new(alloc),
@@ -215,13 +234,21 @@ fn no_facts(alloc: Global, calls: u32, covers: u32) -> Facts {
 }
 
 /// What stacks, places and separations are.
-fn gather_ship(facts: &mut Facts, ship: &Ship, names: &[Name]) -> Result<(), NoMemory> {
-    let classes = names.len().wrapping_add(1);
-    facts.classes = u32::try_from(names.len()).unwrap_or(0);
-    facts.levels.resize(classes.wrapping_mul(classes), 0)?;
+fn gather_ship(
+    alloc: Global,
+    facts: &mut Facts,
+    ship: &Ship,
+    names: &[Name],
+) -> Result<(), NoMemory> {
+    facts.classes = count_of(names);
+    let width = facts.class_width();
+    facts.levels.resize(width.wrapping_mul(width), 0)?;
     gather_levels(facts, ship, names);
     gather_stacks(facts, ship)?;
-    gather_places(facts, ship)
+    gather_places(facts, ship)?;
+    let by_bay = facts.levels.iter().any(|level| *level == 3);
+    facts.bonds = Bonds::bind(alloc, facts.stacks.as_slice(), by_bay)?;
+    Ok(())
 }
 
 /// What kinds and lots are.
@@ -245,9 +272,10 @@ fn gather_cargo(
 pub fn gather_facts(alloc: Global, model: &Model) -> Result<Facts, NoMemory> {
     let (ship, cargo) = (model.ship(), model.cargo());
     let kinds = kinds(alloc, ship, cargo)?;
-    let names = class_names(alloc, ship)?;
+    let names = class_names(alloc, &kinds)?;
     let mut facts = no_facts(alloc, cargo.calls(), ship.covers());
-    gather_ship(&mut facts, ship, names.as_slice())?;
+    gather_ship(alloc, &mut facts, ship, names.as_slice())?;
     gather_cargo(&mut facts, &kinds, names.as_slice(), model)?;
+    facts.arrived.sort_by_key(|arrived| arrived.place)?;
     Ok(facts)
 }

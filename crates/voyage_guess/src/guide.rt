@@ -2,6 +2,9 @@
 
 use crate::chance::Chance;
 use crate::facts::{Facts, bit_of};
+use crate::kept::Kept;
+use crate::rule::FREE_RUNS;
+use crate::scope::Scope;
 use crate::yard::Planned;
 use std::alloc::Global;
 use stow_data::NoMemory;
@@ -39,10 +42,12 @@ impl Guide {
 
     /// Takes nothing over.
     pub fn clear(&mut self) {
-        if !self.stays.is_empty() {
-            self.stays.clear();
-            self.pledged.fill(0);
+        for stay in self.stays.iter() {
+            if let Some(calls) = self.pledged.get_mut(stay.place as usize) {
+                *calls = 0;
+            }
         }
+        self.stays.clear();
     }
 
     /// Draws the stacks whose stays are planned anew.
@@ -87,21 +92,69 @@ impl Guide {
         self.take(Planned { ends, ..*stay })
     }
 
-    /// Draws which of a voyage's stays are taken over. Those that the box asks for are told by `asked`, for each place the
-    /// calls as bits.
+    /// Takes over what it may of these stays.
+    fn consider_all(
+        &mut self,
+        stays: &[Planned],
+        from: u32,
+        asked: &[u32],
+    ) -> Result<(), NoMemory> {
+        for stay in stays {
+            let asked = asked.get(stay.place as usize).copied().unwrap_or(0);
+            self.consider(stay, from, asked)?;
+        }
+        Ok(())
+    }
+
+    /// Takes over what it may of a voyage's stays in the stacks that are sailed.
+    fn consider_stacks(
+        &mut self,
+        kept: &Kept,
+        scope: &Scope,
+        from: u32,
+        asked: &[u32],
+    ) -> Result<(), NoMemory> {
+        for stack in scope.stacks() {
+            self.consider_all(kept.stays(*stack), from, asked)?;
+        }
+        self.stays.sort_by_key(|stay| stay.put)?;
+        Ok(())
+    }
+
+    /// Draws which of a voyage's stays are taken over, where the whole ship is sailed: those in some stacks, and those that begin
+    /// before a call. Those that the box asks for are told by `asked`, for each place the calls as bits.
     pub fn draw(
         &mut self,
         facts: &Facts,
         chance: &mut Chance,
-        stays: &[Planned],
+        kept: &Kept,
+        scope: &Scope,
         asked: &[u32],
     ) -> Result<(), NoMemory> {
         self.clear();
         self.draw_freed(chance);
         let from = chance.below(facts.calls);
-        for stay in stays {
-            let asked = asked.get(stay.place as usize).copied().unwrap_or(0);
-            self.consider(stay, from, asked)?;
+        self.consider_stacks(kept, scope, from, asked)
+    }
+
+    /// Draws from which call on few stacks are planned anew: mostly from the first, else the stays that begin before it are taken
+    /// over.
+    pub fn draw_from(
+        &mut self,
+        facts: &Facts,
+        chance: &mut Chance,
+        kept: &Kept,
+        scope: &Scope,
+        asked: &[u32],
+    ) -> Result<(), NoMemory> {
+        self.clear();
+        if chance.below(100) < FREE_RUNS {
+            return Ok(());
+        }
+        self.is_freed.fill(true);
+        let from = chance.below(facts.calls);
+        if from > 1 {
+            self.consider_stacks(kept, scope, from, asked)?;
         }
         Ok(())
     }

@@ -97,6 +97,7 @@ impl Leave {
                     tier: place.tier,
                     span: place.span,
                 },
+                is_rehandled: false,
             })?;
         }
         Ok(())

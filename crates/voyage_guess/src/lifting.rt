@@ -2,6 +2,7 @@
 
 use crate::chance::Chance;
 use crate::facts::{Facts, StackFacts, TIERS, bit_of};
+use crate::scope::Scope;
 use crate::yard::{Column, Pile, Yard};
 use stow_data::{Lengths, NoMemory};
 
@@ -154,28 +155,28 @@ fn lift_from(
 fn lift_all_from(
     yard: &mut Yard,
     facts: &Facts,
+    scope: &Scope,
     chance: &mut Chance,
     is_on_cover: bool,
     lifting: Lifting,
 ) -> Result<bool, NoMemory> {
-    let mut number: u32 = 0;
-    for stack in facts.stacks.iter() {
-        if stack.under.is_some() == is_on_cover
-            && !lift_from(yard, facts, chance, number, lifting)?
+    for stack in scope.stacks() {
+        if facts.is_on_cover(*stack) == is_on_cover
+            && !lift_from(yard, facts, chance, *stack, lifting)?
         {
             return Ok(false);
         }
-        number = number.wrapping_add(1);
     }
     Ok(true)
 }
 
 /// Notes at the hatch covers what stays on and under them.
-fn survey(yard: &mut Yard, facts: &Facts) {
-    for (number, stack) in facts.stacks.iter().enumerate() {
-        if let Some(pile) = yard.piles.get(number).copied() {
-            yard.survey_stack(stack, &pile);
-        }
+fn survey(yard: &mut Yard, facts: &Facts, scope: &Scope) {
+    if yard.hatches.is_empty() {
+        return;
+    }
+    for number in scope.stacks() {
+        yard.survey_stack(facts, *number);
     }
 }
 
@@ -184,15 +185,16 @@ fn survey(yard: &mut Yard, facts: &Facts) {
 pub fn lift_all(
     yard: &mut Yard,
     facts: &Facts,
+    scope: &Scope,
     chance: &mut Chance,
     lifting: Lifting,
 ) -> Result<bool, NoMemory> {
-    yard.clear_hatches();
-    if !lift_all_from(yard, facts, chance, false, lifting)?
-        || !lift_all_from(yard, facts, chance, true, lifting)?
+    yard.clear_hatches(facts, scope);
+    if !lift_all_from(yard, facts, scope, chance, false, lifting)?
+        || !yard.hatches.is_empty() && !lift_all_from(yard, facts, scope, chance, true, lifting)?
     {
         return Ok(false);
     }
-    survey(yard, facts);
+    survey(yard, facts, scope);
     Ok(true)
 }

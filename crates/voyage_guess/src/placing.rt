@@ -4,6 +4,7 @@ use crate::chance::Chance;
 use crate::facts::{Facts, Spot, StackFacts, bit_of};
 use crate::guide::Guide;
 use crate::leave::Leave;
+use crate::scope::Scope;
 use crate::yard::{Classed, Hatch, Stay, Yard};
 use stow_data::{Length, Span};
 
@@ -140,6 +141,7 @@ fn least_under(yard: &Yard, spot: Spot, under: Option<&Hatch>) -> u32 {
 pub struct Scene<'a> {
     pub yard: &'a Yard,
     pub facts: &'a Facts,
+    pub scope: &'a Scope,
     pub leave: &'a Leave,
     pub guide: &'a Guide,
     pub taste: &'a Taste,
@@ -252,16 +254,14 @@ impl<'a> Scene<'a> {
     /// The offer with the least score, if any.
     pub fn best(&self, wish: &Wish, chance: &mut Chance) -> Option<Offer> {
         let mut best = None;
-        let mut stack: u32 = 0;
-        for _ in self.facts.stacks.iter() {
+        for stack in self.scope.stacks() {
             best = match wish.long {
-                Length::Forty => self.better(best, wish, stack, Span::Both, chance),
+                Length::Forty => self.better(best, wish, *stack, Span::Both, chance),
                 Length::Twenty => {
-                    let fore = self.better(best, wish, stack, Span::Fore, chance);
-                    self.better(fore, wish, stack, Span::Aft, chance)
+                    let fore = self.better(best, wish, *stack, Span::Fore, chance);
+                    self.better(fore, wish, *stack, Span::Aft, chance)
                 }
             };
-            stack = stack.wrapping_add(1);
         }
         best
     }

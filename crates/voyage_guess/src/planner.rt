@@ -2,11 +2,13 @@
 ghost use Rattle.std.specs.Prelude.{◌≡◌, ◌<◌, All, IfOk, IfSome, IsSome, None, Some, length, slice_get};
 ghost use Rattle.zero_one_rows.specs.Variables.{variables};
 
+use crate::facts::Facts;
 use crate::gathering::gather_facts;
+use crate::kept::Kept;
 use crate::sailing::Sailor;
 use crate::yard::Planned;
 use std::alloc::Global;
-use std::mem;
+use std::sync::Arc;
 use stow_data::{NoMemory, VarNo};
 use zero_one_model::{Box01, Model};
 
@@ -17,17 +19,20 @@ pub struct Wanted {
     pub cut: u64,
     /// A voyage that rehandles at most so often is good enough: none is looked for behind it.
     pub enough: u64,
-    /// How many voyages are tried.
+    /// How many voyages are tried at most.
     pub runs: u32,
+    /// After how many looks at places none is begun.
+    pub looks: u64,
 }
 
 /// Plans voyages by chance, again and again: its work space is kept from node to node.
 #[derive(Drop)]
 pub struct Planner {
     sailor: Sailor,
-    /// The stays of the cheapest voyage that was found, by the calls at which they begin, and how often it rehandles.
-    stays: Vec<Planned>,
-    cost: u64,
+    /// The cheapest voyage that was found.
+    kept: Kept,
+    /// Only voyages that rehandle less often than this are taken.
+    cut: u64,
 }
 
 /// How early a stay comes as a branch: by put, tier, the latest lifting and place.
@@ -56,40 +61,51 @@ fn fix_rest(model: &Model, b: &mut Box01)
 impl Planner {
     /// A planner for the voyages of the ship and cargo whose program is `model`.
     pub fn new(alloc: Global, model: &Model) -> Result<Planner, NoMemory> {
-        let facts = gather_facts(alloc, model)?;
+        let facts = Arc::new(alloc, gather_facts(alloc, model)?)?;
+        Planner::over(alloc, facts)
+    }
+
+    /// A planner that knows these facts.
+    fn over(alloc: Global, facts: Arc<Facts, Global>) -> Result<Planner, NoMemory> {
+        let kept = Kept::new(alloc, facts.stacks.len())?;
         Ok(Planner {
             sailor: Sailor::new(alloc, facts, 1)?,
-            stays: Vec::new(alloc),
-            cost: u64::MAX,
+            kept,
+            cut: u64::MAX,
         })
+    }
+
+    /// A fresh planner for the same voyages: what is the same in every voyage is known once for all.
+    pub fn beside(&self, alloc: Global) -> Result<Planner, NoMemory> {
+        Planner::over(alloc, Arc::try_clone(&self.sailor.facts)?)
     }
 
     /// A planner that goes on where this one stands, with a work space that the caller takes anew. Two planners that one thread
     /// made may lie in one cache line, and then each of two threads that write there waits for the other: so each thread makes
     /// its own.
-    pub fn moved(&self, alloc: Global, model: &Model) -> Result<Planner, NoMemory> {
-        let mut planner = Planner::new(alloc, model)?;
+    pub fn moved(&self, alloc: Global) -> Result<Planner, NoMemory> {
+        let mut planner = self.beside(alloc)?;
         planner.sailor.take_chance(&self.sailor);
-        planner.stays.extend_from_slice(self.stays.as_slice())?;
-        planner.cost = self.cost;
+        planner.kept.copy_from(&self.kept)?;
+        planner.cut = self.cut;
         Ok(planner)
     }
 
     /// How often the cheapest voyage of the last box rehandles; None where none was found.
     pub fn cost(&self) -> Option<u64> {
-        if self.stays.is_empty() {
-            None
+        if self.kept.is_found() {
+            Some(self.kept.cost())
         } else {
-            Some(self.cost)
+            None
         }
     }
 
-    /// How many of the cheapest voyage's stays the box asks for; None where it forbids one.
-    fn asked(&self, model: &Model, b: &Box01) -> Option<u32>
+    /// How many of these stays the box asks for; None where it forbids one.
+    fn asked_of(stays: &[Planned], model: &Model, b: &Box01) -> Option<u32>
         requires whole { length b.now ≡ length (variables model.now) }
     {
         let mut count: u32 = 0;
-        for stay in self.stays.iter() {
+        for stay in stays {
             if stay.x.0 >= model.vars() {
                 return None;
             }
@@ -102,37 +118,60 @@ impl Planner {
         Some(count)
     }
 
+    /// How many of the cheapest voyage's stays the box asks for; None where it forbids one.
+    fn asked(&self, model: &Model, b: &Box01) -> Option<u32>
+        requires whole { length b.now ≡ length (variables model.now) }
+    {
+        let mut count: u32 = 0;
+        for stays in self.kept.stacks() {
+            count = count.wrapping_add(Planner::asked_of(stays, model, b)?);
+        }
+        Some(count)
+    }
+
     /// Forgets the cheapest voyage, unless it is below the cut, and the box allows it and asks for no stay beside it.
     fn forget(&mut self, model: &Model, b: &Box01, cut: u64)
         requires whole { length b.now ≡ length (variables model.now) }
     {
+        self.cut = cut;
         let asked = self.asked(model, b);
         let is_fresh = asked == Some(self.sailor.leave.ones());
-        if self.stays.is_empty() || self.cost >= cut || !is_fresh {
-            self.stays.clear();
-            self.cost = cut;
+        if self.kept.cost() >= cut || !is_fresh {
+            self.kept.forget();
         }
+    }
+
+    /// Sails one more voyage: over the whole ship, or over few stacks of the one that is kept. False where it fails, or rehandles
+    /// more often.
+    fn sail(&mut self) -> Result<bool, NoMemory> {
+        if !self.kept.is_found() {
+            return self.sailor.sail_all(&self.kept, self.cut);
+        }
+        if self.sailor.is_whole_next() {
+            let limit = self.kept.cost().saturating_add(1);
+            return self.sailor.sail_all(&self.kept, limit);
+        }
+        self.sailor.sail_few(&self.kept)
     }
 
     /// Sails one more voyage, and keeps it where it is cheaper, or as cheap as the one that is kept.
     fn try_once(&mut self) -> Result<(), NoMemory> {
-        let limit = if self.stays.is_empty() {
-            self.cost
-        } else {
-            self.cost.saturating_add(1)
-        };
-        if self.sailor.sail(limit, self.stays.as_slice())? {
-            self.cost = self.sailor.yard.cost;
-            mem::swap(&mut self.stays, &mut self.sailor.yard.stays);
-            self.stays.sort_by_key(|stay| stay.put)?;
+        if self.sail()? {
+            self.sailor.hand_over(&mut self.kept)?;
         }
         Ok(())
     }
 
+    /// Whether a voyage is kept that is good enough.
+    fn has_enough(&self, enough: u64) -> bool {
+        self.kept.is_found() && self.kept.cost() <= enough || self.cut <= enough
+    }
+
     /// Looks for a voyage.
     fn look(&mut self, wanted: Wanted) -> Result<(), NoMemory> {
+        self.sailor.looks = 0;
         for _ in 0..wanted.runs {
-            if self.cost <= wanted.enough {
+            if self.has_enough(wanted.enough) || self.sailor.looks >= wanted.looks {
                 return Ok(());
             }
             self.try_once()?;
@@ -163,16 +202,50 @@ impl Planner {
         }
     }
 
+    /// The earliest one of a branch and the free ones of these stays.
+    fn earliest(
+        &self,
+        model: &Model,
+        b: &Box01,
+        first: Option<(Rank, VarNo)>,
+        stays: &[Planned],
+    ) -> Option<(Rank, VarNo)>
+        requires whole { length b.now ≡ length (variables model.now) }
+        requires first { IfSome first (λ c. slice_get b.now c.1 ≡ Some None) }
+        ensures free { IfSome result (λ c. slice_get b.now c.1 ≡ Some None) }
+    {
+        let mut best = first;
+        for stay in stays {
+            best = self.earlier(model, b, best, stay);
+        }
+        best
+    }
+
     /// The first free stay of the cheapest voyage.
     fn branch(&self, model: &Model, b: &Box01) -> Option<VarNo>
         requires whole { length b.now ≡ length (variables model.now) }
         ensures free { IfSome result (λ x. slice_get b.now x ≡ Some None) }
     {
+        if !self.kept.is_found() {
+            return None;
+        }
         let mut best = None;
-        for stay in self.stays.iter() {
-            best = self.earlier(model, b, best, stay);
+        for stays in self.kept.stacks() {
+            best = self.earliest(model, b, best, stays);
         }
         best.map(|found| found.1)
+    }
+
+    /// Fixes stays at 1.
+    fn fix_each(model: &Model, b: &mut Box01, stays: &[Planned])
+        requires whole { length b.old ≡ length (variables model.now) }
+        ensures whole { length b.new ≡ length (variables model.now) }
+    {
+        for stay in stays {
+            if stay.x.0 < model.vars() {
+                fix_free(b, stay.x, true);
+            }
+        }
     }
 
     /// Fixes the stays of the cheapest voyage at 1.
@@ -180,10 +253,8 @@ impl Planner {
         requires whole { length b.old ≡ length (variables model.now) }
         ensures whole { length b.new ≡ length (variables model.now) }
     {
-        for stay in self.stays.iter() {
-            if stay.x.0 < model.vars() {
-                fix_free(b, stay.x, true);
-            }
+        for stays in self.kept.stacks() {
+            Planner::fix_each(model, b, stays);
         }
     }
 
@@ -193,7 +264,7 @@ impl Planner {
         ensures whole { IfOk result (λ found. IfSome found (λ b. length b ≡ length (variables model.now))) }
         ensures full { IfOk result (λ found. IfSome found (All IsSome)) }
     {
-        if self.stays.is_empty() {
+        if !self.kept.is_found() {
             return Ok(None);
         }
         let mut b = Box01::free(alloc, model)?;

@@ -1,19 +1,24 @@
 //! One voyage by chance, from the arrival to the last call.
 
 use crate::chance::Chance;
-use crate::facts::{Arrived, Facts, Spot, TIERS};
+use crate::facts::{Arrived, Facts, TIERS};
 use crate::guide::Guide;
+use crate::kept::Kept;
 use crate::leave::Leave;
 use crate::lifting::{Lifting, lift_all};
 use crate::placing::{ONE, Offer, Scene, Taste, Wish};
+use crate::rule::{DUG_RUNS, GUIDED_RUNS, WHOLE_RUNS};
+use crate::scope::Scope;
+use crate::trade::Trade;
 use crate::yard::{Planned, Stay, Yard};
 use std::alloc::Global;
 use std::ops::Range;
+use std::sync::Arc;
 use stow_data::NoMemory;
 
 /// What a run likes, by chance.
 fn draw_taste(chance: &mut Chance) -> Taste {
-    let dig = if chance.below(100) < 30 {
+    let dig = if chance.below(100) < DUG_RUNS {
         chance.below(19_660)
     } else {
         0
@@ -32,34 +37,39 @@ fn draw_taste(chance: &mut Chance) -> Taste {
     }
 }
 
-/// Draws the order in which kinds are put: the latest destination first, or a mixture of that and chance. Each kind's entry
-/// has its number in the lower half.
-fn draw_order(facts: &Facts, chance: &mut Chance, order: &mut Vec<u64>) {
-    let (weight, spread) = if chance.below(100) < 35 {
+/// How an order of kinds weighs destinations, and how far chance moves a kind.
+fn draw_weights(chance: &mut Chance) -> (u32, u32) {
+    if chance.below(100) < 35 {
         (chance.below(65_536), 4)
     } else {
         (65_536, 1)
-    };
-    let mut number: u64 = 0;
-    for (entry, kind) in order.iter_mut().zip(facts.kinds.iter()) {
-        let drawn = chance.below(65_536);
-        let key = weight
-            .wrapping_mul(32_u32.saturating_sub(kind.dest))
-            .wrapping_add(drawn.wrapping_mul(spread));
-        *entry = u64::from(key)
-            .wrapping_mul(4_294_967_296)
-            .wrapping_add(number);
-        number = number.wrapping_add(1);
     }
 }
 
-/// Lines up the kinds that wait on the quay, in the order in which they are put. They are few, and a voyage often fails early:
-/// so this takes less time than an order of all kinds.
-fn line_up(order: &[u64], quay: &[u32], line: &mut Vec<u64>) -> Result<(), NoMemory> {
+/// Draws the order in which these kinds are put: the latest destination first, or a mixture of that and chance. Each kind's
+/// entry has its number in the lower half.
+fn draw_order(facts: &Facts, chance: &mut Chance, kinds: &[u32], order: &mut Vec<u64>) {
+    let (weight, spread) = draw_weights(chance);
+    for kind in kinds {
+        let drawn = chance.below(65_536);
+        let key = weight
+            .wrapping_mul(32_u32.saturating_sub(facts.dest(*kind)))
+            .wrapping_add(drawn.wrapping_mul(spread));
+        if let Some(entry) = order.get_mut(*kind as usize) {
+            *entry = u64::from(key)
+                .wrapping_mul(4_294_967_296)
+                .wrapping_add(u64::from(*kind));
+        }
+    }
+}
+
+/// Lines up those of these kinds that wait on the quay, in the order in which they are put. They are few, and a voyage often
+/// fails early: so this takes less time than an order of all kinds.
+fn line_up(yard: &Yard, kinds: &[u32], order: &[u64], line: &mut Vec<u64>) -> Result<(), NoMemory> {
     line.clear();
-    for (entry, waiting) in order.iter().zip(quay.iter()) {
-        if *waiting > 0 {
-            line.push(*entry)?;
+    for kind in kinds {
+        if yard.on_quay(*kind) > 0 {
+            line.push(order.get(*kind as usize).copied().unwrap_or(0))?;
         }
     }
     line.sort_unstable();
@@ -73,17 +83,20 @@ fn beginning_at(stays: &[Planned], call: u32) -> Range<usize> {
     first..past
 }
 
-/// Takes the containers from the quay for which these stays ask at a call. False where one isn't there.
-fn reserve_from(stays: &[Planned], yard: &mut Yard, call: u32) -> bool {
+/// Takes the containers from the quay for which these stays ask at a call, as far as their stacks are sailed. False where one
+/// isn't there.
+fn reserve_from(stays: &[Planned], scope: &Scope, yard: &mut Yard, call: u32) -> bool {
     let asked = stays.get(beginning_at(stays, call)).unwrap_or(&[]);
-    asked.iter().all(|pledge| yard.take(pledge.kind))
+    asked.iter().all(|pledge| !scope.has(pledge.spot.stack) || yard.take(pledge.kind))
 }
 
 /// Sails voyages by chance.
 #[derive(Drop)]
 pub struct Sailor {
-    pub facts: Facts,
+    pub facts: Arc<Facts, Global>,
     pub leave: Leave,
+    pub scope: Scope,
+    trade: Trade,
     guide: Guide,
     pub yard: Yard,
     chance: Chance,
@@ -92,12 +105,16 @@ pub struct Sailor {
     order: Vec<u64>,
     /// The entries of the kinds that wait, in order.
     line: Vec<u64>,
+    /// How many places were looked at.
+    pub looks: u64,
 }
 
 impl Sailor {
     /// A sailor who knows these facts.
-    pub fn new(alloc: Global, facts: Facts, seed: u64) -> Result<Sailor, NoMemory> {
+    pub fn new(alloc: Global, facts: Arc<Facts, Global>, seed: u64) -> Result<Sailor, NoMemory> {
         let leave = Leave::new(alloc, &facts)?;
+        let scope = Scope::new(alloc, &facts)?;
+        let trade = Trade::new(alloc, &facts)?;
         let guide = Guide::new(alloc, &facts)?;
         let yard = Yard::new(alloc, &facts)?;
         let order = Vec::from_elem(alloc, 0, facts.kinds.len())?;
@@ -106,12 +123,15 @@ impl Sailor {
         Ok(Sailor {
             facts,
             leave,
+            scope,
+            trade,
             guide,
             yard,
             chance,
             taste,
             order,
             line: Vec::new(alloc),
+            looks: 0,
         })
     }
 
@@ -125,16 +145,8 @@ impl Sailor {
         let Some(lot) = self.facts.lot(0, arrived.kind).copied() else {
             return Ok(());
         };
-        let Some(place) = self.facts.places.get(arrived.place as usize).copied() else {
-            return Ok(());
-        };
         let ends = self.leave.ends(lot.stays.wrapping_add(arrived.rank));
         let due = if ends == 0 { 0 } else { ends.ilog2() };
-        let spot = Spot {
-            stack: place.stack.0,
-            tier: place.tier,
-            span: place.span,
-        };
         let stay = Stay {
             kind: arrived.kind,
             put: 0,
@@ -144,30 +156,47 @@ impl Sailor {
             least: 0,
             doomed: false,
         };
-        self.yard.put(&self.facts, spot, stay)
+        self.yard.put(&self.facts, arrived.spot, stay)
     }
 
-    /// Puts what stands aboard as the ship comes in.
-    fn come_in(&mut self) -> Result<(), NoMemory> {
-        self.yard.clear();
-        self.yard.clear_hatches();
-        for number in 0..self.facts.arrived.len() {
-            if let Some(arrived) = self.facts.arrived.get(number).copied() {
+    /// Puts what stands in a stack as the ship comes in.
+    fn settle_stack(&mut self, stack: u32) -> Result<(), NoMemory> {
+        for number in 0..self.facts.arrived_in(stack).len() {
+            if let Some(arrived) = self.facts.arrived_in(stack).get(number).copied() {
                 self.settle(arrived)?;
             }
         }
         Ok(())
     }
 
-    /// What loads at a call comes to the quay.
-    fn load(&mut self, call: u32) {
-        self.yard.load_all(self.facts.loads_at(call));
+    /// Puts what stands aboard as the ship comes in.
+    fn come_in(&mut self) -> Result<(), NoMemory> {
+        self.yard.clear(&self.scope);
+        self.yard.clear_hatches(&self.facts, &self.scope);
+        if self.facts.arrived.is_empty() {
+            return Ok(());
+        }
+        for number in 0..self.scope.stacks().len() {
+            if let Some(stack) = self.scope.stacks().get(number).copied() {
+                self.settle_stack(stack)?;
+            }
+        }
+        Ok(())
+    }
+
+    /// What loads at a call comes to the quay, or the net cargo of the stacks that are sailed. False where that can't be.
+    fn load(&mut self, call: u32) -> bool {
+        if self.scope.is_whole() {
+            self.yard.load_all(self.facts.loads_at(call));
+            return true;
+        }
+        self.trade.exchange(&mut self.yard, call)
     }
 
     /// Takes the containers from the quay for which a stay is asked for at this call. False where one isn't there.
     fn reserve(&mut self, call: u32) -> bool {
-        reserve_from(self.leave.pledges(), &mut self.yard, call)
-            && reserve_from(self.guide.stays(), &mut self.yard, call)
+        reserve_from(self.leave.pledges(), &self.scope, &mut self.yard, call)
+            && reserve_from(self.guide.stays(), &self.scope, &mut self.yard, call)
     }
 
     /// Puts a container at the place that was offered.
@@ -181,6 +210,7 @@ impl Sailor {
         Scene {
             yard: &self.yard,
             facts: &self.facts,
+            scope: &self.scope,
             leave: &self.leave,
             guide: &self.guide,
             taste: &self.taste,
@@ -207,6 +237,9 @@ impl Sailor {
         let Some(pledge) = pledge else {
             return Ok(());
         };
+        if !self.scope.has(pledge.spot.stack) {
+            return Ok(());
+        }
         match self.pledged_offer(&pledge) {
             None => Ok(()),
             Some(offer) => self.accept(&offer),
@@ -233,6 +266,7 @@ impl Sailor {
 
     /// Puts a container of a kind at the best place. False where none is open.
     fn put_one(&mut self, wish: &Wish) -> Result<bool, NoMemory> {
+        self.looks = self.looks.wrapping_add(self.scope.stacks().len() as u64);
         let mut chance = self.chance;
         let best = self.scene().best(wish, &mut chance);
         self.chance = chance;
@@ -277,8 +311,9 @@ impl Sailor {
             return Ok(false);
         }
         line_up(
+            &self.yard,
+            self.trade.kinds(),
             self.order.as_slice(),
-            self.yard.quay.as_slice(),
             &mut self.line,
         )?;
         for _ in 0..TIERS {
@@ -296,16 +331,27 @@ impl Sailor {
         Ok(false)
     }
 
+    /// Lifts what leaves its place. False where the box forbids a lift.
+    fn lift(&mut self, lifting: Lifting) -> Result<bool, NoMemory> {
+        self.looks = self.looks.wrapping_add(self.scope.stacks().len() as u64);
+        lift_all(
+            &mut self.yard,
+            &self.facts,
+            &self.scope,
+            &mut self.chance,
+            lifting,
+        )
+    }
+
     /// What happens at a call before the last. False where the run fails, or comes to so many rehandles.
     fn visit(&mut self, call: u32, limit: u64) -> Result<bool, NoMemory> {
         let lifting = Lifting {
             call,
             dig: self.taste.dig,
         };
-        if !lift_all(&mut self.yard, &self.facts, &mut self.chance, lifting)? {
+        if !self.lift(lifting)? || !self.load(call) {
             return Ok(false);
         }
-        self.load(call);
         Ok(
             self.yard.cost.wrapping_add(self.yard.doomed) < limit
                 && self.put_all(call)?
@@ -319,26 +365,55 @@ impl Sailor {
             call: self.facts.calls,
             dig: 0,
         };
-        lift_all(&mut self.yard, &self.facts, &mut self.chance, lifting)
+        self.lift(lifting)
     }
 
-    /// Draws which stays of an earlier voyage the next run takes over.
-    fn follow(&mut self, stays: &[Planned]) -> Result<(), NoMemory> {
-        let is_guided = self.chance.below(100) < 60;
-        if stays.is_empty() || !is_guided {
+    /// Draws what of the kept voyage a run over the whole ship takes over.
+    fn follow(&mut self, kept: &Kept) -> Result<(), NoMemory> {
+        let is_guided = self.chance.below(100) < GUIDED_RUNS;
+        if !kept.is_found() || !is_guided {
             self.guide.clear();
             return Ok(());
         }
-        self.guide
-            .draw(&self.facts, &mut self.chance, stays, self.leave.asked())
+        self.guide.draw(
+            &self.facts,
+            &mut self.chance,
+            kept,
+            &self.scope,
+            self.leave.asked(),
+        )
     }
 
-    /// Sails a voyage that rehandles less often than `limit`. False where it fails. The variables of its stays and its cost
-    /// stand in the yard.
-    pub fn sail(&mut self, limit: u64, earlier: &[Planned]) -> Result<bool, NoMemory> {
-        self.follow(earlier)?;
+    /// Prepares a run over the whole ship.
+    fn take_all(&mut self, kept: &Kept) -> Result<(), NoMemory> {
+        self.scope.take_all(&self.facts)?;
+        self.trade.take_all(&self.facts)?;
+        self.follow(kept)
+    }
+
+    /// Prepares a run over few stacks.
+    fn take_few(&mut self, kept: &Kept) -> Result<(), NoMemory> {
+        self.scope.draw(&self.facts, &mut self.chance, kept)?;
+        self.trade.gather(kept, &self.scope)?;
+        self.guide.draw_from(
+            &self.facts,
+            &mut self.chance,
+            kept,
+            &self.scope,
+            self.leave.asked(),
+        )
+    }
+
+    /// Sails the stacks that were taken. False where it fails, or comes to so many rehandles. The stays and the rehandles stand in
+    /// the yard.
+    fn sail(&mut self, limit: u64) -> Result<bool, NoMemory> {
         self.taste = draw_taste(&mut self.chance);
-        draw_order(&self.facts, &mut self.chance, &mut self.order);
+        draw_order(
+            &self.facts,
+            &mut self.chance,
+            self.trade.kinds(),
+            &mut self.order,
+        );
         self.come_in()?;
         for call in 1..self.facts.calls {
             if !self.visit(call, limit)? {
@@ -346,5 +421,28 @@ impl Sailor {
             }
         }
         Ok(self.arrive()? && self.yard.cost < limit)
+    }
+
+    /// Sails the whole ship. False where the run fails, or has so many rehandles.
+    pub fn sail_all(&mut self, kept: &Kept, limit: u64) -> Result<bool, NoMemory> {
+        self.take_all(kept)?;
+        self.sail(limit)
+    }
+
+    /// Sails few stacks of the kept voyage anew. False where the run fails, or these stacks have more rehandles than they had.
+    pub fn sail_few(&mut self, kept: &Kept) -> Result<bool, NoMemory> {
+        self.take_few(kept)?;
+        let limit = kept.rehandles_of(self.scope.stacks()).saturating_add(1);
+        self.sail(limit)
+    }
+
+    /// Hands the voyage over: its stays stand in place of those that were kept in the stacks that were sailed.
+    pub fn hand_over(&self, kept: &mut Kept) -> Result<(), NoMemory> {
+        kept.take(self.scope.stacks(), self.yard.stays.as_slice())
+    }
+
+    /// Whether the next run sails the whole ship.
+    pub fn is_whole_next(&mut self) -> bool {
+        self.chance.below(100) < WHOLE_RUNS
     }
 }

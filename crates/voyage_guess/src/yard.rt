@@ -1,6 +1,7 @@
 //! The state of a run: what stands where, what waits on the quay, and which stays have ended.
 
 use crate::facts::{Facts, KindFacts, Spot, StackFacts, TIERS, bit_of};
+use crate::scope::Scope;
 use std::alloc::Global;
 use stow_data::{NoMemory, Span, VarNo};
 
@@ -83,6 +84,8 @@ pub struct Planned {
     pub lifted: u32,
     pub place: u32,
     pub spot: Spot,
+    /// Whether it ends before the container's destination.
+    pub is_rehandled: bool,
 }
 
 /// A container of a class that separations name, and where it stands.
@@ -169,14 +172,19 @@ impl Yard {
         }
     }
 
-    /// An empty ship and an empty quay.
-    pub fn clear(&mut self) {
+    /// Empty stacks, as far as they are sailed, and an empty quay.
+    pub fn clear(&mut self, scope: &Scope) {
         let column = self.empty_column();
-        self.piles.fill(Pile {
+        let empty = Pile {
             fore: column,
             aft: column,
             kg: 0,
-        });
+        };
+        for stack in scope.stacks() {
+            if let Some(pile) = self.piles.get_mut(*stack as usize) {
+                *pile = empty;
+            }
+        }
         self.quay.fill(0);
         self.waiting = 0;
         self.stays.clear();
@@ -185,17 +193,34 @@ impl Yard {
         self.doomed = 0;
     }
 
-    /// Hatch covers of which nothing is known.
-    pub fn clear_hatches(&mut self) {
+    /// Forgets what is known of a hatch cover.
+    fn clear_hatch(&mut self, cover: Option<u32>) {
+        let Some(cover) = cover else {
+            return;
+        };
         let least = self.later;
-        self.hatches.fill(Hatch {
-            is_opened: false,
-            is_closed: false,
-            laden: 0,
-            least,
-            latest: 0,
-            room: 0,
-        });
+        if let Some(hatch) = self.hatches.get_mut(cover as usize) {
+            *hatch = Hatch {
+                is_opened: false,
+                is_closed: false,
+                laden: 0,
+                least,
+                latest: 0,
+                room: 0,
+            };
+        }
+    }
+
+    /// Forgets what is known of the hatch covers over and under the stacks that are sailed.
+    pub fn clear_hatches(&mut self, facts: &Facts, scope: &Scope) {
+        if self.hatches.is_empty() {
+            return;
+        }
+        for stack in scope.stacks() {
+            if let Some(stack) = facts.stacks.get(*stack as usize) {
+                self.clear_hatch(stack.cover());
+            }
+        }
     }
 
     /// How many half-cells of a column are filled.
@@ -227,7 +252,13 @@ impl Yard {
     }
 
     /// Notes at the hatch covers what stays in a stack.
-    pub fn survey_stack(&mut self, stack: &StackFacts, pile: &Pile) {
+    pub fn survey_stack(&mut self, facts: &Facts, number: u32) {
+        let Some(stack) = facts.stacks.get(number as usize) else {
+            return;
+        };
+        let Some(pile) = self.piles.get(number as usize).copied() else {
+            return;
+        };
         let filled = pile.fore.height.wrapping_add(pile.aft.height);
         if let Some(over) = stack.over {
             if let Some(hatch) = self.hatches.get_mut(over as usize) {
@@ -422,6 +453,7 @@ impl Yard {
             lifted: call,
             place: facts.place_of(spot).unwrap_or(u32::MAX),
             spot,
+            is_rehandled: facts.dest(stay.kind) != call,
         })?;
         Ok(())
     }
@@ -465,6 +497,15 @@ impl Yard {
             }
             _ => false,
         }
+    }
+
+    /// Takes a container of a kind away from the quay. False where none is there.
+    pub fn give(&mut self, kind: u32) -> bool {
+        let is_there = self.take(kind);
+        if is_there {
+            self.waiting = self.waiting.wrapping_sub(1);
+        }
+        is_there
     }
 
     /// Lifts the top of a column at a call. False where the box forbids it.

@@ -1,0 +1,57 @@
+//! What the root alone tells of all voyages.
+ghost use Rattle.std.specs.Prelude.{◌≡◌, ◌≤◌, ◌+◌};
+ghost use Rattle.stow_data.specs.Shipment.{IsCargo};
+ghost use Rattle.zero_one_rows.specs.Variables.{Voyage};
+ghost use Rattle.node_ends.specs.Work.{IsNode, most_rehandles};
+
+use crate::desk::Desk;
+use crate::tables::Tables;
+use certificate::{Node, Path, Trail};
+use kept_box::BaseMatrix;
+use node_ends::Worked;
+use std::alloc::Global;
+use stow_data::NoMemory;
+use voyage_guess::Planner;
+use zero_one_model::Model;
+
+// The root.
+fn root(alloc: Global) -> Node
+    ensures { (m : Voyage) → IsNode m result }
+{
+    Node {
+        path: Path::new(alloc),
+        trail: Trail::new(alloc),
+    }
+}
+
+// A cut that the program allows: this one or the greatest.
+fn cut_at(model: &Model, most: u64) -> u64
+    requires { IsCargo model.now.cargo }
+    ensures { result ≤ most_rehandles model.now + 1 }
+{
+    most.min(model.limit() + 1)
+}
+
+// What the root tells at a cut.
+fn bound_at(alloc: Global, tables: &Tables, cut: u64) -> Result<u64, NoMemory>
+    requires cargo { IsCargo tables.now.cargo }
+    requires cut { cut ≤ most_rehandles tables.now + 1 }
+{
+    let planner = Planner::new(alloc, tables.model())?;
+    let mut desk = Desk::fresh(alloc, tables, planner)?;
+    match desk.work(alloc, &root(alloc), cut) {
+        Worked::Closed(_) => Ok(cut),
+        Worked::Branched(_) => Ok(desk.bound()),
+        Worked::Full { cost, .. } => Ok(cost),
+        Worked::NoMemory => Err(NoMemory),
+    }
+}
+
+/// How often each voyage rehandles at least, as far as the root tells; at most this number. It is a hint, of which nothing is said.
+pub fn root_bound(alloc: Global, model: &Model, most: u64) -> Result<u64, NoMemory>
+    requires { IsCargo model.now.cargo }
+{
+    let matrix = BaseMatrix::build(alloc, model)?;
+    let tables = Tables::build(alloc, &matrix);
+    bound_at(alloc, &tables, cut_at(model, most))
+}

@@ -1,0 +1,150 @@
+//! The voyage that is kept, stack by stack.
+
+use crate::chance::Chance;
+use crate::yard::Planned;
+use std::alloc::Global;
+use stow_data::NoMemory;
+
+/// The cheapest voyage that was found, if any.
+#[derive(Drop)]
+pub struct Kept {
+    is_found: bool,
+    /// For each stack the stays in it.
+    stays: Vec<Vec<Planned>>,
+    /// For each stack how many of them end before the container's destination.
+    rehandles: Vec<u32>,
+    /// How many that are in all.
+    cost: u64,
+}
+
+impl Kept {
+    /// No voyage over so many stacks.
+    pub fn new(alloc: Global, stacks: usize) -> Result<Kept, NoMemory> {
+        let mut stays = Vec::new(alloc);
+        for _ in 0..stacks {
+            stays.push(Vec::new(alloc))?;
+        }
+        Ok(Kept {
+            is_found: false,
+            stays,
+            rehandles: Vec::from_elem(alloc, 0, stacks)?,
+            cost: 0,
+        })
+    }
+
+    /// Whether there is a voyage.
+    pub fn is_found(&self) -> bool {
+        self.is_found
+    }
+
+    /// How often the voyage rehandles.
+    pub fn cost(&self) -> u64 {
+        self.cost
+    }
+
+    /// For each stack the stays in it.
+    pub fn stacks(&self) -> &[Vec<Planned>] {
+        self.stays.as_slice()
+    }
+
+    /// The stays in a stack.
+    pub fn stays(&self, stack: u32) -> &[Planned] {
+        match self.stays.get(stack as usize) {
+            None => &[],
+            Some(stays) => stays.as_slice(),
+        }
+    }
+
+    /// How often a stack rehandles.
+    pub fn rehandles(&self, stack: u32) -> u32 {
+        self.rehandles.get(stack as usize).copied().unwrap_or(0)
+    }
+
+    /// How often these stacks rehandle.
+    pub fn rehandles_of(&self, stacks: &[u32]) -> u64 {
+        let mut sum: u64 = 0;
+        for stack in stacks {
+            sum = sum.saturating_add(u64::from(self.rehandles(*stack)));
+        }
+        sum
+    }
+
+    /// A stack with a rehandle, each as likely as it has rehandles. None where there is none.
+    pub fn draw_rehandled(&self, chance: &mut Chance) -> Option<u32> {
+        if self.cost == 0 {
+            return None;
+        }
+        let mut left = chance.below(self.cost.min(65_536) as u32);
+        let mut number: u32 = 0;
+        for rehandles in self.rehandles.iter() {
+            if left < *rehandles {
+                return Some(number);
+            }
+            left = left.saturating_sub(*rehandles);
+            number = number.saturating_add(1);
+        }
+        None
+    }
+
+    /// Forgets the voyage.
+    pub fn forget(&mut self) {
+        self.is_found = false;
+    }
+
+    /// Forgets the stays in a stack.
+    fn clear(&mut self, stack: u32) {
+        self.cost = self.cost.saturating_sub(u64::from(self.rehandles(stack)));
+        if let Some(rehandles) = self.rehandles.get_mut(stack as usize) {
+            *rehandles = 0;
+        }
+        if let Some(stays) = self.stays.get_mut(stack as usize) {
+            stays.clear();
+        }
+    }
+
+    /// Enters a stay.
+    fn enter(&mut self, stay: &Planned) -> Result<(), NoMemory> {
+        if stay.is_rehandled {
+            self.cost = self.cost.saturating_add(1);
+            if let Some(rehandles) = self.rehandles.get_mut(stay.spot.stack as usize) {
+                *rehandles = rehandles.saturating_add(1);
+            }
+        }
+        if let Some(stays) = self.stays.get_mut(stay.spot.stack as usize) {
+            stays.push(*stay)?;
+        }
+        Ok(())
+    }
+
+    /// Enters these stays.
+    fn enter_all(&mut self, stays: &[Planned]) -> Result<(), NoMemory> {
+        for stay in stays {
+            self.enter(stay)?;
+        }
+        Ok(())
+    }
+
+    /// Keeps what is kept there.
+    pub fn copy_from(&mut self, other: &Kept) -> Result<(), NoMemory> {
+        for stays in other.stacks() {
+            self.enter_all(stays)?;
+        }
+        self.is_found = other.is_found;
+        Ok(())
+    }
+
+    /// Forgets the stays in these stacks.
+    fn clear_all(&mut self, stacks: &[u32]) {
+        for stack in stacks {
+            self.clear(*stack);
+        }
+    }
+
+    /// Keeps these stays in place of all that were in these stacks.
+    pub fn take(&mut self, stacks: &[u32], stays: &[Planned]) -> Result<(), NoMemory> {
+        self.clear_all(stacks);
+        self.enter_all(stays)?;
+        self.is_found = true;
+        Ok(())
+    }
+}
