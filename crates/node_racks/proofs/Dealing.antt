@@ -13,7 +13,8 @@ use Rattle.node_racks.specs.declared.rule.Fair.{Fair}
 use Rattle.node_racks.specs.declared.racks.Rack.{Rack}
 use Rattle.node_racks.specs.declared.racks.Pass.{Pass as Passes}
 use Rattle.node_racks.specs.Racks.{stolen_weight, all_put, all_took, IsPassAt, IsFresh, number_of, count_from}
-use Rattle.node_racks.specs.Rounds.{Each, IsHeld, IsUnused, deques, stolen_from, AreLifo, own_put, own_took, Fits, FitsNew, own_of, row_of}
+use Rattle.node_racks.specs.Rounds.{IsHeld, IsUnused, deques, stolen_from, AreLifo, own_put, own_took, Fits, FitsNew, own_of, row_of, AreNone, HasNoMiss}
+use Rattle.node_racks.specs.Bags.{Each}
 
 -- ## Lists
 
@@ -88,9 +89,9 @@ count_length k (suc n) = omega (arith, count_length (k + 1) n)
 -- ## Deques and tokens
 
 module _ {A P : Type 0} where
-  pub unused_held : (n : ℕ) (ws : List (Worker Node A Hand P)) → Every (IsUnused n) ws → Every (IsHeld n) ws
-  unused_held n [] h = tt
-  unused_held n (w ∷ ws) h = ((h.0.0, ap (λ (v : Hand). v.parts) h.0.1), unused_held n ws h.1)
+  pub unused_held : (room n : ℕ) (ws : List (Worker Node A Hand P)) → Every (IsUnused room n) ws → Every (IsHeld n) ws
+  unused_held room n [] h = tt
+  unused_held room n (w ∷ ws) h = ((h.0.0, ap (λ (v : Hand). v.parts) h.0.1), unused_held room n ws h.1)
 
   pub stolen_snoc : (ts : List (Stealer Node A Hand P)) (t : Stealer Node A Hand P) → stolen_from (ts ++ t ∷ []) ≡ stolen_from ts ++ stealer_deque t ∷ []
   stolen_snoc [] t = refl
@@ -133,34 +134,37 @@ module _ {A : Type 0} where
 
 module _ {M : Type 0} where
   -- a pass that is made of an unused deque and new tokens of all deques
-  abbrev IsMade : ℕ → List (RowsId × Global) → Passes M → Type 0
-  IsMade held ds s = IsUnused held s.own × Each FitsNew ds s.tokens.items
+  abbrev IsMade : ℕ → ℕ → ℕ → List (RowsId × Global) → Passes M → Type 0
+  IsMade room many held ds s = IsUnused room held s.own × HasNoMiss many s × Each FitsNew ds s.tokens.items
 
-  pub made : (held : ℕ) (ds : List (RowsId × Global)) (ss : List (Passes M)) → Every (IsUnused held) (map own_of ss) → Every (Each FitsNew ds) (map row_of ss) → Every (IsMade held ds) ss
-  made held ds [] h k = tt
-  made held ds (s ∷ ss) h k = ((h.0, k.0), made held ds ss h.1 k.1)
+  pub made : (room many held : ℕ) (ds : List (RowsId × Global)) (ss : List (Passes M)) → Every (IsUnused room held) (map own_of ss) → Every (HasNoMiss many) ss → Every (Each FitsNew ds) (map row_of ss) → Every (IsMade room many held ds) ss
+  made room many held ds [] h c k = tt
+  made room many held ds (s ∷ ss) h c k = ((h.0, c.0, k.0), made room many held ds ss h.1 c.1 k.1)
 
-  pub made_fresh : (held : ℕ) (ds : List (RowsId × Global)) (ss : List (Passes M)) → Every (IsMade held ds) ss → Every IsFresh ss
-  made_fresh held ds [] h = tt
-  made_fresh held ds (s ∷ ss) h =
-      ((ap (λ (v : Hand). v.put) h.0.0.1, λ g. omega (arith, none_taken g ds s.tokens.items h.0.1, ap (λ (v : Hand). weigh g v.took) h.0.0.1)), made_fresh held ds ss h.1)
+  pub made_fresh : (room many held : ℕ) (ds : List (RowsId × Global)) (ss : List (Passes M)) → Every (IsMade room many held ds) ss → Every IsFresh ss
+  made_fresh room many held ds [] h = tt
+  made_fresh room many held ds (s ∷ ss) h =
+      ((ap (λ (v : Hand). v.put) h.0.0.1, (λ g. omega (arith, none_taken g ds s.tokens.items h.0.2, ap (λ (v : Hand). weigh g v.took) h.0.0.1)), h.0.1.1), made_fresh room many held ds ss h.1)
 
   module _ (r : Rack M) (held : ℕ) (few : length r.thieves.items ≤ 16) (parts : held + length r.thieves.items ≡ 1024) (lifo : AreLifo r.thieves.items) where
     abbrev from_all : List (RowsId × Global)
     from_all = stolen_from r.thieves.items
 
-    made_at : (s : Passes M) (k : ℕ) → IsMade held from_all s → s.number ≡ k → k < length r.thieves.items → ((d : _) → worker_deque s.own ≡ stealer_deque (slice_index_or r.thieves.items k d)) → IsPassAt r s
+    made_at : (s : Passes M) (k : ℕ) → IsMade r.room (length r.thieves.items) held from_all s → s.number ≡ k → k < length r.thieves.items → ((d : _) → worker_deque s.own ≡ stealer_deque (slice_index_or r.thieves.items k d)) → IsPassAt r s
     made_at s k h is lt own = record {
       number = omega (arith, is, lt);
-      tokens = each_length FitsNew from_all s.tokens.items h.1 ∙ stolen_length r.thieves.items;
+      tokens = each_length FitsNew from_all s.tokens.items h.2 ∙ stolen_length r.thieves.items;
       flavor = h.0.0;
       parts = omega (arith, ap (λ (v : Hand). v.parts) h.0.1, parts);
       few = few;
       deque = λ d. own d ∙ ap (λ (j : ℕ). stealer_deque (slice_index_or r.thieves.items j d)) (sym is);
       flavors = every_at (λ t. stealer_flavor t ≡ 1) r.thieves.items lifo;
-      belong = λ j d e jlt. (fits_at FitsNew r.thieves.items s.tokens.items h.1 j d e jlt).0;
-      shares = every_at (λ t. (view {V = Hand} t).parts ≡ 1) s.tokens.items (new_shares from_all s.tokens.items h.1);
-      idle = every_at (λ t. (view {V = Hand} t).put ≡ []) s.tokens.items (new_idle from_all s.tokens.items h.1);
+      belong = λ j d e jlt. (fits_at FitsNew r.thieves.items s.tokens.items h.2 j d e jlt).0;
+      shares = every_at (λ t. (view {V = Hand} t).parts ≡ 1) s.tokens.items (new_shares from_all s.tokens.items h.2);
+      idle = every_at (λ t. (view {V = Hand} t).put ≡ []) s.tokens.items (new_idle from_all s.tokens.items h.2);
+      counts = h.1.0;
+      room = h.0.3;
+      index = omega (arith, h.0.2);
     }
       where
         new_shares : (ds : List (RowsId × Global)) (row : List (Pass Node Hand Global)) → Each FitsNew ds row → Every (λ t. (view {V = Hand} t).parts ≡ 1) row
@@ -176,7 +180,7 @@ module _ {M : Type 0} where
         new_idle (d ∷ ds) (t ∷ row) f = (ap (λ (v : Hand). v.put) f.0.1, new_idle ds row f.1)
 
     made_all : (pre suf : List (Stealer Node Global Hand (Fair M))) (ss : List (Passes M)) → r.thieves.items ≡ pre ++ suf → deques (map own_of ss) ≡ stolen_from suf → map number_of ss ≡ count_from (length pre) (length ss)
-        → Every (IsMade held from_all) ss → Every (IsPassAt r) ss
+        → Every (IsMade r.room (length r.thieves.items) held from_all) ss → Every (IsPassAt r) ss
     made_all pre suf [] all same nums h = tt
     made_all pre [] (s ∷ ss) all same nums h = absurd (omega (arith, ap length same))
     made_all pre (t ∷ suf) (s ∷ ss) all same nums h =
@@ -200,7 +204,7 @@ module _ {M : Type 0} where
         tail_same : {X : Type 0} (xs ys : List X) (x y : X) → x ∷ xs ≡ y ∷ ys → xs ≡ ys
         tail_same xs ys x y e = cc
 
-    pub made_passes : (ss : List (Passes M)) → deques (map own_of ss) ≡ from_all → map number_of ss ≡ count_from 0 (length ss) → Every (IsMade held from_all) ss → Every (IsPassAt r) ss
+    pub made_passes : (ss : List (Passes M)) → deques (map own_of ss) ≡ from_all → map number_of ss ≡ count_from 0 (length ss) → Every (IsMade r.room (length r.thieves.items) held from_all) ss → Every (IsPassAt r) ss
     made_passes ss same nums h = made_all [] r.thieves.items ss refl same nums h
 
   -- ## All passes come back
@@ -273,8 +277,8 @@ module _ {M : Type 0} where
 
   module _ (workers : ℕ) (r : Rack M) (begun dealt : List (Worker Node Global Hand (Fair M))) {V : Type 0} (f : V → List (Pass Node Hand Global)) (rows : List V) (ss : List (Passes M)) (few : workers ≤ 16)
       (count : length begun ≡ workers) (from : stolen_from r.thieves.items ≡ deques begun) (lifo : AreLifo r.thieves.items)
-      (unused : Every (IsUnused (1024 - workers)) dealt) (same : deques dealt ≡ deques begun) (fit : Every (λ row. Each FitsNew (deques begun) (f row)) rows)
-      (owns : map own_of ss ≡ dealt) (parts : map row_of ss ≡ map f rows) (numbers : map number_of ss ≡ count_from 0 (length dealt)) where
+      (unused : Every (IsUnused r.room (1024 - workers)) dealt) (same : deques dealt ≡ deques begun) (fit : Every (λ row. Each FitsNew (deques begun) (f row)) rows)
+      (owns : map own_of ss ≡ dealt) (parts : map row_of ss ≡ map f rows) (numbers : map number_of ss ≡ count_from 0 (length dealt)) (counts : Every (HasNoMiss (length dealt)) ss) where
     pub opens_count : length r.thieves.items ≡ workers
     opens_count = omega (arith, count, ap length from, stolen_length r.thieves.items, deques_length begun)
 
@@ -284,12 +288,13 @@ module _ {M : Type 0} where
     pub opens_all : map number_of ss ≡ count_from 0 (length r.thieves.items)
     opens_all = numbers ∙ ap (count_from 0) (omega (arith, dealt_count, opens_count))
 
-    there : Every (IsMade (1024 - workers) (stolen_from r.thieves.items)) ss
-    there = made (1024 - workers) (stolen_from r.thieves.items) ss (subst (Every (IsUnused (1024 - workers))) (sym owns) unused)
+    there : Every (IsMade r.room (length r.thieves.items) (1024 - workers) (stolen_from r.thieves.items)) ss
+    there = made r.room (length r.thieves.items) (1024 - workers) (stolen_from r.thieves.items) ss (subst (Every (IsUnused r.room (1024 - workers))) (sym owns) unused)
+        (subst (λ (n : ℕ). Every (HasNoMiss n) ss) (omega (arith, dealt_count, opens_count)) counts)
         (subst (Every (Each FitsNew (stolen_from r.thieves.items))) (sym parts) (every_map f (Each FitsNew (stolen_from r.thieves.items)) rows (subst (λ (ds : List (RowsId × Global)). Every (λ row. Each FitsNew ds (f row)) rows) (sym from) fit)))
 
     pub opens_fresh : Every IsFresh ss
-    opens_fresh = made_fresh (1024 - workers) (stolen_from r.thieves.items) ss there
+    opens_fresh = made_fresh r.room (length r.thieves.items) (1024 - workers) (stolen_from r.thieves.items) ss there
 
     pub opens_passes : Every (IsPassAt r) ss
     opens_passes = made_passes r (1024 - workers) (omega (arith, opens_count, few)) (omega (arith, opens_count, few)) lifo ss

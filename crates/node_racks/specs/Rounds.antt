@@ -1,8 +1,8 @@
 -- The deques of a rack as tokens are dealt and come back. No public clause cites this module.
-use Rattle.std.specs.Prelude.{◌≡◌, ℕ, ◌+◌, List, [], ◌∷◌}
+use Rattle.std.specs.Prelude.{◌≡◌, ℕ, ◌+◌, ◌≤◌, All, length, List, [], ◌∷◌}
 use Rattle.std.specs.declared.alloc.Global.{Global}
 use Rattle.atomic_blocks.specs.Lent.{RowsId}
-use Rattle.crossbeam_deque.specs.Handles.{Pass, IsPassOf, worker_deque, worker_flavor, worker_view, stealer_deque, stealer_flavor, view}
+use Rattle.crossbeam_deque.specs.Handles.{Pass, IsPassOf, worker_deque, worker_flavor, worker_view, worker_capacity, worker_index, stealer_deque, stealer_flavor, view}
 use Rattle.crossbeam_deque.specs.declared.handles.Worker.{Worker}
 use Rattle.crossbeam_deque.specs.declared.handles.Stealer.{Stealer}
 use Rattle.certificate.specs.declared.nodes.Node.{Node}
@@ -12,21 +12,14 @@ use Rattle.node_racks.specs.declared.racks.Pass.{Pass as Passes}
 use Rattle.search_core.specs.Bags.{weigh, Every}
 use Rattle.node_racks.specs.Bags.{hand}
 
--- the relation holds of the items of both lists, one by one
-abbrev pub Each : {A B : Type 0} → (A → B → Type 0) → List A → List B → Type 0
-Each P [] [] = Unit {0}
-Each P [] (y ∷ ys) = ⊥
-Each P (x ∷ xs) [] = ⊥
-Each P (x ∷ xs) (y ∷ ys) = P x y × Each P xs ys
-
 module _ {A P : Type 0} where
   -- the deque's own pass holds so many parts
   abbrev pub IsHeld : ℕ → Worker Node A Hand P → Type 0
   IsHeld n w = (worker_flavor w ≡ 1) × ((worker_view {V = Hand} w).parts ≡ n)
 
-  -- and it has put and taken nothing
-  abbrev pub IsUnused : ℕ → Worker Node A Hand P → Type 0
-  IsUnused n w = (worker_flavor w ≡ 1) × (worker_view {V = Hand} w ≡ hand n [] [])
+  -- and it has put and taken nothing, with room for so many puts
+  abbrev pub IsUnused : ℕ → ℕ → Worker Node A Hand P → Type 0
+  IsUnused room n w = (worker_flavor w ≡ 1) × (worker_view {V = Hand} w ≡ hand n [] []) × (worker_index w ≡ 0) × (room ≤ worker_capacity w)
 
   abbrev pub deques : List (Worker Node A Hand P) → List (RowsId × A)
   deques [] = []
@@ -63,3 +56,10 @@ own_of s = s.own
 
 abbrev pub row_of : {M : Type 0} → Passes M → List (Pass Node Hand Global)
 row_of s = s.tokens.items
+
+-- so many counts, all 0
+abbrev pub AreNone : ℕ → List ℕ → Type 0
+AreNone n counts = (length counts ≡ n) × All (λ k. k ≡ 0) counts
+
+abbrev pub HasNoMiss : {M : Type 0} → ℕ → Passes M → Type 0
+HasNoMiss n s = AreNone n s.misses.items

@@ -3,13 +3,16 @@ ghost use Rattle.std.specs.Prelude.{◌≡◌, ℕ, ◌+◌, ◌-◌, ◌<◌, �
 ghost use Rattle.crossbeam_deque.specs.Handles.{IsPassOf, worker_deque, worker_flavor, worker_view, view};
 ghost use Rattle.certificate.specs.declared.nodes.Node.{Node};
 ghost use Rattle.search_core.specs.Bags.{weigh, Every};
-ghost use Rattle.node_racks.specs.Racks.{stolen_weight, IsPassAt, AreAll, all_put, all_took};
-ghost use Rattle.node_racks.specs.Rounds.{Each, IsHeld, Fits, deques, own_of, own_put, own_took, row_of};
+ghost use Rattle.node_racks.specs.Racks.{stolen_weight, IsPassAt, AreAll, all_put, all_took, room_at};
+ghost use Rattle.node_racks.specs.Tallies.{did_of, workers_of, room_of};
+ghost use Rattle.node_racks.specs.Rounds.{IsHeld, Fits, deques, own_of, own_put, own_took, row_of};
+ghost use Rattle.node_racks.specs.Bags.{Each};
 
 use crate::deques::{Deque, Token, give_back, rest};
 use crate::opening::Dealt;
 use crate::racks::{Pass, Rack};
 use crate::rule::Wanted;
+use crate::tally::{Tally, tally_of};
 use certificate::Node;
 use std::alloc::Global;
 use stow_data::NoMemory;
@@ -90,7 +93,9 @@ fn parted<M: Wanted>(alloc: Global, passes: Vec<Pass<M>>) -> Result<Dealt<M>, No
             own,
             number: _,
             tokens,
+            misses,
         } = pass;
+        drop(misses);
         owns.push(own)?;
         rows.push(tokens)?;
     }
@@ -115,9 +120,16 @@ fn absorb_all<M: Wanted>(alloc: Global, dealt: Dealt<M>) -> Result<Vec<Deque<M>>
     Ok(owns)
 }
 
+/// What a closed rack still held, and what each worker put and took.
+#[derive(Drop)]
+pub struct Closed {
+    pub rest: Vec<Node>,
+    pub tally: Tally,
+}
+
 impl<M: Wanted> Rack<M> {
-    /// What the deques still hold, once all passes are back: what all passes put is, as a bag, what they took and this.
-    pub fn close(self, alloc: Global, passes: Vec<Pass<M>>) -> Result<Vec<Node>, NoMemory>
+    // What the deques still hold, once all passes are back.
+    fn emptied(self, alloc: Global, passes: Vec<Pass<M>>) -> Result<Vec<Node>, NoMemory>
         requires passes { Every (IsPassAt self) passes.items }
         requires all { AreAll self passes.items }
         ensures meets { IfOk result (λ rest. Every M.meets rest.items) }
@@ -126,5 +138,19 @@ impl<M: Wanted> Rack<M> {
         let dealt = parted(alloc, passes)?;
         let owns = absorb_all(alloc, dealt)?;
         empty(alloc, owns)
+    }
+
+    /// Closes the rack, once all passes are back, and tells what the deques still held and what each worker put and took. What all put is, as a bag, what they took and what the deques held.
+    pub fn close(self, alloc: Global, passes: Vec<Pass<M>>) -> Result<Closed, NoMemory>
+        requires passes { Every (IsPassAt self) passes.items }
+        requires all { AreAll self passes.items }
+        ensures meets { IfOk result (λ closed. Every M.meets closed.rest.items) }
+        ensures bag { IfOk result (λ closed. (h : Node → ℕ) → all_put h passes.items ≡ all_took h passes.items + weigh h closed.rest.items) }
+        ensures tally { IfOk result (λ closed. workers_of closed.tally ≡ map did_of passes.items) }
+        ensures room { IfOk result (λ closed. room_of closed.tally ≡ room_at self) }
+    {
+        let (passes, tally) = tally_of(alloc, &self, passes)?;
+        let rest = self.emptied(alloc, passes)?;
+        Ok(Closed { rest, tally })
     }
 }

@@ -7,9 +7,12 @@ mod deques;
 mod opening;
 mod racks;
 mod rule;
+mod tally;
 mod view;
 
 pub use board::{Board, Owner, Seat, Totals};
+pub use closing::Closed;
 pub use racks::{Pass, Rack};
 pub use rule::Wanted;
+pub use tally::{Did, Tally};
 pub use view::{Role, View};

@@ -1,8 +1,9 @@
 -- From the tree of a search to a certificate.
-use Rattle.std.proofs.Common.{◌≡◌, ◌≢◌, ℕ, suc, ◌+◌, ◌-◌, ◌<◌, ◌≤◌, Bool, true, false, List, [], ◌∷◌, length, map, Option, Some, None, refl, sym, ap, subst, ◌∙◌, arith, inl, inr}
+use Rattle.std.proofs.Common.{◌≡◌, ◌≢◌, ℕ, suc, ◌+◌, ◌-◌, ◌*◌, ◌^◌, ◌<◌, ◌≤◌, Bool, true, false, List, [], ◌∷◌, length, map, Option, Some, None, refl, sym, ap, subst, ◌∙◌, arith, inl, inr}
 use Rattle.std.specs.Prelude.{◌⊎◌, ◌==◌, IfSome}
 use Rattle.std.proofs.lemmas.Bool.{eq-eqb, eqb-true, both_ways}
 use Rattle.std.proofs.lemmas.Bool.Decides.{nat_tests}
+use Rattle.std.proofs.Math.Nat.{mul-le-mul_left}
 use borrow.Author.Differences.{ints}
 use Rattle.stow_data.specs.Ship.{Ship}
 use Rattle.stow_data.specs.Shipment.{Cargo}
@@ -16,13 +17,14 @@ use Rattle.voyage_meaning.specs.Voyage.{IsVoyage, HasCount}
 use Rattle.plan_lifts.specs.Lifted as lifts
 use Rattle.greedy_loader.specs.Calls.{DepartFrom}
 use Rattle.zero_one_rows.specs.declared.program.Row.{Row}
-use Rattle.zero_one_rows.specs.Variables.{Voyage}
+use Rattle.zero_one_rows.specs.Variables.{Voyage, calls}
 use Rattle.zero_one_rows.specs.Rows.{whole, CrossingRowsHold}
 use Rattle.proof_trees.specs.Boxes.{Box}
 use Rattle.proof_trees.specs.Trees.{Entry, Pending, root}
 use Rattle.proof_trees.proofs.Lesser.{proves_lesser}
 use Rattle.certificate.specs.declared.tree.Record.{Record}
 use Rattle.certificate.specs.Entries.{same_row, entry_of}
+use Rattle.certificate.specs.Text.{cert_text}
 use Rattle.bound_checker.specs.Entries.{ProvesBound, IsBestBound}
 use Rattle.search_core.specs.Journals.{branches}
 use Rattle.search_core.proofs.Along.{hold_more}
@@ -32,11 +34,12 @@ use Rattle.model_bridge.specs.Laws.{IsProblem, IsCostBound, IsVoyageBound, HasNo
 use Rattle.plan_search.specs.declared.loaded.Counted.{Counted}
 use Rattle.plan_search.specs.declared.run.Searched.{Searched}
 use Rattle.plan_search.specs.Loaded.{IsCountOf, ArePlans}
-use Rattle.plan_search.specs.Trees.{IsSettled, IsEarnest}
+use Rattle.plan_search.specs.Trees.{IsSettled, IsEarnest, most_bytes}
 use Rattle.plan_search.specs.Certified.{OutcomeHolds, ceiling, CountsVoyage, HasPlans, Certifies}
 use Rattle.plan_search.specs.Found.{ArePlansOrNone, IsCounted, IsPlanned, IsLoaded, IsImproved, IsBest, IsSearched, IsSailed, AreChosen, outcome_of, rehandles_of, head_of}
 use Rattle.plan_search.proofs.AtZero.{settled_lesser}
 use Rattle.plan_search.proofs.Few.{count_few}
+use Rattle.plan_search.proofs.TextLengths.{IsLow, text_short}
 
 -- ## Legal departures
 
@@ -198,8 +201,24 @@ module _ (m : Voyage) (rules : IsProblem m) (budget : ℕ) (first begun c : Coun
     room = let lt = below c.count bound best.low e in omega (arith, lt, count);
   }
 
-  pub certifies : Certifies m budget (head_of c bound s.nodes) s.tree
-  certifies = record {
+  count_low : c.count < 10 ^ 12
+  count_low =
+      let some = best_low m begun.count s.best s.full found.best in
+      let few : length m.cargo.containers * (calls m - 1) ≤ length m.cargo.containers * 11 = mul-le-mul_left (length m.cargo.containers) (omega (arith, rules.cargo.calls_to)) in
+      omega (arith, low, some, better.no_worse, loaded.low, few, rules.cargo.few_containers)
+
+  rehandles_low : (o : Option (List Plan)) → IsLow m rules (rehandles_of o c.count)
+  rehandles_low None = tt
+  rehandles_low (Some plans) = count_low
+
+  -- the certificate's text
+  short : budget ≤ 100000 → length (cert_text (head_of c bound s.nodes) s.tree) ≤ most_bytes m budget
+  short few = text_short m rules budget s.best (head_of c bound s.nodes) s.tree (omega (arith, found.nodes, found.within)) found.settled found.lean found.empty (rehandles_low c.plans) (omega (arith, best.low, count_low)) (omega (arith, found.within, few))
+
+  pub certifies : budget ≤ 100000 → Certifies m budget (head_of c bound s.nodes) s.tree
+  certifies few = record {
+    empty = found.empty;
+    short = short few;
     loaded = first.plans;
     loads = loaded.loads;
     start = first.count;

@@ -5,4 +5,6 @@ pub mod Few
 pub mod Program
 pub mod Searched
 pub mod OneLeaf
+pub mod LineLengths
+pub mod TextLengths
 pub mod Certifying

@@ -1,6 +1,7 @@
 -- A box without multipliers closes at 0, so one leaf is the tree of a search for fewer rehandles than none.
-use Rattle.std.proofs.Common.{◌≡◌, ℕ, ◌≤◌, [], refl, sym, subst, arith, inr}
+use Rattle.std.proofs.Common.{◌≡◌, ℕ, ◌≤◌, true, [], refl, sym, ap, subst, arith, inr}
 use Rattle.std.specs.Prelude.{Result, Ok, Err, IfOk}
+use Rattle.std.proofs.lemmas.Bool.{both_ways}
 use borrow.Author.Differences.{ints}
 use Rattle.proof_trees.specs.Boxes.{free_box}
 use Rattle.proof_trees.specs.Multipliers.{Closes}
@@ -8,7 +9,7 @@ use Rattle.zero_one_rows.specs.Variables.{Voyage}
 use Rattle.zero_one_rows.specs.Rows.{whole}
 use Rattle.bound_checker.specs.Entries.{ProvesBound}
 use Rattle.plan_search.specs.declared.run.Searched.{Searched}
-use Rattle.plan_search.specs.Trees.{IsSettled}
+use Rattle.plan_search.specs.Trees.{IsSettled, was_handled}
 use Rattle.plan_search.specs.Found.{IsSearched, one_leaf}
 use Rattle.plan_search.proofs.AtZero.{worth_from}
 use Rattle.plan_search.proofs.Program.{costs_from}
@@ -30,6 +31,7 @@ leaf_searched m budget from = record {
   lean = (record { steps = tt; raises = omega arith }, tt);
   earnest = ((λ divides. absurd (cc)), tt);
   settled = leaf_settled m;
+  empty = ((λ e. absurd (both_ways true (ap was_handled e) refl)), tt);
   proves_none = leaf_proves m;
   ended = inr (leaf_proves m);
   best = refl;

@@ -1,8 +1,10 @@
 -- What a search found, as one tree of a certificate.
 use Rattle.std.proofs.Common.{◌≡◌, ℕ, ◌<◌, ◌≤◌, ◌^◌, Bool, true, false, cond, List, [], ◌∷◌, length, map, Option, Some, None, ℤ, pos, ◌≤ℤ◌, refl, sym, ap, subst, ◌∙◌, arith, inl, inr}
 use Rattle.std.specs.Prelude.{◌⊎◌}
+use Rattle.std.proofs.lemmas.Bool.{both_ways}
 use Rattle.std.proofs.lemmas.List.Sums.{sum_by-cons}
 use borrow.Author.Differences.{ints}
+use Rattle.zero_one_rows.specs.declared.program.Raise.{Raise}
 use Rattle.zero_one_rows.specs.declared.program.Row.{Row}
 use Rattle.zero_one_rows.specs.Variables.{Voyage, variables}
 use Rattle.zero_one_rows.specs.Rows.{whole}
@@ -14,20 +16,20 @@ use Rattle.proof_trees.specs.Trees.{End, Leaf, Left, Branch, Entry, Pending, beg
 use Rattle.certificate.specs.declared.tree.Record.{Record}
 use Rattle.certificate.specs.declared.tree.End.TheVariants as cert
 use Rattle.certificate.specs.declared.tree.End as ends
-use Rattle.certificate.specs.Entries.{same_row, number_of, end_of, entry_of}
+use Rattle.certificate.specs.Entries.{same_row, raise_of, number_of, end_of, entry_of}
 use Rattle.model_bridge.specs.Pairs.{is_one, ones}
 use Rattle.search_core.specs.Bags.{weigh}
 use Rattle.search_core.specs.Journals.{Placed, Tree, preorder, Gathers, all_nodes, branches, is_left, known, nothing_done, Settled}
 use Rattle.search_core.specs.Machine.{Node, Handled, begins, bit_of, is_full, price}
 use Rattle.search_core.specs.Outcomes.{path_of, nodes_of}
-use Rattle.search_core.specs.Along.{is_root, Begins, IsOfNode, HoldsAlong}
+use Rattle.search_core.specs.Along.{is_root, Begins, IsOfNode, HoldAll, HoldsAlong}
 use Rattle.search_core.proofs.Weights.{every_in}
 use Rattle.search_core.proofs.Along.{hold_more}
 use Rattle.node_ledger.specs.Gathered.{placed_entries, IsGathered}
 use Rattle.node_ends.specs.Work as node
 use Rattle.steal_pool.specs.declared.found.Found.{Found}
 use Rattle.steal_pool.specs.Found.{IsWorked, HasBest, IsFound}
-use Rattle.plan_search.specs.Trees.{was_handled, handled}
+use Rattle.plan_search.specs.Trees.{was_handled, handled, empty_record, LeavesEmpty}
 use Rattle.plan_search.specs.Found.{IsFullAt, IsBest, IsSearched}
 use Rattle.plan_search.proofs.AtZero.{LeavesWorth, KeepsWorth, worth_started, proves_none}
 use Rattle.plan_search.proofs.TreeSizes.{counts, few_records}
@@ -64,9 +66,17 @@ module _ (m : Voyage) where
   end_counts cert.Left = refl
   end_counts (cert.Branch x) = refl
 
-  handled_counts : (tree : List Record) → weigh (λ e. counts e.end) (map (entry_of m) tree) ≡ handled tree
+  pub handled_counts : (tree : List Record) → weigh (λ e. counts e.end) (map (entry_of m) tree) ≡ handled tree
   handled_counts [] = refl
   handled_counts (r ∷ rs) = omega (arith, sum_by-cons (λ (x : Record). cond (was_handled x.end) 1 0) r rs, end_counts r.end, handled_counts rs)
+
+-- the record of a node that was left open
+empty_of : (z : Bool) (ss : List Row) (rs : List Raise) (x : ends.End) → z ≡ false → ss ≡ [] → rs ≡ [] → x ≡ cert.Left → record { from_zero = z; steps = ss; raises = rs; end = x } ≡ empty_record
+empty_of z ss rs x a b c d = rw (a, b, c, d) refl
+
+none_mapped : {A B : Type 0} (f : A → B) (xs : List A) → [] ≡ map f xs → xs ≡ []
+none_mapped f [] h = refl
+none_mapped f (x ∷ xs) h = absurd (cc)
 
 -- a list is empty, or longer
 ended_by : {A : Type 0} {P Q : Type 0} (xs : List A) → (xs ≡ [] → P) → (0 < length xs → Q) → Q ⊎ P
@@ -120,6 +130,18 @@ module _ (m : Voyage) (start budget : ℕ) (f : Found) (tree : List Record) (fou
       → HoldsAlong same_row (whole m) (IsOfNode same_row (whole m) entries found.nodes) records
   along_tree g law = subst (λ (es : List (Entry Row)). HoldsAlong same_row (whole m) (IsOfNode same_row (whole m) entries found.nodes) es) (sym g.in_preorder) (law g.tree (gathers g))
 
+  records_open : (top : Bool) (q : Pending Row) (r : Record) → IsOfNode same_row (whole m) entries found.nodes top q (entry_of m r) → r.end ≡ cert.Left → r ≡ empty_record
+  records_open top q r (inl h) e =
+      let ended = every_in (λ (x : Handled Row). is_left x.entry.end ≡ false) entries h.0 found.searched.nodes.ended h.1 in
+      let closed : is_left (entry_of m r).end ≡ false = subst (λ (x : Entry Row). is_left x.end ≡ false) h.3 ended in
+      absurd (both_ways (is_left (entry_of m r).end) closed (ap (λ (x : ends.End). is_left (end_of (number_of m) x)) e))
+  records_open top q r (inr h) e = empty_of r.from_zero r.steps r.raises r.end (sym (ap (λ (x : Entry Row). x.from_zero) h.3)) (sym (ap (λ (x : Entry Row). x.steps) h.3)) (none_mapped raise_of r.raises (ap (λ (x : Entry Row). x.raises) h.3)) e
+
+  leaves_empty : (top : Bool) (waiting : List (Pending Row)) (rs : List Record) → HoldAll same_row (whole m) (IsOfNode same_row (whole m) entries found.nodes) top waiting (map (entry_of m) rs) → LeavesEmpty rs
+  leaves_empty top waiting [] h = tt
+  leaves_empty top [] (r ∷ rs) h = absurd h
+  leaves_empty top (q ∷ waiting) (r ∷ rs) h = (records_open top q r h.0, leaves_empty false _ rs h.1)
+
   pub searched : budget ≤ 100000 → ListsBaseRows
       → Settled same_row (whole m) records f.best → (f.left ≡ [] → Proves same_row (whole m) records f.best)
       → HoldsAlong same_row (whole m) (IsWorked m start) records → weigh (λ e. counts e.end) records ≡ f.handled
@@ -138,6 +160,7 @@ module _ (m : Voyage) (start budget : ℕ) (f : Found) (tree : List Record) (fou
         lean = hold_more same_row (whole m) (IsWorked m start) (λ top q e. node.IsLean m q (node.most_raises top) e) (λ top q e w. w.lean) true (root (whole m) ∷ []) records worked;
         earnest = hold_more same_row (whole m) (IsWorked m start) (λ top q e. branches e.end ≡ true → node.IsEarnest m q start (node.most_raises top) e) (λ top q e w. w.earnest) true (root (whole m) ∷ []) records worked;
         settled = settled;
+        empty = leaves_empty true (root (whole m) ∷ []) tree along;
         proves_none = proves_none same_row (whole m) (costs_from m) f.best records (hold_more same_row (whole m) (IsOfNode same_row (whole m) entries found.nodes) (KeepsWorth same_row (whole m)) keeps true (root (whole m) ∷ []) records along) settled;
         ended = ended_by f.left proved (λ some. let used = found.searched.used in let left = ap (λ (xs : List (List Bool)). length xs) found.left in let lefts = length_map {A = Node Row} path_of found.nodes in let spent : length entries ≡ budget = used (omega (arith, left, lefts, some)) in omega (arith, found.handled, spent));
         best = best_of m start f.best f.full listed found.full;

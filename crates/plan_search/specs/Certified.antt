@@ -1,5 +1,5 @@
 -- What a plan's certificate says of its voyage: the bound, the rehandles, the nodes, and the outcome.
-use Rattle.std.specs.Prelude.{◌≡◌, ℕ, ◌+◌, ◌<◌, ◌≤◌, List, Option, Some, None, IfSome}
+use Rattle.std.specs.Prelude.{◌≡◌, ℕ, ◌+◌, ◌<◌, ◌≤◌, List, length, Option, Some, None, IfSome}
 use Rattle.stow_data.specs.Plans.{Plan}
 use Rattle.voyage_meaning.specs.Voyage.{HasCount}
 use Rattle.zero_one_rows.specs.Variables.{Voyage}
@@ -7,10 +7,11 @@ use Rattle.certificate.specs.declared.tree.Head.{Head}
 use Rattle.certificate.specs.declared.tree.Outcome.{Outcome}
 use Rattle.certificate.specs.declared.tree.Outcome.TheVariants.{Optimal, Gap, NoPlan, Undecided}
 use Rattle.certificate.specs.declared.tree.Record.{Record}
+use Rattle.certificate.specs.Text.{cert_text}
 use Rattle.bound_checker.specs.Entries.{ProvesBound}
 use Rattle.model_bridge.specs.Laws.{IsVoyageBound, HasNoVoyage, most_lifts}
 use Rattle.plan_search.specs.Loaded.{AreLoaded, IsCountOf, ArePlans}
-use Rattle.plan_search.specs.Trees.{IsSettled, IsLean, IsEarnest, handled}
+use Rattle.plan_search.specs.Trees.{IsSettled, IsLean, IsEarnest, LeavesEmpty, handled, most_bytes}
 
 -- ## Outcomes
 
@@ -80,6 +81,9 @@ pub record Certifies (m : Voyage) (budget : ℕ) (head : Head) (tree : List Reco
   pub lean : IsLean m tree
   pub earnest : IsEarnest m start tree
   pub settled : IsSettled m tree (ceiling m head.rehandles)
+  -- a record that is left open is empty; so the text of the certificate can't be long
+  pub empty : LeavesEmpty tree
+  pub short : length (cert_text head tree) ≤ most_bytes m budget
   -- the rehandles are those of a legal voyage
   pub voyage : IfSome head.rehandles (CountsVoyage m)
   pub outcome : OutcomeHolds m budget loaded start head.outcome head.rehandles head.bound head.nodes

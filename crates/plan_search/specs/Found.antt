@@ -16,7 +16,7 @@ use Rattle.model_bridge.specs.Laws.{most_lifts}
 use Rattle.plan_search.specs.declared.run.Searched.{Searched}
 use Rattle.plan_search.specs.declared.loaded.Counted.{Counted}
 use Rattle.plan_search.specs.Loaded.{AreLoaded, IsCountOf, ArePlans}
-use Rattle.plan_search.specs.Trees.{IsSettled, IsLean, IsEarnest, handled}
+use Rattle.plan_search.specs.Trees.{IsSettled, IsLean, IsEarnest, LeavesEmpty, handled}
 
 -- plans with their count, or none
 abbrev pub ArePlansOrNone : Voyage → Option (List Plan) → Type 0
@@ -64,6 +64,7 @@ pub record IsSearched (m : Voyage) (budget start : ℕ) (s : Searched) : Type 0 
   pub lean : IsLean m s.tree
   pub earnest : IsEarnest m start s.tree
   pub settled : IsSettled m s.tree s.best
+  pub empty : LeavesEmpty s.tree
   pub proves_none : ProvesBound m s.tree 0
   pub ended : (s.nodes ≡ budget) ⊎ ProvesBound m s.tree s.best
   pub best : IsBest m start s.best s.full

@@ -5,6 +5,7 @@ ghost use Rattle.node_ends.specs.Work.{most_rehandles};
 ghost use Rattle.search_core.specs.Bags.{Every};
 ghost use Rattle.steal_pool.specs.Found.{IsFound};
 ghost use Rattle.search_crew.specs.Starts.{IsAsked};
+ghost use Rattle.search_crew.specs.Tallied.{IsTallied};
 
 use node_ends::Desk;
 use node_work::{BaseMatrix, TableSolver, Tables};
@@ -30,29 +31,14 @@ fn desks_over<'a>(
 {
     let mut desks = Vec::new(alloc);
     for _ in 1..workers {
-        desks.push(Desk::of(TableSolver::new(tables, None)))?;
+        let other = planner.beside(alloc)?;
+        desks.push(Desk::of(TableSolver::new(tables, Some(other))))?;
     }
     desks.push(Desk::of(TableSolver::new(tables, Some(planner))))?;
     Ok(desks)
 }
 
-// Searches at one desk.
-fn search_alone<G: Gate>(
-    alloc: Global,
-    tables: &Tables,
-    planner: Planner,
-    budget: u64,
-    start: u64,
-    gate: &G,
-) -> Result<Found, NoMemory>
-    requires { IsAsked tables.now 1 budget start }
-    ensures { IfOk result (IsFound tables.now start budget) }
-{
-    let mut desk = Desk::of(TableSolver::new(tables, Some(planner)));
-    steal_pool::search(alloc, &mut desk, budget, start, gate)
-}
-
-// Searches at so many desks.
+// Searches at so many desks over these tables.
 fn search_together<G: Gate + Sync, R: Threads + Wait + Sync>(
     rt: &R,
     alloc: Global,
@@ -64,7 +50,8 @@ fn search_together<G: Gate + Sync, R: Threads + Wait + Sync>(
     gate: &G,
 ) -> Result<Found, NoMemory>
     requires { IsAsked tables.now workers budget start }
-    ensures { IfOk result (IsFound tables.now start budget) }
+    ensures found { IfOk result (IsFound tables.now start budget) }
+    ensures tally { IfOk result (λ f. IsTallied 1024 workers f.journals f.tally) }
 {
     let desks = desks_over(alloc, tables, planner, workers)?;
     let spare = Desk::of(TableSolver::new(tables, None));
@@ -83,18 +70,16 @@ fn search_over<G: Gate + Sync, R: Threads + Wait + Sync>(
     gate: &G,
 ) -> Result<Found, NoMemory>
     requires { IsAsked matrix.now workers budget start }
-    ensures { IfOk result (IsFound matrix.now start budget) }
+    ensures found { IfOk result (IsFound matrix.now start budget) }
+    ensures tally { IfOk result (λ f. IsTallied 1024 workers f.journals f.tally) }
 {
     let tables = Tables::build(alloc, matrix);
-    if workers == 1 {
-        return search_alone(alloc, &tables, planner, budget, start, gate);
-    }
     search_together(rt, alloc, &tables, planner, workers, budget, start, gate)
 }
 
 /// Searches the program for a solution that costs less than the start, by 1 to 16 workers.
 ///
-/// One worker dives at one desk. Several have a desk each, and steal from one another. A desk's planner chooses the variables by which boxes are divided: the first worker's goes on from the given one, the others begin their own.
+/// Each worker has a desk, and a deque from which the others steal. There is a journal for each, and a last one for the caller. A desk's planner chooses the variables by which boxes are divided: the first worker's goes on from the given one, the others begin beside it, and share what is the same in every voyage.
 pub fn search_program<G: Gate + Sync, R: Threads + Wait + Sync>(
     rt: &R,
     alloc: Global,
@@ -109,7 +94,8 @@ pub fn search_program<G: Gate + Sync, R: Threads + Wait + Sync>(
     requires workers { (0 < workers) × (workers ≤ 16) }
     requires nodes { budget ≤ 100000 }
     requires start { start ≤ most_rehandles model.now + 1 }
-    ensures { IfOk result (IsFound model.now start budget) }
+    ensures found { IfOk result (IsFound model.now start budget) }
+    ensures tally { IfOk result (λ f. IsTallied 1024 workers f.journals f.tally) }
 {
     match BaseMatrix::build(alloc, model) {
         Ok(matrix) => search_over(rt, alloc, &matrix, planner, workers, budget, start, gate),

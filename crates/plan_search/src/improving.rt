@@ -1,30 +1,61 @@
 //! Plans to begin a search with: the loader's, or better ones of voyages by chance.
 ghost use Rattle.std.specs.Prelude.{◌≡◌, IfOk, IfSome};
+ghost use Rattle.stow_data.specs.Shipment.{IsCargo};
 ghost use Rattle.model_bridge.specs.Laws.{IsProblem};
 ghost use Rattle.plan_search.specs.Found.{IsCounted, IsPlanned, IsImproved};
 
 use crate::closing::plans_of;
 use crate::loaded::Counted;
 use kept_box::breaks_none;
+use node_work::root_bound;
 use std::alloc::Global;
 use stow_data::{Cargo, NoMemory, Ship};
 use voyage_guess::{Planner, Wanted};
 use zero_one_model::{Box01, Model};
 
+/// How many voyages by chance are sailed where the budget is one node.
+const LEAST_RUNS: u64 = 100;
+
+/// How many voyages by chance are sailed for each node behind the first.
+const RUNS_A_NODE: u64 = 100;
+
 /// How many voyages by chance are sailed at most.
-const MOST_RUNS: u64 = 20_000;
+const MOST_RUNS: u64 = 200_000;
 
-/// How many voyages by chance are sailed for each node of the budget behind the first.
-const RUNS_A_NODE: u64 = 20;
+/// After how many looks at places no voyage is begun where the budget is one node, so that large ships have fewer.
+const LEAST_LOOKS: u64 = 4_000_000;
 
-/// How many rehandles all these voyages could have at most, so that large ships have fewer runs.
-const MOST_LIFTS: u64 = 40_000_000;
+/// How many looks at places each node behind the first adds.
+const LOOKS_A_NODE: u64 = 26_000;
 
-/// How many voyages by chance are sailed before a search: a search of one node begins with the loader's plans.
-fn runs_of(budget: u64, model: &Model) -> u32 {
-    let of_budget = budget.saturating_sub(1).saturating_mul(RUNS_A_NODE);
-    let of_size = MOST_LIFTS.checked_div(model.limit()).unwrap_or(MOST_RUNS);
-    of_budget.min(of_size).min(MOST_RUNS) as u32
+/// After how many looks at places no voyage is begun.
+const MOST_LOOKS: u64 = 100_000_000;
+
+/// How many variables a program has at most whose root is ended before voyages are sailed: then that is cheap.
+const MOST_ROOT_VARS: u32 = 20_000;
+
+/// How many voyages by chance are sailed before a search.
+fn runs_of(budget: u64) -> u32 {
+    let behind = budget.saturating_sub(1);
+    let runs = LEAST_RUNS.saturating_add(behind.saturating_mul(RUNS_A_NODE));
+    runs.min(MOST_RUNS) as u32
+}
+
+/// After how many looks at places none is begun.
+fn looks_of(budget: u64) -> u64 {
+    let behind = budget.saturating_sub(1);
+    let looks = LEAST_LOOKS.saturating_add(behind.saturating_mul(LOOKS_A_NODE));
+    looks.min(MOST_LOOKS)
+}
+
+/// How many rehandles are good enough, so that no voyage is begun once one has no more: what the root tells, where it is cheap.
+fn enough_of(alloc: Global, model: &Model, most: u64) -> Result<u64, NoMemory>
+    requires { IsCargo model.now.cargo }
+{
+    if model.vars() > MOST_ROOT_VARS {
+        return Ok(0);
+    }
+    root_bound(alloc, model, most)
 }
 
 /// The plans of the cheapest voyage by chance that is found. None where none is.
@@ -74,10 +105,16 @@ pub fn improved(
     if first.count == 0 {
         return Ok(first);
     }
+    let enough = enough_of(alloc, model, first.count)?;
+    if first.count <= enough {
+        return Ok(first);
+    }
+    // Any voyage will do to begin with, since its stacks are planned anew again and again.
     let wanted = Wanted {
-        cut: first.count,
-        enough: 0,
-        runs: runs_of(budget, model),
+        cut: u64::MAX,
+        enough,
+        runs: runs_of(budget),
+        looks: looks_of(budget),
     };
     match guessed(alloc, ship, cargo, model, planner, wanted)? {
         Some(found) if found.count < first.count => Ok(found),

@@ -13,8 +13,9 @@ use Rattle.node_racks.specs.Rule.{none_yet, fresh, seen_at, after_split, new_sea
 use Rattle.node_racks.specs.Tokens.{BoardToken, SeatToken}
 use Rattle.node_racks.specs.declared.racks.Rack.{Rack}
 use Rattle.node_racks.specs.declared.racks.Pass.{Pass}
-use Rattle.node_racks.specs.Racks.{IsPassAt, IsFresh, AreAll, number_of, count_from, took_weight, put_weight, all_took, all_put}
-use Rattle.node_racks.specs.Rounds.{Each}
+use Rattle.node_racks.specs.declared.tally.Tally.{Tally}
+use Rattle.node_racks.specs.Racks.{IsPassAt, IsFresh, AreAll, number_of, room_at, count_from, took_weight, put_weight, all_took, all_put}
+use Rattle.node_racks.specs.Bags.{Each}
 use Rattle.node_racks.proofs.Dealing.{every_at}
 use Rattle.steal_pool.specs.Found.{IsFound}
 use Rattle.steal_pool.specs.UnderWay.{AllowedFrom}
@@ -29,9 +30,11 @@ use Rattle.steal_pool.specs.Deeds.{box_of, no_deeds, Weight, on_nodes, IsDone}
 use Rattle.steal_pool.specs.Jobs.{seed, IsJob, IsServed, came_to, went_from}
 use Rattle.search_crew.specs.Starts.{seed_at, IsMaker, IsUnused}
 use Rattle.search_crew.specs.Together.{both}
-use Rattle.search_crew.specs.Ends.{deeds_of, found_of, pass_of, post_number, came_with, went_with, came_to_all, went_from_all, IsPosted, IsBack, IsReturned, IsJoined, IsEnd}
+use Rattle.search_crew.specs.Ends.{BringsOwn, HasPutFew, deeds_of, found_of, pass_of, post_number, came_with, went_with, came_to_all, went_from_all, IsPosted, IsBack, IsReturned, IsJoined, IsEnd}
 use Rattle.steal_pool.proofs.Weights.{weigh_snoc}
 use Rattle.steal_pool.proofs.Handled.{rebalanced, nothing_done, split_off}
+use Rattle.steal_pool.proofs.Own.{own_same}
+use Rattle.search_crew.proofs.Tallying.{own_begins}
 use Rattle.search_crew.proofs.Together.{joins}
 
 length_map : {A B : Type 0} (f : A → B) (xs : List A) → length (map f xs) ≡ length xs
@@ -87,8 +90,10 @@ module _ {M : Type 0} where
   module _ (meets : Node → Type 0) (r : Rack M) (b : BoardToken) (m : Voyage) where
     pub posted : {S : Type 0} → (o : SeatToken) (old : Pass M) (p : Post M S) (asides : List Node) (found : ℕ) → IsMaker meets b m o → IsFresh old → IsPassAt r p.pass → p.pass.number ≡ old.number → p.seat.board ≡ o.board → p.seat.view ≡ new_seat (seen_at o.view found) → p.desk ≡ m
         → Every meets p.aside.items → asides ≡ [] → ((h : Node → ℕ) → took_weight h p.pass ≡ took_weight h old)
-        → ((h : Node → ℕ) → put_weight h p.pass + weigh h p.aside.items ≡ put_weight h old + weigh h asides + seed_at h old.number) → IsPosted meets r b m p
-    posted o old p asides found w fresh pass number board view desk aside none took bag = record {
+        → ((h : Node → ℕ) → put_weight h p.pass + weigh h p.aside.items ≡ put_weight h old + weigh h asides + seed_at h old.number) → (HasPutFew (room_at r) p.pass → p.aside.items ≡ asides) → IsPosted meets r b m p
+    posted o old p asides found w fresh pass number board view desk aside none took bag within = record {
+      took = λ h. took h ∙ fresh.1 h;
+      none_aside = λ few. within few ∙ none;
       means = w.means;
       cargo = w.cargo;
       low = w.low;
@@ -124,6 +129,7 @@ module _ {M : Type 0} where
       board = ap (λ (s : SeatToken). s.board) seat ∙ w.board;
       aside = subst (Every meets) (ap (λ x. x.items) (sym aside)) w.aside;
       held = tt;
+      own = own_same (room_at r) [] p.pass j.pass no_deeds j.deeds p.aside.items j.aside.items pass deeds (ap (λ x. x.items) aside) (own_begins (room_at r) p.pass no_deeds p.aside.items refl w.took w.none_aside);
       done = subst (λ (s : SeatToken). IsDone m b.start s.view 0 j.deeds (came_to m j) (λ h. went_from m j h + weigh (on_nodes m h) [])) (sym seat)
           (subst (λ (d : Deeds). IsDone m b.start p.seat.view 0 d (came_to m j) (λ h. went_from m j h + weigh (on_nodes m h) [])) (sym deeds)
           (nothing_done m b.start p.seat.view (came_to m j) (λ h. went_from m j h + weigh (on_nodes m h) []) w.unused.begun w.unused.offered w.unused.tickets
@@ -154,6 +160,12 @@ module _ {M : Type 0} where
     all_numbers (p ∷ ps) [] back = absurd back
     all_numbers (p ∷ ps) (k ∷ ks) back = ap (λ (n : ℕ). n ∷ map number_of (map pass_of ks)) back.0.number ∙ ap (λ (l : List ℕ). p.pass.number ∷ l) (all_numbers ps ks back.1)
 
+    pub all_own : {S : Type 0} → (ps : List (Post M S)) (ks : List (Back M)) → Each (IsReturned meets r b m) ps ks → Every (BringsOwn (room_at r)) ks
+    all_own [] [] back = tt
+    all_own [] (k ∷ ks) back = absurd back
+    all_own (p ∷ ps) [] back = absurd back
+    all_own (p ∷ ps) (k ∷ ks) back = (back.0.own, all_own ps ks back.1)
+
     pub each_length : {S : Type 0} → (ps : List (Post M S)) (ks : List (Back M)) → Each (IsReturned meets r b m) ps ks → length ks ≡ length ps
     each_length [] [] back = refl
     each_length [] (k ∷ ks) back = absurd back
@@ -162,7 +174,7 @@ module _ {M : Type 0} where
 
   module _ (meets : Node → Type 0) (r : Rack M) (b : BoardToken) where
     -- what a worker brings back after its last turn
-    pub comes_back : {S : Type 0} → (j k : Job M S) (o : Back M) → IsServed meets r b j k → o.pass ≡ k.pass → o.seat ≡ k.seat → o.deeds ≡ k.deeds → o.aside ≡ k.aside → IsBack meets b j.desk o × IsPassAt r o.pass × (o.pass.number ≡ j.pass.number) × (o.seat.board ≡ b.id)
+    pub comes_back : {S : Type 0} → (j k : Job M S) (o : Back M) → IsServed meets r b j k → o.pass ≡ k.pass → o.seat ≡ k.seat → o.deeds ≡ k.deeds → o.aside ≡ k.aside → IsBack meets b j.desk o × IsPassAt r o.pass × (o.pass.number ≡ j.pass.number) × (o.seat.board ≡ b.id) × BringsOwn (room_at r) o
     comes_back j k o served pass seat deeds aside =
         let m = j.desk in
         let job : IsJob meets r b m 0 [] k = served.job in
@@ -174,7 +186,7 @@ module _ {M : Type 0} where
               (λ h. omega (arith, ap (λ (q : Pass M). seed h q.number) pass, ap (put_weight (on_nodes m h)) pass, ap (took_weight (on_nodes m h)) pass, ap (λ x. weigh (on_nodes m h) x.items) aside))
               job.done));
         } in
-        (back, subst (IsPassAt r) (sym pass) job.pass, ap (λ (q : Pass M). q.number) pass ∙ served.number, ap (λ (s : SeatToken). s.board) seat ∙ job.board)
+        (back, subst (IsPassAt r) (sym pass) job.pass, ap (λ (q : Pass M). q.number) pass ∙ served.number, ap (λ (s : SeatToken). s.board) seat ∙ job.board, own_same (room_at r) [] k.pass o.pass k.deeds o.deeds k.aside.items o.aside.items pass deeds (ap (λ x. x.items) aside) job.own)
 
   module _ (meets : Node → Type 0) (b : BoardToken) (m : Voyage) where
     -- ## What a worker brought back is taken in
@@ -226,9 +238,9 @@ module _ {M : Type 0} where
 
 module _ (m : Voyage) where
   -- where all is done, it is what a search finds
-  pub ends_found : (start budget best drawn : ℕ) (v : View) (a : AllDeeds) → start ≤ none_yet → IsDone m start v 0 (deeds_of a) (λ h. h root_node) (λ h. 0) → IsBest start best v
-      → drawn ≡ length v.tickets → drawn ≤ budget → (0 < v.over → drawn ≡ budget) → IsFound m start budget (found_of best drawn a)
-  ends_found start budget best drawn v a top w b count within over =
+  pub ends_found : (start budget best drawn : ℕ) (v : View) (a : AllDeeds) (tally : Tally) → start ≤ none_yet → IsDone m start v 0 (deeds_of a) (λ h. h root_node) (λ h. 0) → IsBest start best v
+      → drawn ≡ length v.tickets → drawn ≤ budget → (0 < v.over → drawn ≡ budget) → IsFound m start budget (found_of best drawn a tally)
+  ends_found start budget best drawn v a tally top w b count within over =
       let many : length (deeds_of a).journal ≡ length w.entries = same_length m w.entries (deeds_of a).journal w.worker.journal_of in
       let handled : drawn ≡ length w.entries = omega (arith, many, count, w.worker.counted) in
       let there = best_there m w.entries start best v.offered (box_of a.best) top w.worker.offers b.most (omega (arith, b.most, b.offered, top)) (from_min b) in

@@ -1,4 +1,6 @@
 mod Pairs
 mod Together
 mod Rests
+mod Under
+pub mod Tallying
 mod Ends

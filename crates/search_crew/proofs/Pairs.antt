@@ -4,7 +4,7 @@ use Rattle.zero_one_rows.specs.Variables.{Voyage}
 use Rattle.node_racks.specs.Tokens.{BoardToken}
 use Rattle.certificate.specs.declared.nodes.Node.{Node}
 use Rattle.node_racks.specs.declared.racks.Rack.{Rack}
-use Rattle.node_racks.specs.Rounds.{Each}
+use Rattle.node_racks.specs.Bags.{Each}
 use Rattle.search_crew.specs.declared.places.Back.{Back}
 use Rattle.search_crew.specs.declared.places.Post.{Post}
 use Rattle.search_crew.specs.declared.places.Place.{Place}

@@ -1,16 +1,20 @@
 -- What all workers brought back.
-use Rattle.std.specs.Prelude.{◌≡◌, ℕ, ◌+◌, ◌<◌, ◌≤◌, Bool, true, false, List, [], ◌∷◌, Option, Some, None}
+use Rattle.std.specs.Prelude.{◌≡◌, ℕ, ◌+◌, ◌<◌, ◌≤◌, Bool, true, false, List, [], ◌∷◌, length, Option, Some, None}
 use Rattle.stow_data.specs.Shipment.{IsCargo}
 use Rattle.zero_one_rows.specs.Variables.{Voyage}
 use Rattle.certificate.specs.declared.nodes.Node.{Node}
+use Rattle.certificate.specs.declared.journals.Entry.{Entry}
 use Rattle.search_core.specs.Bags.{weigh, Every}
+use Rattle.search_core.specs.Journals.{Path}
 use Rattle.node_racks.specs.declared.view.View.{View}
 use Rattle.node_racks.specs.Rule.{none_yet}
 use Rattle.node_racks.specs.Tokens.{BoardToken, SeatToken}
 use Rattle.node_ledger.specs.Gathered.{entries}
 use Rattle.node_racks.specs.declared.racks.Pass.{Pass}
 use Rattle.node_racks.specs.declared.racks.Rack.{Rack}
-use Rattle.node_racks.specs.Racks.{IsPassAt, took_weight, put_weight, all_took, all_put}
+use Rattle.node_racks.specs.Racks.{IsPassAt, puts_of, room_at, took_weight, put_weight, all_took, all_put}
+use Rattle.node_racks.specs.Bags.{Each}
+use Rattle.node_racks.specs.declared.tally.Tally.{Tally}
 use Rattle.steal_pool.specs.declared.found.Found.{Found}
 use Rattle.steal_pool.specs.declared.deeds.Deeds.{Deeds}
 use Rattle.steal_pool.specs.declared.deeds.Halves.{Halves}
@@ -22,8 +26,9 @@ use Rattle.search_crew.specs.declared.places.Place.{Place}
 use Rattle.search_crew.specs.declared.places.Place.TheVariants.{Given, Done, Empty}
 use Rattle.node_ends.specs.Work.{IsNode, most_rehandles}
 use Rattle.steal_pool.specs.Deeds.{box_of, Weight, Flow, on_nodes, IsDone}
-use Rattle.steal_pool.specs.Jobs.{Means, seed}
+use Rattle.steal_pool.specs.Jobs.{HasOwn, Means, seed}
 use Rattle.search_crew.specs.Starts.{IsUnused}
+use Rattle.search_crew.specs.Tallied.{IsUnder}
 
 -- what workers did, with all journals as one
 abbrev pub deeds_of : AllDeeds → Deeds
@@ -43,9 +48,14 @@ pub record IsRest (m : Voyage) (start : ℕ) (v : View) (pending : ℕ) (all : F
   pub nodes : Every (IsNode m) todo
   pub done : IsDone m start v pending d all (λ h. weigh (on_nodes m h) todo)
 
--- what was found, with this best value and so many tickets below the budget
-abbrev pub found_of : ℕ → ℕ → AllDeeds → Found
-found_of best drawn a = record { best = best; full = box_of a.best; journals = a.journals; left = a.left; handled = drawn }
+-- these nodes and records are of some of the first nodes, or below them
+pub record AreUnder (first todo : List Node) (journal : List Entry) : Type 0 where
+  pub todo_is : Every (λ n. IsUnder first n.path) todo
+  pub journal_is : Every (λ e. IsUnder first e.path) journal
+
+-- what was found, with this best value, so many tickets below the budget, and this tally
+abbrev pub found_of : ℕ → ℕ → AllDeeds → Tally → Found
+found_of best drawn a tally = record { best = best; full = box_of a.best; journals = a.journals; left = a.left; handled = drawn; tally = tally }
 
 -- the owner of the board has taken in each seat that it made
 pub record IsJoined (meets : Node → Type 0) (b : BoardToken) (m : Voyage) (o : SeatToken) : Type 0 where
@@ -72,6 +82,23 @@ module _ {M : Type 0} where
   abbrev pub went_with : Voyage → Pass M → List Node → Weight → ℕ
   went_with m p aside h = put_weight (on_nodes m h) p + weigh (on_nodes m h) aside
 
+  -- the worker with this pass put fewer nodes than its deque has room for
+  abbrev pub HasPutFew : ℕ → Pass M → Type 0
+  HasPutFew room p = length (puts_of p) < room
+
+  -- and where it did, its journal is of nodes that it took
+  abbrev pub KeepsOwn : ℕ → Pass M → List Entry → Type 0
+  KeepsOwn room p journal = HasPutFew room p → (left : List Path) × ((h : Path → ℕ) → took_weight (λ n. h n.path) p ≡ weigh (λ e. h e.path) journal + weigh h left)
+
+  -- what was brought back is of nodes that its worker took
+  abbrev pub BringsOwn : ℕ → Back M → Type 0
+  BringsOwn room k = HasOwn room [] k.pass k.deeds k.aside.items
+
+  -- each journal is of nodes that its worker took, and nothing is aside where each deque had room
+  pub record AreOwn (room : ℕ) (e : Ended M) : Type 0 where
+    pub none_aside : Every (HasPutFew room) e.passes.items → e.aside.items ≡ []
+    pub kept : Each (KeepsOwn room) e.passes.items e.all.journals
+
   -- what a worker of the program's search is given, before it has handled a node
   pub record IsPosted {S : Type 0} (meets : Node → Type 0) (r : Rack M) (b : BoardToken) (m : Voyage) (p : Post M S) : Type 0 where
     pub means : Means meets m
@@ -84,6 +111,8 @@ module _ {M : Type 0} where
     pub unused : IsUnused b.start p.seat.view
     pub aside : Every meets p.aside.items
     pub bag : (h : Weight) → came_with m p.pass h ≡ went_with m p.pass p.aside.items h
+    pub took : (h : Node → ℕ) → took_weight h p.pass ≡ 0
+    pub none_aside : HasPutFew (room_at r) p.pass → p.aside.items ≡ []
 
   -- what came to the workers with these passes: the root, and the nodes that they took
   abbrev pub came_to_all : Voyage → List (Pass M) → Weight → ℕ
@@ -104,6 +133,7 @@ module _ {M : Type 0} where
     pub pass : IsPassAt r k.pass
     pub number : k.pass.number ≡ p.pass.number
     pub board : k.seat.board ≡ b.id
+    pub own : BringsOwn (room_at r) k
 
   -- a place at which a worker is given what it begins with
   abbrev pub IsGiven : {S : Type 0} → (meets : Node → Type 0) (r : Rack M) (b : BoardToken) (m : Voyage) → Place M S → Type 0

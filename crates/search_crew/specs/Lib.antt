@@ -1,3 +1,4 @@
 pub mod Ends
 pub mod Starts
 pub mod Together
+pub mod Tallied

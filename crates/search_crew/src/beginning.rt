@@ -1,9 +1,9 @@
 //! What workers are given, before any node is handled.
 ghost use Rattle.std.specs.Prelude.{◌≡◌, ◌+◌, ◌<◌, ◌≤◌, ℕ, IfOk, OnOk, length, map};
 ghost use Rattle.certificate.specs.declared.nodes.Node.{Node};
-ghost use Rattle.node_racks.specs.Racks.{IsPassAt, IsFresh, number_of, took_weight, put_weight};
+ghost use Rattle.node_racks.specs.Racks.{IsPassAt, IsFresh, number_of, room_at, took_weight, put_weight};
 ghost use Rattle.search_core.specs.Bags.{weigh, Every};
-ghost use Rattle.search_crew.specs.Ends.{IsPosted, post_number};
+ghost use Rattle.search_crew.specs.Ends.{HasPutFew, IsPosted, post_number};
 ghost use Rattle.search_crew.specs.Starts.{IsMaker, first_node, seed_at};
 
 use crate::crew::Ground;
@@ -40,6 +40,7 @@ fn plant<M: Wanted>(
     ensures aside { OnOk result (Every M.meets aside.new.items) }
     ensures took { (h : Node → ℕ) → took_weight h pass.new ≡ took_weight h pass.old }
     ensures bag { OnOk result ((h : Node → ℕ) → put_weight h pass.new + weigh h aside.new.items ≡ put_weight h pass.old + weigh h aside.old.items + seed_at h pass.old.number) }
+    ensures within { OnOk result (HasPutFew (room_at rack.now) pass.new → aside.new.items ≡ aside.old.items) }
 {
     if pass.number == 0 {
         return lay(rack, pass, aside, root(alloc));

@@ -1,10 +1,10 @@
 //! Workers in threads.
 ghost use Rattle.std.specs.Prelude.{◌≡◌, ℕ, ◌<◌, [], All, IfOk, length, map, slice_index_or};
-ghost use Rattle.node_racks.specs.Racks.{IsPassAt};
-ghost use Rattle.node_racks.specs.Rounds.{Each};
+ghost use Rattle.node_racks.specs.Racks.{IsPassAt, room_at};
+ghost use Rattle.node_racks.specs.Bags.{Each};
 ghost use Rattle.steal_pool.specs.Jobs.{IsJob};
 ghost use Rattle.search_crew.specs.declared.places.Place.TheVariants.{Given, Done};
-ghost use Rattle.search_crew.specs.Ends.{IsPosted, IsBack, IsReturned, IsGiven, Brings};
+ghost use Rattle.search_crew.specs.Ends.{BringsOwn, IsPosted, IsBack, IsReturned, IsGiven, Brings};
 
 use crate::places::{Back, Place, Post};
 use node_ends::{Desk, Solver};
@@ -63,7 +63,7 @@ fn serve_on<M: Wanted, S: Solver, G: Gate, R: Wait>(
 ) -> Result<Back<M>, NoMemory>
     requires job { IsJob M.meets ground.now.rack ground.now.board job.desk 0 [] job }
     requires none_over { job.seat.view.over ≡ 0 }
-    ensures { IfOk result (λ back. IsBack M.meets ground.now.board job.desk back × IsPassAt ground.now.rack back.pass × (back.pass.number ≡ job.pass.number) × (back.seat.board ≡ ground.now.board.id)) }
+    ensures { IfOk result (λ back. IsBack M.meets ground.now.board job.desk back × IsPassAt ground.now.rack back.pass × (back.pass.number ≡ job.pass.number) × (back.seat.board ≡ ground.now.board.id) × BringsOwn (room_at ground.now.rack) back) }
 {
     let served = serve(
         rt,

@@ -1,10 +1,11 @@
 //! What is done when the threads have ended.
-ghost use Rattle.std.specs.Prelude.{◌≡◌, ◌<◌, ◌≤◌, ◌+◌, true, false, ◌++◌, ◌∷◌, [], IfOk, OnOk};
+ghost use Rattle.std.specs.Prelude.{◌≡◌, ◌<◌, ◌≤◌, ◌+◌, true, false, ◌++◌, ◌∷◌, [], List, IfOk, OnOk};
 ghost use Rattle.stow_data.specs.Shipment.{IsCargo};
 ghost use Rattle.node_ends.specs.Work.{IsNode, most_rehandles};
+ghost use Rattle.certificate.specs.declared.nodes.Node.{Node as Nodes};
 ghost use Rattle.search_core.specs.Bags.{weigh, Every};
 ghost use Rattle.steal_pool.specs.Deeds.{Flow, IsDone, on_nodes};
-ghost use Rattle.search_crew.specs.Ends.{IsRest, IsLive, halves_in};
+ghost use Rattle.search_crew.specs.Ends.{AreUnder, IsRest, IsLive, halves_in};
 ghost use Rattle.search_crew.specs.Starts.{IsUnused};
 
 use certificate::Node;
@@ -52,6 +53,7 @@ impl Rest {
         ensures seat { seat.new.board ≡ seat.old.board }
         ensures over { seat.new.view.over ≡ seat.old.view.over }
         ensures rest { OnOk result ((all : Flow) → IsRest desk.old board.now.start seat.old.view 1 all (self.old.todo.items ++ node ∷ []) self.old.deeds → IsRest desk.old board.now.start seat.new.view 0 all self.new.todo.items self.new.deeds) }
+        ensures under { OnOk result ((first : List Nodes) → AreUnder first (self.old.todo.items ++ node ∷ []) self.old.deeds.journal → AreUnder first self.new.todo.items self.new.deeds.journal) }
     {
         let halves = handle(alloc, desk, board, seat, &mut self.deeds, node)?;
         self.add(halves)
@@ -76,6 +78,7 @@ impl Rest {
         ensures seat { seat.new.board ≡ seat.old.board }
         ensures live { IfOk result (λ live. IsLive live seat.new.view) }
         ensures rest { OnOk result ((all : Flow) → IsRest desk.old board.now.start seat.old.view 0 all (self.old.todo.items ++ node ∷ []) self.old.deeds → IsRest desk.old board.now.start seat.new.view 0 all self.new.todo.items self.new.deeds) }
+        ensures under { OnOk result ((first : List Nodes) → AreUnder first (self.old.todo.items ++ node ∷ []) self.old.deeds.journal → AreUnder first self.new.todo.items self.new.deeds.journal) }
     {
         if live {
             if board.draw(seat).is_some() {
@@ -104,6 +107,7 @@ fn finish_rest<S: Solver, R: Wait>(
     requires rest { (all : Flow) × IsRest desk.old board.now.start seat.old.view 0 all rest.old.todo.items rest.old.deeds }
     ensures seat { seat.new.board ≡ seat.old.board }
     ensures done { OnOk result ((all : Flow) → IsRest desk.old board.now.start seat.old.view 0 all rest.old.todo.items rest.old.deeds → IsDone desk.old board.now.start seat.new.view 0 rest.new.deeds all (λ h. 0)) }
+    ensures under { OnOk result ((first : List Nodes) → AreUnder first rest.old.todo.items rest.old.deeds.journal → AreUnder first [] rest.new.deeds.journal) }
 {
     let mut live = true;
     for _ in rt.forever() {
@@ -131,6 +135,7 @@ pub fn finish<S: Solver, R: Wait>(
     requires nodes { Every (IsNode desk.old) todo.items }
     ensures seat { seat.new.board ≡ seat.old.board }
     ensures done { IfOk result (λ deeds. IsDone desk.old board.now.start seat.new.view 0 deeds (λ h. weigh (on_nodes desk.old h) todo.items) (λ h. 0)) }
+    ensures under { IfOk result (λ deeds. AreUnder todo.items [] deeds.journal) }
 {
     let mut rest = Rest {
         todo,

@@ -1,10 +1,10 @@
 //! What the workers brought back, taken in.
-ghost use Rattle.std.specs.Prelude.{◌≡◌, ◌+◌, ◌++◌, ◌∷◌, [], ◌≤◌, IfOk, OnOk, length, map};
+ghost use Rattle.std.specs.Prelude.{◌≡◌, ℕ, ◌+◌, ◌++◌, ◌∷◌, [], ◌≤◌, IfOk, OnOk, length, map};
 ghost use Rattle.zero_one_rows.specs.Variables.{Voyage};
 ghost use Rattle.search_core.specs.Bags.{Every};
 ghost use Rattle.node_racks.specs.Rule.{joined, none_yet};
 ghost use Rattle.steal_pool.specs.Deeds.{no_deeds};
-ghost use Rattle.search_crew.specs.Ends.{IsBack, IsEnd, deeds_of, pass_of};
+ghost use Rattle.search_crew.specs.Ends.{AreOwn, BringsOwn, IsBack, IsEnd, deeds_of, pass_of};
 ghost use Rattle.search_crew.specs.Starts.{IsUnused};
 ghost use Rattle.search_crew.specs.Together.{both, cheaper_of};
 
@@ -64,7 +64,8 @@ fn pour_paths(to: &mut PathList, from: PathList) -> Result<(), NoMemory>
 impl AllDeeds {
     // Nothing yet. It takes no memory.
     fn none(alloc: Global) -> AllDeeds
-        ensures { deeds_of result ≡ no_deeds }
+        ensures deeds { deeds_of result ≡ no_deeds }
+        ensures journals { result.journals ≡ [] }
     {
         AllDeeds {
             journals: JournalList::new(alloc),
@@ -75,7 +76,8 @@ impl AllDeeds {
 
     /// Adds what another worker did.
     pub fn add(&mut self, deeds: Deeds) -> Result<(), NoMemory>
-        ensures { OnOk result (deeds_of self.new ≡ both (deeds_of self.old) deeds) }
+        ensures deeds { OnOk result (deeds_of self.new ≡ both (deeds_of self.old) deeds) }
+        ensures journals { OnOk result (self.new.journals ≡ self.old.journals ++ deeds.journal ∷ []) }
     {
         let Deeds {
             journal,
@@ -118,6 +120,7 @@ fn take_in<M: Wanted>(
     ensures view { owner.new.view ≡ joined owner.old.view back.seat.view }
     ensures passes { OnOk result (ended.new.passes.items ≡ ended.old.passes.items ++ back.pass ∷ []) }
     ensures end { OnOk result ((m : Voyage) → IsEnd M.meets board.now m owner.old.view ended.old → IsBack M.meets board.now m back → IsEnd M.meets board.now m owner.new.view ended.new) }
+    ensures own { OnOk result ((room : ℕ) → AreOwn room ended.old → BringsOwn room back → AreOwn room ended.new) }
 {
     let Back {
         pass,
@@ -150,6 +153,7 @@ fn take_in_each<M: Wanted>(
     ensures taken { OnOk result (owner.new.view.taken ≡ owner.old.view.taken + length backs.items) }
     ensures passes { OnOk result (ended.new.passes.items ≡ ended.old.passes.items ++ map pass_of backs.items) }
     ensures end { OnOk result ((m : Voyage) → IsEnd M.meets board.now m owner.old.view ended.old → Every (IsBack M.meets board.now m) backs.items → IsEnd M.meets board.now m owner.new.view ended.new) }
+    ensures own { OnOk result ((room : ℕ) → AreOwn room ended.old → Every (BringsOwn room) backs.items → AreOwn room ended.new) }
 {
     for back in backs {
         take_in(board, owner, ended, back)?;
@@ -173,6 +177,7 @@ pub fn take_in_all<M: Wanted>(
     ensures taken { OnOk result (owner.new.view.taken ≡ owner.old.view.taken + length backs.items) }
     ensures passes { IfOk result (λ ended. ended.passes.items ≡ map pass_of backs.items) }
     ensures end { IfOk result (λ ended. (m : Voyage) → Every (IsBack M.meets board.now m) backs.items → IsEnd M.meets board.now m owner.new.view ended) }
+    ensures own { IfOk result (λ ended. (room : ℕ) → Every (BringsOwn room) backs.items → AreOwn room ended) }
 {
     let mut ended = Ended {
         passes: Vec::new(alloc),

@@ -1,8 +1,10 @@
-mod Beside
 mod RowsTell
 pub mod Steps
 pub mod Findings
 mod Replaying
+mod Adding
+mod Rising
 pub mod Weights
 pub mod Handled
+pub mod Own
 pub mod Jobs

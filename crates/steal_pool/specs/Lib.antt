@@ -1,5 +1,7 @@
 pub mod Found
-pub mod Opens
 pub mod UnderWay
 pub mod Deeds
 pub mod Jobs
+pub mod Handling
+pub mod Rising
+pub mod Turns

@@ -2,15 +2,27 @@
 ghost use Rattle.std.specs.Prelude.{◌≡◌, ◌≤◌, ◌+◌, ℕ, IfOk};
 ghost use Rattle.stow_data.specs.Shipment.{IsCargo};
 ghost use Rattle.node_ends.specs.Work.{IsNode, most_rehandles, node_of};
+ghost use Rattle.steal_pool.specs.Handling.{IsHandled};
+ghost use Rattle.steal_pool.specs.UnderWay.{Tells};
 ghost use Rattle.steal_pool.specs.Deeds.{EachHalf, Flow, IsDone, halves_weight, on_nodes};
 
 use crate::deeds::{Deeds, Halves};
-use crate::run::tell;
 use certificate::Node;
-use node_ends::{Desk, Solver};
+use node_ends::{Desk, Solver, Worked};
 use node_racks::{Board, Seat};
 use std::alloc::Global;
 use stow_data::NoMemory;
+
+// Offers the cost of a full box.
+fn tell(board: &Board, seat: &mut Seat, ended: &Worked)
+    requires { seat.old.board ≡ board.now.id }
+    ensures seat { seat.new.board ≡ seat.old.board }
+    ensures told { Tells ended.now seat.old.view seat.new.view }
+{
+    if let Worked::Full { cost, .. } = ended {
+        board.offer(seat, *cost);
+    }
+}
 
 /// Handles a node for which a ticket was drawn: on the worker's desk, against the best value.
 pub fn handle<S: Solver>(
@@ -28,6 +40,8 @@ pub fn handle<S: Solver>(
     ensures same { desk.new ≡ desk.old }
     ensures seat { seat.new.board ≡ seat.old.board }
     ensures over { seat.new.view.over ≡ seat.old.view.over }
+    ensures tickets { seat.new.view.tickets ≡ seat.old.view.tickets }
+    ensures handled { IfOk result (IsHandled desk.old node seat.old.view seat.new.view deeds.old deeds.new) }
     ensures halves { IfOk result (EachHalf (IsNode desk.old)) }
     ensures done { IfOk result (λ halves. (start : ℕ) (came gone : Flow) → IsDone desk.old start seat.old.view 1 deeds.old came (λ h. gone h + h (node_of desk.old node))
         → IsDone desk.old start seat.new.view 0 deeds.new came (λ h. gone h + halves_weight (on_nodes desk.old h) halves)) }

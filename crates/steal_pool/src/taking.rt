@@ -1,9 +1,10 @@
 //! Where a worker gets nodes, and where it puts them.
-ghost use Rattle.std.specs.Prelude.{◌≡◌, ℕ, ◌+◌, [], IfOk, OnOk, IfSome, IfNone};
+ghost use Rattle.std.specs.Prelude.{◌≡◌, ℕ, ◌+◌, ◌<◌, [], IfOk, OnOk, IfSome, IfNone, length};
 ghost use Rattle.certificate.specs.declared.nodes.Node.{Node};
 ghost use Rattle.search_core.specs.Bags.{weigh, Every};
-ghost use Rattle.node_racks.specs.Racks.{IsPassAt, took_weight, put_weight};
+ghost use Rattle.node_racks.specs.Racks.{IsPassAt, puts_of, room_at, took_weight, put_weight};
 ghost use Rattle.steal_pool.specs.Deeds.{EachHalf, halves_weight};
+ghost use Rattle.steal_pool.specs.Rising.{AllRose, OthersRose, NoneFell};
 
 use crate::deeds::Halves;
 use certificate::Node;
@@ -15,9 +16,10 @@ fn steal_any<M: Wanted>(rack: &Rack<M>, pass: &mut Pass<M>) -> Option<Node>
     requires pass { IsPassAt rack.now pass.old }
     ensures pass { IsPassAt rack.now pass.new }
     ensures number { pass.new.number ≡ pass.old.number }
-    ensures put { (h : Node → ℕ) → put_weight h pass.new ≡ put_weight h pass.old }
+    ensures put { puts_of pass.new ≡ puts_of pass.old }
     ensures took { IfSome result (λ x. M.meets x × ((h : Node → ℕ) → took_weight h pass.new ≡ took_weight h pass.old + h x)) }
     ensures none { IfNone result ((h : Node → ℕ) → took_weight h pass.new ≡ took_weight h pass.old) }
+    ensures rose { IfNone result (OthersRose pass.old pass.new × NoneFell pass.old pass.new) }
 {
     let workers = rack.thieves.len();
     for step in 1..workers {
@@ -36,8 +38,10 @@ pub fn get<M: Wanted>(rack: &Rack<M>, pass: &mut Pass<M>, aside: &mut Vec<Node>)
     ensures pass { IsPassAt rack.now pass.new }
     ensures number { pass.new.number ≡ pass.old.number }
     ensures aside { Every M.meets aside.new.items }
-    ensures put { (h : Node → ℕ) → put_weight h pass.new ≡ put_weight h pass.old }
+    ensures put { puts_of pass.new ≡ puts_of pass.old }
     ensures took { IfSome result (λ x. M.meets x × ((h : Node → ℕ) → took_weight h pass.new + weigh h aside.old.items ≡ took_weight h pass.old + weigh h aside.new.items + h x)) }
+    ensures empty { aside.old.items ≡ [] → aside.new.items ≡ [] }
+    ensures rose { IfNone result (AllRose pass.old pass.new) }
     ensures none { IfNone result ((aside.old.items ≡ []) × (aside.new.items ≡ []) × ((h : Node → ℕ) → took_weight h pass.new ≡ took_weight h pass.old)) }
 {
     if let Some(node) = aside.pop() {
@@ -64,6 +68,7 @@ pub fn lay<M: Wanted>(
     ensures aside { OnOk result (Every M.meets aside.new.items) }
     ensures took { (h : Node → ℕ) → took_weight h pass.new ≡ took_weight h pass.old }
     ensures bag { OnOk result ((h : Node → ℕ) → put_weight h pass.new + weigh h aside.new.items ≡ put_weight h pass.old + weigh h aside.old.items + h node) }
+    ensures within { OnOk result (length (puts_of pass.new) < room_at rack.now → (aside.new.items ≡ aside.old.items) × (length (puts_of pass.old) < room_at rack.now)) }
 {
     match rack.put(pass, node) {
         Ok(()) => Ok(()),
@@ -89,6 +94,7 @@ fn lay_both<M: Wanted>(
     ensures aside { OnOk result (Every M.meets aside.new.items) }
     ensures took { (h : Node → ℕ) → took_weight h pass.new ≡ took_weight h pass.old }
     ensures bag { OnOk result ((h : Node → ℕ) → put_weight h pass.new + weigh h aside.new.items ≡ put_weight h pass.old + weigh h aside.old.items + (h halves.zero + h halves.one)) }
+    ensures within { OnOk result (length (puts_of pass.new) < room_at rack.now → (aside.new.items ≡ aside.old.items) × (length (puts_of pass.old) < room_at rack.now)) }
 {
     let Halves { zero, one } = halves;
     lay(rack, pass, aside, zero)?;
@@ -110,6 +116,7 @@ pub fn lay_halves<M: Wanted>(
     ensures aside { OnOk result (Every M.meets aside.new.items) }
     ensures took { (h : Node → ℕ) → took_weight h pass.new ≡ took_weight h pass.old }
     ensures bag { OnOk result ((h : Node → ℕ) → put_weight h pass.new + weigh h aside.new.items ≡ put_weight h pass.old + weigh h aside.old.items + halves_weight h halves) }
+    ensures within { OnOk result (length (puts_of pass.new) < room_at rack.now → (aside.new.items ≡ aside.old.items) × (length (puts_of pass.old) < room_at rack.now)) }
 {
     match halves {
         Some(halves) => lay_both(rack, pass, aside, halves),

@@ -2,6 +2,7 @@
 ghost use Rattle.std.specs.Prelude.{◌≡◌, ◌≢◌, IfOk, OnOk, ◌∷◌, []};
 ghost use Rattle.steal_pool.specs.declared.turning.Turned.TheVariants.{Spent};
 ghost use Rattle.steal_pool.specs.Jobs.{IsJob};
+ghost use Rattle.steal_pool.specs.Turns.{CameTo, IsWorkedOff};
 
 use crate::handling::handle;
 use crate::job::Job;
@@ -37,6 +38,8 @@ fn work_off<M: Wanted, S: Solver>(
     ensures job { OnOk result (IsJob M.meets rack.now board.now job.old.desk 0 [] job.new) }
     ensures number { job.new.pass.number ≡ job.old.pass.number }
     ensures over { job.new.seat.view.over ≡ job.old.seat.view.over }
+    ensures tickets { job.new.seat.view.tickets ≡ job.old.seat.view.tickets }
+    ensures handled { OnOk result (IsWorkedOff job.old.desk node job.old job.new) }
 {
     let halves = handle(
         alloc,
@@ -63,6 +66,7 @@ pub fn turn<M: Wanted, S: Solver, G: Gate>(
     requires none_over { job.old.seat.view.over ≡ 0 }
     ensures job { OnOk result (IsJob M.meets rack.now board.now job.old.desk 0 [] job.new) }
     ensures number { job.new.pass.number ≡ job.old.pass.number }
+    ensures came { IfOk result (λ turned. CameTo job.old.desk turned job.old job.new) }
     ensures over { IfOk result (λ turned. turned ≢ Spent → job.new.seat.view.over ≡ 0) }
 {
     let Some(node) = get(rack, &mut job.pass, &mut job.aside) else {

@@ -1,6 +1,7 @@
 -- Texts by pieces.
-use Rattle.std.specs.Prelude.{ℕ, ◌+◌, ◌/◌, ◌%◌, List, [], ◌∷◌, ◌++◌, Bool, if◌then◌else◌}
+use Rattle.std.specs.Prelude.{ℕ, ◌/◌, List, [], ◌∷◌, ◌++◌, Bool, if◌then◌else◌}
 use Rattle.std.specs.Fmt.{decimal}
+use Rattle.stow_data.specs.Digits.{digit}
 
 -- words of the text, as they are
 unfoldable pub raw : List ℕ → List ℕ
@@ -9,9 +10,6 @@ raw text = text
 -- words, and a number
 abbrev pub told : List ℕ → ℕ → List ℕ
 told text number = raw text ++ decimal number
-
-abbrev pub digit : ℕ → ℕ
-digit n = 48 + n % 10
 
 -- a number below 10,000,000 in seven digits
 abbrev pub seven_digits : ℕ → List ℕ

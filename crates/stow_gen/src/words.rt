@@ -1,9 +1,9 @@
 //! Texts by pieces.
 ghost use Rattle.std.specs.Prelude.{◌≡◌, ◌++◌, ◌<◌, OnOk};
-ghost use Rattle.stow_gen.specs.Words.{digit, only_if, raw, seven_digits, told};
+ghost use Rattle.stow_gen.specs.Words.{only_if, raw, seven_digits, told};
 
 use itoa::Buffer;
-use stow_data::{Bytes, NoMemory};
+use stow_data::{Bytes, NoMemory, digit};
 
 /// Appends words, as they are.
 #[tactic(auto, unfolding(crate::specs::Words::raw))]
@@ -26,13 +26,6 @@ pub fn write_if(out: &mut Bytes, on: bool, text: &[u8]) -> Result<(), NoMemory>
     ensures { OnOk result (out.new ≡ out.old ++ only_if on text.now) }
 {
     if on { write_raw(out, text) } else { Ok(()) }
-}
-
-/// The last decimal digit of a number.
-fn digit(n: u32) -> u8
-    ensures { result ≡ digit n }
-{
-    b'0' + (n % 10) as u8
 }
 
 /// Appends a number below 10,000,000 in seven digits.

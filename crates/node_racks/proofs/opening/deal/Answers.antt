@@ -1,7 +1,8 @@
 use Rattle.std.proofs.Common.{◌≡◌, ◌-◌, [], ◌∷◌, ◌++◌, ap, sym, subst, ◌∙◌, rules}
 use Rattle.crossbeam_deque.specs.Handles.{worker_deque}
 use Rattle.search_core.specs.Bags.{Every}
-use Rattle.node_racks.specs.Rounds.{Each, FitsNew, IsUnused, deques}
+use Rattle.node_racks.specs.Rounds.{FitsNew, IsUnused, deques}
+use Rattle.node_racks.specs.Bags.{Each}
 use Rattle.node_racks.proofs.Backs.{deques_snoc, every_snoc, snoc_shift}
 use Rattle.node_racks.proofs.Dealing.{each_snoc}
 use Rattle.node_racks.proofs.opening.deal.Goals as goal
@@ -16,8 +17,8 @@ loop-own-preserved g c =
     let more : deques c.push.new.self.items ≡ deques c.loop-own.out.items ++ worker_deque c.in-Some.own ∷ []
     = deques_snoc c.loop-own.out.items c.deal_one-own.result.0 c.push.new.self.items p ∙ ap (λ x. deques c.loop-own.out.items ++ x ∷ []) d.same in
     record {
-      out = every_snoc (IsUnused (c.args.held - 1)) c.loop-own.out.items c.deal_one-own.result.0 c.push.new.self.items p i.out d.unused;
-      rest = (subst (Every (IsUnused c.args.held)) e i.rest).1;
+      out = every_snoc (IsUnused c.args.room (c.args.held - 1)) c.loop-own.out.items c.deal_one-own.result.0 c.push.new.self.items p i.out d.unused;
+      rest = (subst (Every (IsUnused c.args.room c.args.held)) e i.rest).1;
       same = ap (λ l. l ++ deques c.next.new.self.rest.items) more
           ∙ (snoc_shift (deques c.loop-own.out.items) (worker_deque c.in-Some.own) (deques c.next.new.self.rest.items)
           ∙ (ap (λ ws. deques c.loop-own.out.items ++ deques ws) (sym e) ∙ i.same));

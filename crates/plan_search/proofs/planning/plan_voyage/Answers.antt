@@ -21,4 +21,4 @@ returns-clause-certified g c =
     subst (λ (h : Head). Certifies m c.args.budget h c.in_ok-found.found.tree) (sym c.head_of.ensures)
     (certifies m c.requires.problem c.args.budget c.in_ok-first.first c.in_ok-begun.begun c.in_ok-chosen.chosen c.in_ok-found.found c.in_ok-bound.bound
     c.in_ok-first.ensures c.in_ok-begun.ensures c.in_ok-found.ensures c.in_ok-chosen.ensures c.in_ok-bound.ensures.best c.in_ok-bound.ensures.costs
-    (law.proved m c.in_ok-bound.bound c.requires.problem) (law.none m c.requires.problem))
+    (law.proved m c.in_ok-bound.bound c.requires.problem) (law.none m c.requires.problem) c.requires.most_nodes)

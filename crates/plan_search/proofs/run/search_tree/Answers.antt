@@ -16,7 +16,7 @@ returns g c =
     let m = c.args.model.now in
     let f = c.in_ok-found.found in
     let tree = c.in_ok-gather.field-0 in
-    let found = c.in_ok-found.ensures in
+    let found = c.in_ok-found.ensures.found in
     let gathered = c.in_ok-gather.ensures.gathered (number_of m) in
     let law = c.found_journals_prove.ensures in
     searched m c.args.start c.args.budget f tree found c.requires.most_nodes c.rows_are_listed.ensures.base

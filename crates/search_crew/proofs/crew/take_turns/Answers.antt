@@ -10,4 +10,4 @@ serve_on-requires-clause-job g c κs within = starts g.M.Wanted.meets c.args.gro
 
 pub returns : goal.returns
 returns g c = if_ok c.serve_on.result _ _
-    (λ back h. record { back = subst (λ (m : Voyage). IsBack g.M.Wanted.meets c.args.ground.now.board m back) c.requires.desk h.0; pass = h.1; number = h.2; board = h.3 }) c.serve_on.ensures
+    (λ back h. record { back = subst (λ (m : Voyage). IsBack g.M.Wanted.meets c.args.ground.now.board m back) c.requires.desk h.0; pass = h.1; number = h.2; board = h.3; own = h.4 }) c.serve_on.ensures

@@ -3,6 +3,7 @@ use Rattle.certificate.specs.declared.nodes.Node.{Node}
 use Rattle.search_core.specs.Bags.{weigh}
 use Rattle.steal_pool.specs.Deeds.{IsDone, on_nodes}
 use Rattle.search_crew.proofs.Rests.{rest_at, rest_next}
+use Rattle.search_crew.proofs.Under.{under_at}
 use Rattle.search_crew.proofs.finishing.finish_rest.Goals as goal
 
 pub loop-init : goal.loop-init
@@ -12,6 +13,7 @@ loop-init g c = record {
   desk = refl;
   seat = refl;
   rest = λ all first. first;
+  under = λ first u. u;
   live = (λ e. c.requires.none_over, λ e. absurd (cc));
 }
 
@@ -31,6 +33,7 @@ loop-preserved g c =
       seat = c.step.ensures.seat ∙ c.loop.invariant.seat;
       rest = λ all first. rest_next c.args.desk.now c.loop.desk c.args.board.now.start c.loop.seat.view c.step.new.seat.view all c.loop.rest.todo.items (c.pop.new.self.items ++ c.in-Some-pop.node ∷ []) c.step.new.self.todo.items c.loop.rest.deeds c.step.new.self.deeds
           c.loop.invariant.desk e (c.in_ok-live.ensures.rest all) (c.loop.invariant.rest all first);
+      under = λ first u. c.in_ok-live.ensures.under first (under_at first c.loop.rest.todo.items (c.pop.new.self.items ++ c.in-Some-pop.node ∷ []) c.loop.rest.deeds.journal c.loop.rest.deeds.journal e refl (c.loop.invariant.under first u));
       live = c.in_ok-live.ensures.live;
     }
 
@@ -38,3 +41,8 @@ pub returns-in_default-clause-done : goal.returns-in_default-clause-done
 returns-in_default-clause-done g c all first =
     let empty : c.loop.rest.todo.items ≡ [] = search rules in
     subst (λ (xs : List Node). IsDone c.args.desk.now c.args.board.now.start c.loop.seat.view 0 c.loop.rest.deeds all (λ h. weigh (on_nodes c.args.desk.now h) xs)) empty (c.loop.invariant.rest all first).done
+
+pub returns-in_default-clause-under : goal.returns-in_default-clause-under
+returns-in_default-clause-under g c first u =
+    let empty : c.loop.rest.todo.items ≡ [] = search rules in
+    under_at first c.loop.rest.todo.items [] c.loop.rest.deeds.journal c.loop.rest.deeds.journal empty refl (c.loop.invariant.under first u)

@@ -1,6 +1,8 @@
 use Rattle.std.proofs.Common.{◌≡◌}
+use Rattle.std.proofs.Common.{List}
+use Rattle.certificate.specs.declared.nodes.Node.{Node}
 use Rattle.steal_pool.specs.Deeds.{Flow}
-use Rattle.search_crew.specs.Ends.{IsRest, IsLive}
+use Rattle.search_crew.specs.Ends.{AreUnder, IsRest, IsLive}
 use Rattle.search_crew.proofs.finishing.finish_rest.Given as goal
 
 abbrev pub invariant-loop : goal.invariant-loop
@@ -10,5 +12,6 @@ invariant-loop g l = record {
   desk : l.desk ≡ l.fn.desk;
   seat : l.seat.board ≡ l.fn.seat.board;
   rest : (all : Flow) → IsRest l.fn.desk l.board.start l.fn.seat.view 0 all l.fn.rest.todo.items l.fn.rest.deeds → IsRest l.fn.desk l.board.start l.seat.view 0 all l.rest.todo.items l.rest.deeds;
+  under : (first : List Node) → AreUnder first l.fn.rest.todo.items l.fn.rest.deeds.journal → AreUnder first l.rest.todo.items l.rest.deeds.journal;
   live : IsLive l.live l.seat.view;
 }

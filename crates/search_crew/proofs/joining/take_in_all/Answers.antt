@@ -2,6 +2,7 @@ use Rattle.std.proofs.Common.{◌≡◌, [], ◌++◌, List, map, ap, ◌∙◌,
 use Rattle.node_racks.specs.declared.racks.Pass.{Pass}
 use Rattle.search_crew.specs.Ends.{pass_of}
 use Rattle.search_crew.proofs.Ends.{none_in}
+use Rattle.search_crew.proofs.Tallying.{own_none}
 use Rattle.search_crew.proofs.joining.take_in_all.Goals as goal
 
 pub returns-in-Ok-clause-passes : goal.returns-in-Ok-clause-passes
@@ -13,4 +14,10 @@ pub returns-in-Ok-clause-end : goal.returns-in-Ok-clause-end
 returns-in-Ok-clause-end g c m backs =
     let passes : c.new.result.items ≡ [] = search rules in
     let aside : c.new-2.result.items ≡ [] = search rules in
-    c.in-Ok.ensures.end m (none_in g.M.Wanted.meets c.args.board.now m c.args.owner.now.view _ c.requires.view passes aside c.none.ensures) backs
+    c.in-Ok.ensures.end m (none_in g.M.Wanted.meets c.args.board.now m c.args.owner.now.view _ c.requires.view passes aside c.none.ensures.deeds) backs
+
+pub returns-in-Ok-clause-own : goal.returns-in-Ok-clause-own
+returns-in-Ok-clause-own g c room backs =
+    let passes : c.new.result.items ≡ [] = search rules in
+    let aside : c.new-2.result.items ≡ [] = search rules in
+    c.in-Ok.ensures.own room (own_none room _ passes aside c.none.ensures.journals) backs

@@ -1,9 +1,9 @@
 use Rattle.std.proofs.Common.{◌≡◌, ◌≤◌, List, length, map, ap, sym, subst, ◌∙◌, arith}
 use Rattle.search_core.specs.Bags.{Every}
 use Rattle.node_racks.specs.declared.racks.Pass.{Pass}
-use Rattle.node_racks.specs.Racks.{IsPassAt, number_of}
+use Rattle.node_racks.specs.Racks.{IsPassAt, number_of, room_at}
 use Rattle.steal_pool.proofs.Steps.{if_ok, on_ok}
-use Rattle.search_crew.proofs.Ends.{passes_many, posts_many, all_joined, all_returned, all_seated, all_passes, all_numbers, each_length}
+use Rattle.search_crew.proofs.Ends.{passes_many, posts_many, all_joined, all_returned, all_seated, all_passes, all_numbers, all_own, each_length}
 use Rattle.search_crew.proofs.searching.work_all.Goals as goal
 
 pub begin_all-requires-clause-room : goal.begin_all-requires-clause-room
@@ -37,3 +37,7 @@ returns-clause-all g c = if_ok c.take_in_all.result _ _
 pub returns-clause-end : goal.returns-clause-end
 returns-clause-end g c = if_ok c.take_in_all.result _ _
     (λ ended end. end c.args.ground.now.spare (all_returned g.M.Wanted.meets c.args.ground.now.rack c.args.ground.now.board c.args.ground.now.spare c.in_ok-posts.posts.items c.in_ok-backs.backs.items c.in_ok-backs.ensures)) c.take_in_all.ensures.end
+
+pub returns-clause-own : goal.returns-clause-own
+returns-clause-own g c = if_ok c.take_in_all.result _ _
+    (λ ended own. own (room_at c.args.ground.now.rack) (all_own g.M.Wanted.meets c.args.ground.now.rack c.args.ground.now.board c.args.ground.now.spare c.in_ok-posts.posts.items c.in_ok-backs.backs.items c.in_ok-backs.ensures)) c.take_in_all.ensures.own

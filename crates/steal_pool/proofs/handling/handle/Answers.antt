@@ -3,6 +3,7 @@ use Rattle.node_racks.specs.declared.view.View.{View}
 use Rattle.node_racks.specs.Rule.{seen_at}
 use Rattle.steal_pool.specs.UnderWay.{Tells}
 use Rattle.steal_pool.proofs.Steps.{if_ok, tells_over}
+use Rattle.steal_pool.proofs.Adding.{tells_tickets}
 use Rattle.steal_pool.proofs.Handled.{goes_on, halves_there}
 use Rattle.steal_pool.proofs.handling.handle.Goals as goal
 
@@ -21,3 +22,13 @@ returns-clause-done g c =
     = subst (λ (t : View). Tells c.work-ended.result t c.tell.new.seat.view) c.best-cut.ensures.view c.tell.ensures.told in
     if_ok c.end.result _ _ (λ halves did start came gone way. goes_on c.args.desk.now start c.args.node came gone c.args.seat.now.view c.tell.new.seat.view c.args.deeds.now c.end.new.self c.best-cut.result c.work-ended.result halves
     c.best-cut.ensures.seen c.best-cut.ensures.offered c.best-cut.ensures.start c.requires.node c.work-ended.ensures.worked told did way) c.end.ensures
+
+pub returns-clause-tickets : goal.returns-clause-tickets
+returns-clause-tickets g c = tells_tickets c.work-ended.result c.best-cut.new.seat.view c.tell.new.seat.view c.tell.ensures.told ∙ ap (λ (x : View). x.tickets) c.best-cut.ensures.view
+
+pub returns-clause-handled : goal.returns-clause-handled
+returns-clause-handled g c =
+    let told : Tells c.work-ended.result (seen_at c.args.seat.now.view c.best-cut.result) c.tell.new.seat.view
+    = subst (λ (t : View). Tells c.work-ended.result t c.tell.new.seat.view) c.best-cut.ensures.view c.tell.ensures.told in
+    if_ok c.end.result _ _
+    (λ halves did. record { cut = c.best-cut.result; ended = c.work-ended.result; seen = c.best-cut.ensures.seen; offered = c.best-cut.ensures.offered; start = c.best-cut.ensures.start; works = c.work-ended.ensures.worked; tells = told; did = did }) c.end.ensures

@@ -6,6 +6,7 @@ use Rattle.node_racks.specs.Tokens.{SeatToken}
 use Rattle.steal_pool.specs.declared.deeds.Deeds.{Deeds}
 use Rattle.search_crew.specs.Ends.{IsRest}
 use Rattle.search_crew.proofs.Rests.{some_drawn, rest_drawn, rest_left, rest_left_too}
+use Rattle.search_crew.proofs.Under.{under_left}
 use Rattle.search_crew.proofs.finishing.Rest.step.Goals.{then-live+else-is_some, else-live}
 use Rattle.search_crew.proofs.finishing.Rest.step.Goals as goal
 
@@ -30,3 +31,6 @@ returns-clause-rest g c all rest =
           subst (λ (v : View). IsRest c.args.desk.now c.args.board.now.start v 0 all c.args.self.now.todo.items (record d { left = d.left ++ c.args.node.path ∷ [] })) (sym (ap (λ (s : SeatToken). s.view) w.seat-is))
           (rest_left_too c.args.desk.now c.args.board.now.start c.args.seat.now.view all d c.args.self.now.todo.items c.args.node (c.requires.live.1 w.if-live.false) rest)
     ])
+
+pub returns-clause-under : goal.returns-clause-under
+returns-clause-under g c first u = under_left first c.args.self.now.todo.items c.args.node c.args.self.now.deeds.journal u

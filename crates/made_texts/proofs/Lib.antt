@@ -1,0 +1,16 @@
+pub mod Numerals
+pub mod SpelledProfile
+pub mod LowBytes
+pub mod ReadProfile
+pub mod BareLines
+pub mod PlainStrings
+pub mod Lines
+pub mod ContainerLines
+pub mod LineTables
+pub mod DrawnRanges
+pub mod ParsedBookings
+pub mod ReadEntry
+pub mod ReadBookings
+pub mod FewVariables
+pub mod FewRows
+pub mod Within

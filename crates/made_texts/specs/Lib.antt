@@ -1,0 +1,3 @@
+pub mod MadeShip
+pub mod MadeBookings
+pub mod MadeVoyage
