@@ -15,7 +15,7 @@ use Rattle.stow_data.specs.declared.geometry.Place.{Place}
 use Rattle.stow_data.specs.declared.cargoes.Container.{Container}
 use Rattle.stow_data.specs.declared.geometry.Span.{Span}
 use Rattle.stow_data.specs.declared.geometry.Span.TheVariants.{Fore, Aft, Both}
-use Rattle.stow_data.specs.Ship.{Ship, HasHalf, HasLength, TakesSide, half_at, places}
+use Rattle.stow_data.specs.Ship.{Ship, HasHalf, Takes, TakesSide, half_at, places}
 use Rattle.stow_data.specs.Plans.{Plan, place_at}
 use Rattle.stow_data.proofs.PlanLookups.{is_place, place_is}
 use Rattle.stowage_rules.specs.Plan.{Fills, Holds}
@@ -86,7 +86,7 @@ pub record IsArrived (calls : ℕ) (c : Container) : Type 0 where
 pub record IsSound (ship : Ship) (bookings : Bookings) (s : Stowage) : Type 0 where
   pub each_place : length s.plan ≡ length (places ship)
   pub known : (p c : ℕ) → Holds s.plan p c → c < length s.containers
-  pub fits : (p c : ℕ) (place : Place) (x : Container) → slice_get (places ship) p ≡ Some place → Holds s.plan p c → slice_get s.containers c ≡ Some x → HasLength place.span x.long
+  pub fits : (p c : ℕ) (place : Place) (x : Container) → slice_get (places ship) p ≡ Some place → Holds s.plan p c → slice_get s.containers c ≡ Some x → Takes place x.long
   pub apart : (h : Half) (c d : ℕ) (x : Fills ship s.plan h c) (y : Fills ship s.plan h d) → x.number ≡ y.number
   pub once : (p q c : ℕ) → Holds s.plan p c → Holds s.plan q c → p ≡ q
   pub somewhere : (c : ℕ) → c < length s.containers → (p : ℕ) × Holds s.plan p c
@@ -155,12 +155,12 @@ module _ (ship : Ship) (bookings : Bookings) (s : Stowage) (f : Facts) (p : Plac
       (λ (o : (q ≡ p.place → ⊥) × Holds s.plan q d). omega (arith, older q d o.1, length-append s.containers (p.container ∷ [])))
       (put_from s.plan p.place (length s.containers) q d h)
 
-  fits_now : (q d : ℕ) (place : Place) (x : Container) → slice_get (places ship) q ≡ Some place → Holds after q d → slice_get (s.containers ++ p.container ∷ []) d ≡ Some x → HasLength place.span x.long
+  fits_now : (q d : ℕ) (place : Place) (x : Container) → slice_get (places ship) q ≡ Some place → Holds after q d → slice_get (s.containers ++ p.container ∷ []) d ≡ Some x → Takes place x.long
   fits_now q d place x is h at = ⊎_elim
       (λ (e : (q ≡ p.place) × (d ≡ length s.containers)).
       let here : place_at ship p.place ≡ place = ap (place_at ship) (sym e.0) ∙ place_is ship q place is in
       let new : p.container ≡ x = same_Some p.container x (sym (get_pushed s.containers p.container) ∙ (ap (slice_get (s.containers ++ p.container ∷ [])) (sym e.1) ∙ at)) in
-      subst (λ (z : Place). HasLength z.span x.long) here (subst (λ (c : Container). HasLength (place_at ship p.place).span c.long) new free.length_fits))
+      subst (λ (z : Place). Takes z x.long) here (subst (λ (c : Container). Takes (place_at ship p.place) c.long) new free.length_fits))
       (λ (o : (q ≡ p.place → ⊥) × Holds s.plan q d). sound.fits q d place x is o.1 (sym (get_kept s.containers (p.container ∷ []) d (older q d o.1)) ∙ at))
       (put_from s.plan p.place (length s.containers) q d h)
 

@@ -6,7 +6,7 @@ use Rattle.std.proofs.lemmas.Bool.{both_ways}
 use Rattle.std.proofs.lemmas.List.{drop_all}
 use Rattle.std.proofs.lemmas.List.Quantifiers.{position-Some}
 use Rattle.std.proofs.lemmas.Option.{none-some, same_Some}
-use Rattle.stow_data.specs.Ship.{Ship, HasLength, fits, places}
+use Rattle.stow_data.specs.Ship.{Ship, Takes, fits, places}
 use Rattle.stow_data.specs.Plans.{no_place, place_at}
 use Rattle.stow_data.proofs.Fitting.{fits_said}
 use Rattle.toml_values.specs.Values.{◌>>=◌}
@@ -66,7 +66,7 @@ wanted None fault x h = absurd (err_is_no_ok fault x h)
 -- what a container and its place are
 pub record IsFree (ship : Ship) (bookings : Bookings) (before : Stowage) (f : Facts) (p : Placed) : Type 0 where
   pub inside : p.place < length (places ship)
-  pub length_fits : HasLength (place_at ship p.place).span p.container.long
+  pub length_fits : Takes (place_at ship p.place) p.container.long
   pub new : is_named p.container.id bookings.containers before.containers ≡ false
   pub load : p.container.load ≡ 0
   pub dest_from : 1 ≤ p.container.dest

@@ -2,7 +2,8 @@
 use Rattle.std.proofs.Common.{◌≡◌, ℕ, ◌+◌, ◌*◌, ◌/◌, ◌<◌, ◌&&◌, Bool, true, cond, Option, Some, None, refl, ap, ◌∙◌, arith}
 use Rattle.std.proofs.lemmas.Bool.Decides.{nat_tests}
 use Rattle.std.specs.List.{list_all}
-use Rattle.baplie.specs.Texts.{is_digit, digit_of, cell_of, digit, cell_digits}
+use Rattle.stow_data.specs.Digits.{is_digit, digit_of, digit}
+use Rattle.baplie.specs.Texts.{cell_of, cell_digits}
 
 digit_is : (n : ℕ) → is_digit (digit n) ≡ true
 digit_is n = grind (arith, nat_tests)

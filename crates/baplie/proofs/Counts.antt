@@ -9,7 +9,8 @@ use Rattle.std.specs.Fmt.{digits, digits_onto, digit_glyph, decimal}
 use Rattle.std.specs.Int.{IsInRange}
 use Rattle.std.specs.List.{list_all}
 use Rattle.std.specs.Prelude.{fold}
-use Rattle.baplie.specs.Texts.{is_digit, with_digit, value, is_number, number_of}
+use Rattle.stow_data.specs.Digits.{is_digit, with_digit, value}
+use Rattle.baplie.specs.Texts.{is_number, number_of}
 
 -- one digit more in front
 abbrev with_last : ℕ → List ℕ → List ℕ

@@ -8,7 +8,8 @@ use Rattle.baplie.specs.declared.causes.Cause.{Cause}
 use Rattle.baplie.specs.declared.causes.Cause.TheVariants.{BadCell, NoId, NameTooLong, LengthLeftOut, BadWeight, NoWeightOrPort}
 use Rattle.baplie.specs.declared.parts.CellGroup.{CellGroup}
 use Rattle.baplie.specs.declared.parts.Message.{Message}
-use Rattle.baplie.specs.Texts.{cell_of, long_of, weight_of}
+use Rattle.stow_data.specs.Types.{length_of_type}
+use Rattle.baplie.specs.Texts.{cell_of, weight_of}
 use Rattle.baplie.specs.Segments.{component, is_empty_text, opens, is_container, names_port, weighs, is_verified, is_unverified, is_danger}
 use Rattle.baplie.specs.Groups.{prior, shows, is_long, name_of, text_in, cell_in, long_of_bay, weight_in, class_from, class_in, facts_at, facts_from, cell_group}
 use Rattle.baplie.specs.Faults.{body, head, groups, numbered, numbered_groups}
@@ -193,17 +194,17 @@ module _ (group : List Segment) (no : IsFaultless group) where
       x.1 ∙ ap Some (sym same)
 
   long_told : (s : Segment) (k : ℕ) → slice_get group k ≡ Some s → is_container s ≡ true → (bay : ℕ)
-      → (long_of (component s 3 1) ≡ Some (unwrap_or (long_of (component s 3 1)) (long_of_bay bay))) ⊎ ((is_empty_text (component s 3 1) ≡ true) × (unwrap_or (long_of (component s 3 1)) (long_of_bay bay) ≡ long_of_bay bay))
-  long_told s k at c bay = go (component s 3 1) (and_second (is_container s) (not (is_empty_text (component s 3 1)) && is_none (long_of (component s 3 1))) c (no k s LengthLeftOut at))
+      → (length_of_type (component s 3 1) ≡ Some (unwrap_or (length_of_type (component s 3 1)) (long_of_bay bay))) ⊎ ((is_empty_text (component s 3 1) ≡ true) × (unwrap_or (length_of_type (component s 3 1)) (long_of_bay bay) ≡ long_of_bay bay))
+  long_told s k at c bay = go (component s 3 1) (and_second (is_container s) (not (is_empty_text (component s 3 1)) && is_none (length_of_type (component s 3 1))) c (no k s LengthLeftOut at))
     where
       known : (r : Option Length) → is_none r ≡ false → r ≡ Some (unwrap_or r (long_of_bay bay))
       known None h = absurd (false≢true (sym h))
       known (Some x) h = refl
 
-      go : (text : List ℕ) → (not (is_empty_text text) && is_none (long_of text)) ≡ false
-          → (long_of text ≡ Some (unwrap_or (long_of text) (long_of_bay bay))) ⊎ ((is_empty_text text ≡ true) × (unwrap_or (long_of text) (long_of_bay bay) ≡ long_of_bay bay))
+      go : (text : List ℕ) → (not (is_empty_text text) && is_none (length_of_type text)) ≡ false
+          → (length_of_type text ≡ Some (unwrap_or (length_of_type text) (long_of_bay bay))) ⊎ ((is_empty_text text ≡ true) × (unwrap_or (length_of_type text) (long_of_bay bay) ≡ long_of_bay bay))
       go [] h = inr (refl, refl)
-      go (b ∷ text) h = inl (known (long_of (b ∷ text)) h)
+      go (b ∷ text) h = inl (known (length_of_type (b ∷ text)) h)
 
   told : (first : Segment) (others : List Segment) → group ≡ first ∷ others → (s : Segment) → find is_container group ≡ Some s → AreTold group (cell_in group).0 s (facts_at group s)
   told first others b s e =
@@ -216,7 +217,7 @@ module _ (group : List Segment) (no : IsFaultless group) where
       let id = short (component s 2 1) names.0 in
       let iso = short (component s 3 1) names.1 in
       let dest : name_of (text_in (find names_port group) 2 1) ≡ component port.0 2 1 = ap (λ r. name_of (text_in r 2 1)) port.1 ∙ short (component port.0 2 1) (port_short port.0 port.1) in
-      let P : List ℕ → Type 0 = λ x. (long_of x ≡ Some (facts_at group s).long) ⊎ ((is_empty_text x ≡ true) × ((facts_at group s).long ≡ long_of_bay (cell_in group).0)) in
+      let P : List ℕ → Type 0 = λ x. (length_of_type x ≡ Some (facts_at group s).long) ⊎ ((is_empty_text x ≡ true) × ((facts_at group s).long ≡ long_of_bay (cell_in group).0)) in
       record {
         id = id;
         named = ap is_empty_text id ∙ and_second (is_container s) (is_empty_text (component s 2 1)) at.2 (no at.0 s NoId at.1);

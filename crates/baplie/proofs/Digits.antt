@@ -1,30 +1,8 @@
 -- Digits and the numbers that they spell.
-use Rattle.std.proofs.Common.{◌≡◌, ℕ, suc, zero, ◌+◌, ◌*◌, ◌-◌, ◌/◌, ◌%◌, ◌≤◌, arith, refl, ap, cond, Bool, true, false, ◌&&◌, List, [], ◌∷◌, length, Option, Some, None}
+use Rattle.std.proofs.Common.{◌≡◌, ℕ, ◌+◌, ◌*◌, ◌/◌, ◌%◌, ◌≤◌, arith, refl, ap, cond, Bool, true, false, ◌&&◌, List, [], ◌∷◌, length, Option, Some, None}
 use Rattle.std.proofs.lemmas.Bool.Decides.{nat_tests}
-use native.Mathlib.Numerals.{unary_clauses}
-use Rattle.baplie.specs.Texts.{digit_of, is_digit, is_cell, cell_of}
-
--- the greatest number of so many digits
-abbrev pub nines : ℕ → ℕ
-nines zero = 0
-nines (suc n) = nines n * 10 + 9
-
-pub nines-suc : (n : ℕ) → nines (n + 1) ≡ nines n * 10 + 9
-nines-suc n = simp unary_clauses refl
-
-pub nines-rise : (k n : ℕ) → nines n ≤ nines (n + k)
-nines-rise zero n = simp unary_clauses (omega arith)
-nines-rise (suc k) n = simp unary_clauses (omega (arith, nines-rise k n))
-
-pub nines-small : (n : ℕ) → n ≤ 9 → nines n ≤ 999999999
-nines-small n h =
-    let e : n + (9 - n) ≡ 9 = omega arith in
-    rw e at (nines-rise (9 - n) n)
-
-pub nines-smaller : (n : ℕ) → n ≤ 8 → nines n ≤ 99999999
-nines-smaller n h =
-    let e : n + (8 - n) ≡ 8 = omega arith in
-    rw e at (nines-rise (8 - n) n)
+use Rattle.stow_data.specs.Digits.{digit_of, is_digit}
+use Rattle.baplie.specs.Texts.{is_cell, cell_of}
 
 none≢some : {A : Type 0} {x : A} → None ≡ Some x → ⊥
 none≢some e = cc

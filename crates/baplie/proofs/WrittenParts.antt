@@ -23,7 +23,8 @@ use Rattle.baplie.specs.declared.parts.Message.{Message}
 use Rattle.baplie.specs.Faults.{rest, body, head, groups, is_titled, count_of, HasCause}
 use Rattle.baplie.specs.Finding.{scan, groups_fault, end_cause, least_of, reference_cause, first_behind_title, first_fault}
 use Rattle.baplie.specs.Segments.{element, same_text, has_tag, is_title, is_unt, is_unz, closes}
-use Rattle.baplie.specs.Texts.{is_digit, is_number, value, number_of}
+use Rattle.stow_data.specs.Digits.{is_digit, value}
+use Rattle.baplie.specs.Texts.{is_number, number_of}
 use Rattle.baplie.proofs.Least.{Outcome, outcome}
 use Rattle.baplie.specs.Whole.{trailer, content, unt, unz, segments_of}
 use Rattle.baplie.proofs.Counts.{both, few_digits, some_digits, numerals}

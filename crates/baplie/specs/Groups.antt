@@ -10,7 +10,8 @@ use Rattle.baplie.specs.declared.parts.CellGroup.{CellGroup}
 use Rattle.baplie.specs.declared.causes.Cause.{Cause}
 use Rattle.baplie.specs.declared.causes.Cause.TheVariants.{NotBaplie, ManyMessages, NoUnt, BadCell, AgencyLeftOut, TwoContainers, BreakbulkLeftOut, NoId, NameTooLong, LengthLeftOut, UnitLeftOut, BadWeight, NoWeightOrPort, BadCount, CountWrong, ReferenceWrong}
 use Rattle.baplie.specs.declared.causes.Prior.{Prior}
-use Rattle.baplie.specs.Texts.{cell_of, long_of, weight_of}
+use Rattle.stow_data.specs.Types.{length_of_type}
+use Rattle.baplie.specs.Texts.{cell_of, weight_of}
 use Rattle.baplie.specs.Segments.{element, component, is_one, is_empty_text, same_text, is_container, is_breakbulk, names_port, weighs, is_verified, is_unverified, is_cooled, is_danger}
 
 -- ## Causes
@@ -34,7 +35,7 @@ has_long_name p s =
 
 -- a type that is of neither 20 nor 40 foot
 abbrev pub is_odd_type : List ℕ → Bool
-is_odd_type text = not (is_empty_text text) && is_none (long_of text)
+is_odd_type text = not (is_empty_text text) && is_none (length_of_type text)
 
 -- the agency of a cell's numbering: 5 is ISO, and none means 5
 abbrev pub is_iso : List ℕ → Bool
@@ -95,7 +96,7 @@ abbrev pub facts_at : List Segment → Segment → Facts
 facts_at group s = record {
   id = name_of (component s 2 1);
   iso = name_of (component s 3 1);
-  long = unwrap_or (long_of (component s 3 1)) (long_of_bay (cell_in group).0);
+  long = unwrap_or (length_of_type (component s 3 1)) (long_of_bay (cell_in group).0);
   empty = is_one (element s 6) (codes "4");
   kg = weight_in group;
   reefer = list_any is_cooled group;

@@ -1,24 +1,7 @@
--- The texts of cells, types, counts and weights (SMDG BAPLIE 2.2, ISO 6346).
-use Rattle.std.specs.Prelude.{ℕ, ◌+◌, ◌*◌, ◌-◌, ◌/◌, ◌%◌, Bool, ◌&&◌, ◌||◌, ◌==◌, nat_le, min, List, [], ◌∷◌, length, take, drop, fold, Option, Some, None, if◌then◌else◌}
+-- The texts of cells, counts and weights (SMDG BAPLIE 2.2).
+use Rattle.std.specs.Prelude.{ℕ, ◌+◌, ◌-◌, ◌/◌, Bool, ◌&&◌, ◌||◌, ◌==◌, nat_le, List, [], ◌∷◌, length, take, drop, Option, Some, None, if◌then◌else◌}
 use Rattle.std.specs.List.{list_all, position_or_len}
-use Rattle.stow_data.specs.declared.geometry.Length.{Length}
-use Rattle.stow_data.specs.declared.geometry.Length.TheVariants.{Twenty, Forty}
-
--- 0 to 9
-abbrev pub is_digit : ℕ → Bool
-is_digit b = nat_le 48 b && nat_le b 57
-
--- the number of a digit; what it is of another byte is of no account
-abbrev pub digit_of : ℕ → ℕ
-digit_of b = min (b - 48) 9
-
--- a further digit behind a number
-abbrev pub with_digit : ℕ → ℕ → ℕ
-with_digit n b = n * 10 + digit_of b
-
--- the number that digits spell
-abbrev pub value : List ℕ → ℕ
-value text = fold with_digit 0 text
+use Rattle.stow_data.specs.Digits.{digit, is_digit, value}
 
 -- ## Cells
 
@@ -30,20 +13,9 @@ is_cell text = (length text == 6 || length text == 7) && list_all is_digit text
 abbrev pub cell_of : List ℕ → Option (ℕ × ℕ × ℕ)
 cell_of text = if is_cell text then Some (value (take (length text - 4) text), value (take 2 (drop (length text - 4) text)), value (drop (length text - 2) text)) else None
 
--- the last decimal digit of a number, as a byte
-abbrev pub digit : ℕ → ℕ
-digit n = 48 + n % 10
-
 -- a bay, row and tier number in seven digits: three of the bay, two of the row, two of the tier
 abbrev pub cell_digits : ℕ → ℕ → ℕ → List ℕ
 cell_digits bay row tier = digit (bay / 100) ∷ digit (bay / 10) ∷ digit bay ∷ digit (row / 10) ∷ digit row ∷ digit (tier / 10) ∷ digit tier ∷ []
-
--- ## Types
-
--- the length of a container, by the first character of its size and type code
-abbrev pub long_of : List ℕ → Option Length
-long_of [] = None
-long_of (b ∷ text) = if b == 50 then Some Twenty else (if b == 52 then Some Forty else None)
 
 -- ## Counts and weights
 

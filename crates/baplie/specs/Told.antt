@@ -4,7 +4,8 @@ use Rattle.std.specs.Option.{option_or}
 use Rattle.edifact_segments.specs.declared.segments.Segment.{Segment}
 use Rattle.baplie.specs.declared.parts.Facts.{Facts}
 use Rattle.baplie.specs.declared.parts.CellGroup.{CellGroup}
-use Rattle.baplie.specs.Texts.{cell_of, long_of, weight_of}
+use Rattle.stow_data.specs.Types.{length_of_type}
+use Rattle.baplie.specs.Texts.{cell_of, weight_of}
 use Rattle.baplie.specs.Segments.{component, is_empty_text, is_container, names_port, is_verified, is_unverified, is_danger}
 use Rattle.baplie.specs.Groups.{text_in, long_of_bay, class_from}
 
@@ -13,7 +14,7 @@ pub record AreTold (group : List Segment) (bay : ℕ) (container : Segment) (f :
   pub id : f.id ≡ component container 2 1
   pub named : is_empty_text f.id ≡ false
   pub iso : f.iso ≡ component container 3 1
-  pub long : (long_of f.iso ≡ Some f.long) ⊎ ((is_empty_text f.iso ≡ true) × (f.long ≡ long_of_bay bay))
+  pub long : (length_of_type f.iso ≡ Some f.long) ⊎ ((is_empty_text f.iso ≡ true) × (f.long ≡ long_of_bay bay))
   pub weigher : Segment
   pub is_weighed : option_or (find is_verified group) (find is_unverified group) ≡ Some weigher
   pub kg : weight_of (component weigher 3 2) ≡ Some f.kg

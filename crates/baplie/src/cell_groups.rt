@@ -4,10 +4,10 @@ ghost use Rattle.baplie.specs.Groups.{cell_group, cell_in, class_from, class_in,
 ghost use Rattle.baplie.specs.Segments.{is_container};
 
 use crate::roles::{Role, component, is_one};
-use crate::{CellGroup, Facts, length_of_type, read_cell_text, read_weight};
+use crate::{CellGroup, Facts, read_cell_text, read_weight};
 use edifact_segments::{Segment, SegmentList};
 use std::alloc::Global;
-use stow_data::{Length, Name, NoMemory};
+use stow_data::{Length, Name, NoMemory, length_of_type};
 
 /// A cell group: its cell, its container and all its segments.
 pub(crate) fn cell_group(alloc: Global, group: &[Segment]) -> Result<CellGroup, NoMemory>

@@ -7,8 +7,9 @@ ghost use Rattle.baplie.specs.Causes.{cause_as, cell_cause, container_cause, lac
 ghost use Rattle.baplie.specs.Roles.{IsReadAs, as_container, as_danger, as_port};
 
 use crate::roles::{Role, component, is_text};
-use crate::{Cause, Prior, length_of_type, read_cell_text, read_weight};
+use crate::{Cause, Prior, read_cell_text, read_weight};
 use edifact_segments::Segment;
+use stow_data::length_of_type;
 
 /// The first fault of a group whose first segment has this number.
 pub(crate) fn group_fault(group: &[Segment], first: u32) -> Option<(u32, Cause)>

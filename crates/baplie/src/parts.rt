@@ -53,3 +53,6 @@ pub struct Message {
     pub head: SegmentList,
     pub groups: GroupList,
 }
+
+/// A list of messages.
+pub type MessageList = Seq<Message>;

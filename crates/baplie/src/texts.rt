@@ -1,10 +1,11 @@
-//! The texts of cells, types, counts and weights.
+//! The texts of cells, counts and weights.
 ghost use Rattle.std.specs.Prelude.{◌≡◌, ◌<◌, ◌≤◌, ◌+◌, ◌%◌, ◌↔◌, ℕ, List, Some, false, length, IfSome, IsNone};
 ghost use Rattle.std.specs.List.{list_all, position_or_len};
 ghost use Rattle.std.specs.Option.{ForSome};
-ghost use Rattle.baplie.specs.Texts.{at_most, cell_digits, cell_of, digit, digit_of, is_cell, is_digit, is_mark, is_number, long_of, number_of, rounded_up, value, weight_of, with_decimals};
+ghost use Rattle.stow_data.specs.Digits.{is_digit, value};
+ghost use Rattle.baplie.specs.Texts.{at_most, cell_digits, cell_of, is_cell, is_mark, is_number, number_of, rounded_up, weight_of, with_decimals};
 
-use stow_data::Length;
+use stow_data::{are_digits, digit, value_of};
 
 /// Bay, row and tier number of a cell's text: seven digits BBBRRTT, or six BBRRTT (SMDG BAPLIE 2.2).
 /// None where the text isn't six or seven digits.
@@ -17,9 +18,9 @@ pub fn read_cell_text(text: &[u8]) -> Option<(u32, u32, u32)>
     }
     let split = text.len() - 4;
     Some((
-        value_of(&text[..split]),
-        value_of(&text[split..split + 2]),
-        value_of(&text[split + 2..]),
+        short_value(&text[..split]),
+        short_value(&text[split..split + 2]),
+        short_value(&text[split + 2..]),
     ))
 }
 
@@ -30,31 +31,13 @@ fn is_cell_text(text: &[u8]) -> bool
     (text.len() == 6 || text.len() == 7) && are_digits(text)
 }
 
-fn are_digits(text: &[u8]) -> bool
-    ensures { result ≡ list_all is_digit text.now }
-{
-    text.iter().all(|b| matches!(*b, b'0'..=b'9'))
-}
-
-/// The number that at most nine digits spell. What it is of other bytes is of no account.
-fn value_of(text: &[u8]) -> u32
+/// The number that at most nine digits spell.
+fn short_value(text: &[u8]) -> u32
     requires short { length text.now ≤ 9 }
     ensures read { result ≡ value text.now }
     ensures small { result < 1000000000 }
 {
-    let mut value: u32 = 0;
-    for byte in text {
-        value = value * 10 + digit_at(*byte);
-    }
-    value
-}
-
-/// The number of a digit.
-fn digit_at(byte: u8) -> u32
-    ensures value { result ≡ digit_of byte }
-    ensures small { result ≤ 9 }
-{
-    byte.saturating_sub(b'0').min(9) as u32
+    value_of(text) as u32
 }
 
 /// The text of a cell: the last three digits of the bay, two of the row, two of the tier. Where the numbers have
@@ -75,25 +58,6 @@ pub fn cell_text(bay: u32, row: u32, tier: u32) -> [u8; 7]
     ]
 }
 
-/// The last decimal digit of a number.
-pub fn digit(n: u32) -> u8
-    ensures { result ≡ digit n }
-{
-    b'0' + (n % 10) as u8
-}
-
-/// The length of a container by its size and type code (ISO 6346): None where the first character is
-/// neither `2` nor `4`.
-pub fn length_of_type(text: &[u8]) -> Option<Length>
-    ensures { result ≡ long_of text.now }
-{
-    match text.first() {
-        Some(b'2') => Some(Length::Twenty),
-        Some(b'4') => Some(Length::Forty),
-        _ => None,
-    }
-}
-
 /// A control count: None where it isn't one to nine digits.
 pub fn read_count(text: &[u8]) -> Option<u32>
     ensures read { result ≡ number_of text.now }
@@ -102,7 +66,7 @@ pub fn read_count(text: &[u8]) -> Option<u32>
     if text.is_empty() || text.len() > 9 || !are_digits(text) {
         return None;
     }
-    Some(value_of(text))
+    Some(short_value(text))
 }
 
 /// A weight in kilograms, rounded up: None where it isn't one to nine digits, perhaps with a decimal

@@ -3,7 +3,7 @@ use Rattle.std.proofs.Common.{◌≡◌, ℕ, ◌+◌, ◌/◌, Bool, true, fals
 use Rattle.std.specs.Prelude.{flat_map, nat_le, codes}
 use Rattle.std.specs.List.{list_any}
 use Rattle.std.proofs.lemmas.Bool.Decides.{nat_tests}
-use Rattle.baplie.specs.Texts.{digit}
+use Rattle.stow_data.specs.Digits.{digit}
 use Rattle.bay_views.specs.Escapes.{breaks_out, is_markup, is_printable, entity, reference, written, written_text, escaped, escaped_text, IsEntity, IsWritten}
 
 any_append : (xs ys : List ℕ) → list_any breaks_out xs ≡ false → list_any breaks_out ys ≡ false → list_any breaks_out (xs ++ ys) ≡ false

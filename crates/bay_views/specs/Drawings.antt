@@ -3,7 +3,7 @@ use Rattle.std.specs.Prelude.{ℕ, ◌+◌, ◌-◌, ◌*◌, ◌/◌, ◌%◌, 
 use Rattle.std.specs.Fmt.{decimal}
 use Rattle.std.specs.List.{sum_by}
 use Rattle.baplie.specs.declared.parts.CellGroup.{CellGroup}
-use Rattle.baplie.specs.Texts.{digit}
+use Rattle.stow_data.specs.Digits.{digit}
 use Rattle.stow_report.specs.Listings.{holds, kilograms}
 use Rattle.bay_views.specs.declared.frames.Frame.{Frame}
 use Rattle.bay_views.specs.declared.sheets.Sheet.{Sheet}

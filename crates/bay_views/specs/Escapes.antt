@@ -1,7 +1,7 @@
 -- How the bytes of a text stand in a document (XML 1.0, ISO 8859-1).
 use Rattle.std.specs.Prelude.{◌≡◌, ◌⊎◌, ℕ, ◌/◌, Bool, false, ◌&&◌, ◌||◌, ◌==◌, nat_le, codes, List, [], ◌∷◌, ◌++◌, flat_map, if◌then◌else◌}
 use Rattle.std.specs.List.{list_any}
-use Rattle.baplie.specs.Texts.{digit}
+use Rattle.stow_data.specs.Digits.{digit}
 
 -- the characters that have a meaning of their own: `"` `&` `'` `<` `>`
 abbrev pub is_markup : ℕ → Bool

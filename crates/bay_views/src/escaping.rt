@@ -1,8 +1,8 @@
 //! Texts of a file inside a document.
-ghost use Rattle.std.specs.Prelude.{◌≡◌, ◌++◌, ◌∷◌, [], ◌+◌, ◌%◌, OnOk};
+ghost use Rattle.std.specs.Prelude.{◌≡◌, ◌++◌, ◌∷◌, [], OnOk};
 ghost use Rattle.bay_views.specs.Escapes.{is_markup, entity, reference, is_printable, written, written_text, escaped, escaped_text};
 
-use stow_data::{Bytes, NoMemory};
+use stow_data::{Bytes, NoMemory, digit};
 
 /// Appends a text of the file, in ISO 8859-1: each character with a meaning of its own in a document
 /// (`<`, `>`, `&`, `"`, `'`) as its entity, each byte from 160 on as the reference of its number, and
@@ -73,15 +73,9 @@ fn write_reference(out: &mut Bytes, byte: u8) -> Result<(), NoMemory>
     if byte < 160 {
         return out.extend(b"&#65533;");
     }
-    let digits = [digit(byte / 100), digit(byte / 10), digit(byte)];
+    let number = u32::from(byte);
+    let digits = [digit(number / 100), digit(number / 10), digit(number)];
     out.extend(b"&#")?;
     out.extend(&digits)?;
     out.extend(b";")
-}
-
-/// The last decimal digit of a number.
-fn digit(n: u8) -> u8
-    ensures { result ≡ 48 + n % 10 }
-{
-    b'0' + n % 10
 }

@@ -9,6 +9,7 @@ use Rattle.std.proofs.lemmas.Slice.Eq.{bytes_eq-Decides}
 use Rattle.toml.specs.Data.{Data, Items, Members, no_items}
 use Rattle.stow_data.specs.Profile.{is_class, is_name}
 use Rattle.toml_values.specs.declared.of_values.Unread.{Unread}
+use Rattle.stow_data.specs.Types.{length_of_type}
 use Rattle.toml_values.specs.Values.{◌>>=◌, array_of, at_key, document_of, flag_of, if_there, is_code, is_digits, number_of, or_default, signed_of, table_of, text_that}
 use Rattle.toml_values.specs.Arrays.{each_after, each_of, item_count, tables_of}
 use Rattle.toml_values.proofs.ValueLaws.{bound, default_or, err_is_no_ok, if_there_or, number_within, passed, passes, same_Ok, signed_within, text_passes, under_key}
@@ -21,7 +22,7 @@ use Rattle.bookings.specs.declared.shipment.Booking.{Booking}
 use Rattle.bookings.specs.declared.shipment.Bookings.{Bookings}
 use Rattle.stow_data.specs.declared.limits.Limit.TheVariants as limit
 use Rattle.bookings.specs.Spelling.{spelling}
-use Rattle.bookings.specs.Reading.{Gives, booking_at, booking_of, bookings_in, bookings_of, containers_in, ensure, has_id, length_of, may, need, of_key, or_else, ports_of, rotation_in}
+use Rattle.bookings.specs.Reading.{Gives, booking_at, booking_of, bookings_in, bookings_of, containers_in, ensure, has_id, may, need, of_key, or_else, ports_of, rotation_in}
 use Rattle.bookings.specs.Rules.{IsBooking, IsBookings}
 use Rattle.bookings.proofs.BookingLaws.{key_read}
 
@@ -71,7 +72,7 @@ pub record IsNext (calls : ℕ) (before : List Booking) (b : Booking) : Type 0 w
 checked_of : List Booking → ℕ → List ℕ → ℕ → ℕ → List ℕ → ℕ → Bool → Bool → Option ℤ → Option (List ℕ) → ℕ → Result Booking BookingFault
 checked_of before index id load dest iso kg vgm empty temperature class unno = do
   order ← ensure (nat_lt load dest) (CallOrder index)
-  long ← ok_or (length_of iso) (LengthUnknown index)
+  long ← ok_or (length_of_type iso) (LengthUnknown index)
   once ← ensure (not (has_id id before)) (DuplicateId index)
   Ok (record { id = id; load = load; dest = dest; iso = iso; long = long; kg = kg; vgm = vgm; empty = empty; temperature = temperature; class = class; unno = unno })
 
@@ -108,14 +109,14 @@ record IsChecked (before : List Booking) (id : List ℕ) (load dest : ℕ) (iso 
   pub class_is : class ≡ b.class
   pub unno_is : unno ≡ b.unno
   pub later : b.load < b.dest
-  pub long : length_of b.iso ≡ Some b.long
+  pub long : length_of_type b.iso ≡ Some b.long
   pub other_ids : All (λ c. c.id ≢ b.id) before
 
 checked_is : (before : List Booking) (index : ℕ) (id : List ℕ) (load dest : ℕ) (iso : List ℕ) (kg : ℕ) (vgm empty : Bool) (temperature : Option ℤ) (class : Option (List ℕ)) (unno : ℕ) (b : Booking) → checked_of before index id load dest iso kg vgm empty temperature class unno ≡ Ok b → IsChecked before id load dest iso kg temperature class unno b
 unfolding checked_of
 checked_is before index id load dest iso kg vgm empty temperature class unno b h =
     let order = ensured (nat_lt load dest) (CallOrder index) _ b h in
-    let long = bound (ok_or (length_of iso) (LengthUnknown index)) _ b order.1 in
+    let long = bound (ok_or (length_of_type iso) (LengthUnknown index)) _ b order.1 in
     let once = ensured (not (has_id id before)) (DuplicateId index) _ b long.goes_on in
     let later = leb-true (suc load) dest order.0 in
     subst (IsChecked before id load dest iso kg temperature class unno) (same_Ok _ b once.1) record {
@@ -128,7 +129,7 @@ checked_is before index id load dest iso kg vgm empty temperature class unno b h
       class_is = refl;
       unno_is = refl;
       later = omega (arith, later);
-      long = wanted (length_of iso) (LengthUnknown index) long.value long.is;
+      long = wanted (length_of_type iso) (LengthUnknown index) long.value long.is;
       other_ids = others id before once.0;
     }
 

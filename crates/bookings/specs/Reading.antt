@@ -1,12 +1,11 @@
 -- The bookings of a text, or its first fault: key after key, and entry after entry.
-use Rattle.std.specs.Prelude.{Bool, Err, List, MatchResult, None, Ok, Option, Result, Some, [], false, codes, if◌then◌else◌, length, nat_le, nat_lt, negsuc, not, ok_or, pos, slice_index, ℕ, ◌+◌, ◌==◌, ◌≡◌, ◌≢◌}
+use Rattle.std.specs.Prelude.{Bool, Err, List, MatchResult, Ok, Option, Result, [], false, codes, if◌then◌else◌, length, nat_le, nat_lt, negsuc, not, ok_or, pos, ℕ, ◌+◌, ◌≡◌, ◌≢◌}
 use Rattle.std.specs.List.{list_any}
 use Rattle.std.specs.Str.{bytes_eq}
 use Rattle.toml.specs.Data.{Data, Items, Members, no_items}
-use Rattle.stow_data.specs.declared.geometry.Length.{Length}
-use Rattle.stow_data.specs.declared.geometry.Length.TheVariants.{Twenty, Forty}
 use Rattle.stow_data.specs.declared.limits.Limit.TheVariants as limit
 use Rattle.stow_data.specs.Profile.{is_class, is_name}
+use Rattle.stow_data.specs.Types.{length_of_type}
 use Rattle.toml_values.specs.declared.of_values.Unread.{Unread}
 use Rattle.toml_values.specs.declared.of_values.Unread.TheVariants as unread
 use Rattle.toml_values.specs.Values.{◌>>=◌, array_of, at_key, document_of, flag_of, if_there, is_code, is_digits, number_of, or_default, passing, signed_of, table_of, text_that}
@@ -53,10 +52,6 @@ rotation_in top = do
   few ← ensure (nat_le (length ports) 12) (TooLarge limit.Calls (length ports))
   Ok ports
 
--- the length by the first character of a size and type code (ISO 6346)
-abbrev pub length_of : List ℕ → Option Length
-length_of iso = if slice_index iso 0 == 50 then Some Twenty else if slice_index iso 0 == 52 then Some Forty else None
-
 abbrev pub has_id : List ℕ → List Booking → Bool
 has_id id bookings = list_any (λ b. bytes_eq b.id id) bookings
 
@@ -74,7 +69,7 @@ booking_of calls before entry = let index = length before + 1 in do
   class ← may key.Class (text_that is_class) index entry
   unno ← or_else 0 key.Unno (number_of 0 9999) index entry
   order ← ensure (nat_lt load dest) (CallOrder index)
-  long ← ok_or (length_of iso) (LengthUnknown index)
+  long ← ok_or (length_of_type iso) (LengthUnknown index)
   once ← ensure (not (has_id id before)) (DuplicateId index)
   Ok (record { id = id; load = load; dest = dest; iso = iso; long = long; kg = kg; vgm = vgm; empty = empty; temperature = temperature; class = class; unno = unno })
 

@@ -1,10 +1,10 @@
 -- What bookings obey that were read.
 use Rattle.std.specs.Prelude.{All, AllPairs, IfSome, IsTrue, Some, length, negsuc, pos, ℕ, ◌<◌, ◌≡◌, ◌≢◌, ◌≤ℤ◌, ◌≤◌}
 use Rattle.stow_data.specs.Profile.{is_class, is_name}
+use Rattle.stow_data.specs.Types.{length_of_type}
 use Rattle.toml_values.specs.Values.{is_code, is_digits}
 use Rattle.bookings.specs.declared.shipment.Booking.{Booking}
 use Rattle.bookings.specs.declared.shipment.Bookings.{Bookings}
-use Rattle.bookings.specs.Reading.{length_of}
 
 -- what a booking obeys in a rotation of so many calls
 pub record IsBooking (calls : ℕ) (b : Booking) : Type 0 where
@@ -13,7 +13,7 @@ pub record IsBooking (calls : ℕ) (b : Booking) : Type 0 where
   pub later : b.load < b.dest
   pub in_rotation : b.dest ≤ calls
   pub typed : IsTrue (is_code 10 b.iso)
-  pub long : length_of b.iso ≡ Some b.long
+  pub long : length_of_type b.iso ≡ Some b.long
   pub kg_to : b.kg ≤ 99999
   pub temperature_from : IfSome b.temperature (λ t. negsuc 98 ≤ℤ t)
   pub temperature_to : IfSome b.temperature (λ t. t ≤ℤ pos 99)

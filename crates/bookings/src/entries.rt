@@ -3,7 +3,7 @@ ghost use Rattle.std.specs.Prelude.{◌≡◌, ◌+◌, ◌<◌, ◌≤◌, [], 
 ghost use Rattle.toml.specs.View.{array_view, table_view, view};
 ghost use Rattle.toml_values.specs.Arrays.{each_after, item_count};
 ghost use Rattle.bookings.specs.Ids.{AreIds};
-ghost use Rattle.bookings.specs.Reading.{Gives, booking_at, booking_of, length_of};
+ghost use Rattle.bookings.specs.Reading.{Gives, booking_at, booking_of};
 
 use crate::booking_keys::BookingKey;
 use crate::faults::BookingFault;
@@ -12,21 +12,10 @@ use crate::keyed;
 use crate::shipment::{Booking, BookingList};
 use std::alloc::Global;
 use std::collections::BTreeSet;
-use stow_data::{CallNo, Length, Name};
+use stow_data::{CallNo, Name, length_of_type};
 use toml::value::Array;
 use toml::{Table, Value};
 use toml_values::table_of;
-
-/// The length that the first character of a size and type code says: 2 for 20 foot, 4 for 40 foot (ISO 6346).
-fn length_of(iso: &[u8]) -> Option<Length>
-    ensures { result ≡ length_of iso.now }
-{
-    match iso.first() {
-        Some(b'2') => Some(Length::Twenty),
-        Some(b'4') => Some(Length::Forty),
-        _ => None,
-    }
-}
 
 /// The booking of an entry, which comes after these bookings with these ids.
 #[tactic(auto, unfolding(crate::specs::Reading::booking_of))]
@@ -54,7 +43,7 @@ fn booking_of(
     if dest <= load {
         return Err(BookingFault::CallOrder { index });
     }
-    let Some(long) = length_of(iso.bytes()) else {
+    let Some(long) = length_of_type(iso.bytes()) else {
         return Err(BookingFault::LengthUnknown { index });
     };
     if is_among(ids, &id) {

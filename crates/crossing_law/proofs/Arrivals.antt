@@ -1,5 +1,5 @@
 -- What the variables are: where those of the arrival stand, and whether places have the lengths of kinds.
-use Rattle.std.proofs.Common.{◌≡◌, ℕ, zero, suc, ◌<◌, ◌≤◌, Bool, true, false, cond, not, ◌&&◌, ◌||◌, ltb, leb, Option, Some, None, length, refl, ap, sym, subst, arith, ◌∙◌, ◌⊎◌, inl, inr, ⊎_elim}
+use Rattle.std.proofs.Common.{◌≡◌, ℕ, zero, suc, ◌<◌, ◌≤◌, Bool, true, false, cond, not, ◌&&◌, ltb, leb, Option, Some, None, length, refl, ap, sym, subst, arith, ◌∙◌, ◌⊎◌, inl, inr, ⊎_elim}
 use Rattle.std.specs.Prelude.{◌==◌, nat_le, slice_get, slice_index_or}
 use Rattle.std.proofs.lemmas.Bool.{and_parts, and_from, both_ways, eqb-true, eq-eqb, ltb-true, leb-true, ne_eqb, cond-true, cond-false, not-true}
 use Rattle.stow_data.specs.declared.geometry.Place.{Place}
@@ -7,7 +7,8 @@ use Rattle.stow_data.specs.declared.geometry.Half.{Half}
 use Rattle.stow_data.specs.declared.geometry.Span.{Span}
 use Rattle.stow_data.specs.declared.geometry.Span.TheVariants.{Fore, Aft, Both}
 use Rattle.stow_data.specs.declared.cargoes.Container.{Container}
-use Rattle.stow_data.specs.Ship.{places, length_in, same_length, fits, HasHalf, TakesSide}
+use Rattle.stow_data.specs.Ship.{places, length_in, fits, HasHalf, TakesSide}
+use Rattle.stow_data.proofs.Fitting.{fits_said}
 use Rattle.stow_data.specs.Plans.{container_at, held, no_container}
 use Rattle.stow_data.specs.Kinds.{kind_of, kind_number}
 use Rattle.stow_data.proofs.PlanLookups.{is_place, is_held, container_is}
@@ -18,7 +19,7 @@ use Rattle.zero_one_rows.specs.Variables.{Voyage, kind, place, variables, var, a
 use Rattle.zero_one_rows.specs.Listed.{IsNamed}
 use Rattle.zero_one_rows.specs.Rows.{covers, takes}
 use Rattle.zero_one_rows.proofs.VariableList.{var_listed}
-use Rattle.crossing_law.proofs.KindFacts.{kind_alike, alike_long, same_length_is}
+use Rattle.crossing_law.proofs.KindFacts.{kind_alike, alike_long}
 
 -- half-cells of a place, as a test and as a record
 takes_side : (span : Span) (side : Bool) → takes span side ≡ true → TakesSide span side
@@ -111,7 +112,7 @@ module _ (m : Voyage) (arr : HasArrival m.ship m.cargo) where
       let n = i.named in
       ⊎_elim
       (λ (z : x.put ≡ 0). kind_long x.kind x.place n.place (i.arrives z))
-      (λ (nz : x.put ≡ 0 → ⊥). same_length_is _ _ (and_parts (same_length (kind m x.kind).long (length_in (place m x.place).span)) (not (kind m x.kind).reefer || (place m x.place).plug) (i.fitting nz)).0)
+      (λ (nz : x.put ≡ 0 → ⊥). (fits_said (place m x.place) (kind m x.kind).long (kind m x.kind).reefer (i.fitting nz)).length_fits)
       (zero_or x.put)
     where
       zero_or : (n : ℕ) → (n ≡ 0) ⊎ (n ≡ 0 → ⊥)

@@ -9,7 +9,7 @@ use Rattle.stow_data.specs.declared.geometry.Half.{Half}
 use Rattle.stow_data.specs.declared.geometry.Place.{Place}
 use Rattle.stow_data.specs.declared.cargoes.Container.{Container}
 use Rattle.stow_data.specs.Kinds.{rounded}
-use Rattle.stow_data.specs.Ship.{Ship, places, HasHalf, HasLength, LiesUnder, StandsOn, half_at}
+use Rattle.stow_data.specs.Ship.{Ship, places, HasHalf, Takes, LiesUnder, StandsOn, half_at}
 use Rattle.stow_data.specs.Profile.{IsShip}
 use Rattle.stow_data.specs.Shipment.{Cargo, IsCargo, IsShipped}
 use Rattle.stow_data.specs.Plans.{Plan}
@@ -94,9 +94,9 @@ apart_put ship cargo plan p c place x formed can h d e a b = ⊎_elim
     (still_fills ship cargo plan p c e place x h can b))
     (still_fills ship cargo plan p c d place x h can a)
 
-fits_put : (ship : Ship) (cargo : Cargo) (plan : Plan) (p c q d : ℕ) (place other : Place) (x y : Container) → IsWellFormed ship cargo plan → CanStand ship cargo plan p c place x → Stands ship cargo (slice_set plan p (Some c)) q d other y → HasLength other.span y.long
+fits_put : (ship : Ship) (cargo : Cargo) (plan : Plan) (p c q d : ℕ) (place other : Place) (x y : Container) → IsWellFormed ship cargo plan → CanStand ship cargo plan p c place x → Stands ship cargo (slice_set plan p (Some c)) q d other y → Takes other y.long
 fits_put ship cargo plan p c q d place other x y formed can s = ⊎_elim
-    (λ (e : (other ≡ place) × (y ≡ x)). subst (λ (z : Place). HasLength z.span y.long) (sym e.0) (subst (λ (z : Container). HasLength place.span z.long) (sym e.1) can.length_fits))
+    (λ (e : (other ≡ place) × (y ≡ x)). subst (λ (z : Place). Takes z y.long) (sym e.0) (subst (λ (z : Container). Takes place z.long) (sym e.1) can.length_fits))
     (λ (k : Stands ship cargo plan q d other y). formed.fits q d other y k)
     (stands_after ship cargo plan p c q d place other x y can s)
 

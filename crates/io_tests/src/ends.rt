@@ -145,8 +145,8 @@ fn short_reads(rt: HostRuntime) -> Result<(), Fail> {
     assert!(rt;
         ten_read(alloc, 10, 0).is_ok_and(|bytes| bytes.as_slice() == b"0123456789".as_slice())
     );
-    assert!(rt; ten_read(alloc, 9, 0).is_err());
-    assert!(rt; ten_read(alloc, 10, 3).is_err());
+    assert!(rt; ten_read(alloc, 9, 0).is_err_and(|no| no == FolderNo::Failed));
+    assert!(rt; ten_read(alloc, 10, 3).is_err_and(|no| no == FolderNo::Failed));
     Ok(())
 }
 
@@ -222,11 +222,38 @@ fn a_long_file(rt: HostRuntime) -> Result<(), Fail> {
     Ok(())
 }
 
+const SHORTER: &str = "stow_io_shorter.bin";
+
+/// Of a longer file that stood under the name nothing is left.
+#[test]
+fn a_shorter_file(rt: HostRuntime) -> Result<(), Fail> {
+    let alloc = rt.alloc();
+    let text = vec![in alloc; 7u8; 200_001]?;
+    let mut folder = RealFolder::new(&rt, alloc);
+    assert!(rt; folder.write(SHORTER, text.as_slice()) == Ok(()));
+    assert!(rt; folder.write(SHORTER, b"abc") == Ok(()));
+    let found = folder.read(SHORTER);
+    fs::remove_file(&rt, SHORTER)?;
+    assert!(rt; found.is_ok_and(|bytes| bytes.as_slice() == b"abc".as_slice()));
+    Ok(())
+}
+
+/// A disk without room is told.
+#[test]
+fn a_full_disk(rt: HostRuntime) -> Result<(), Fail> {
+    let mut folder = RealFolder::new(&rt, rt.alloc());
+    assert!(rt; folder.write("/dev/full", b"x") == Err(FolderNo::Failed));
+    assert!(rt; folder.write("/dev/null", b"x") == Ok(()));
+    Ok(())
+}
+
+/// A file that can't be read or written is told as that, and not as want of memory.
 #[test]
 fn real_ends(rt: HostRuntime) -> Result<(), Fail> {
     let alloc = rt.alloc();
     let mut folder = RealFolder::new(&rt, alloc);
-    assert!(rt; folder.read("stow_io_missing.bin").is_err());
+    let missing = folder.read("stow_io_missing.bin");
+    assert!(rt; missing.is_err_and(|no| no == FolderNo::Failed));
     assert!(rt; folder.write("stow_io_missing/file.bin", b"x") == Err(FolderNo::Failed));
     let mut out = RealOut::new(&rt);
     assert!(rt; out.put(b"") == Ok(()));
@@ -243,7 +270,7 @@ fn the_limit_of_a_file(rt: HostRuntime) -> Result<(), Fail> {
     let past = read_file(&rt, alloc, name, 9);
     let at = read_file(&rt, alloc, name, 10);
     fs::remove_file(&rt, name)?;
-    assert!(rt; past.is_err());
+    assert!(rt; past.is_err_and(|no| no == FolderNo::Failed));
     assert!(rt; at.is_ok_and(|bytes| bytes.len() == 10));
     Ok(())
 }

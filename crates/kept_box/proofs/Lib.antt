@@ -2,7 +2,7 @@ pub mod Landing
 pub mod Freeing
 pub mod Walking
 mod Steps
-mod Falling
+pub mod Falling
 mod Calming
 mod Ones
 mod Idle

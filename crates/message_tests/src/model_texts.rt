@@ -1,7 +1,7 @@
 //! Each public call once.
-use baplie::{cell_text, length_of_type, read_cell_text, read_count, read_weight};
+use baplie::{cell_text, read_cell_text, read_count, read_weight};
 use std::test::Fail;
-use stow_data::Length;
+use stow_data::{Length, length_of_type};
 
 #[test]
 fn reads_texts(rt: HostRuntime) -> Result<(), Fail> {

@@ -10,7 +10,7 @@ use Rattle.stow_data.specs.declared.geometry.Length.TheVariants as long_of
 use Rattle.stow_data.specs.declared.cargoes.Container.{Container}
 use Rattle.stow_data.specs.declared.geometry.Place.{Place}
 use Rattle.stow_data.specs.declared.geometry.Half.{Half}
-use Rattle.stow_data.specs.Ship.{places, halves, length_in}
+use Rattle.stow_data.specs.Ship.{places, halves}
 use Rattle.stow_data.specs.Plans.{Plan}
 use Rattle.stowage_rules.specs.Plan.{Holds}
 use Rattle.stowage_rules.specs.Plan.{Fills}
@@ -26,7 +26,8 @@ use Rattle.model_bridge.proofs.Words.{shown_kind}
 use Rattle.stow_data.specs.Kinds.{kind_of}
 use Rattle.crossing_law.proofs.KindFacts.{same_length_is}
 use Rattle.zero_one_rows.specs.Variables.{Voyage, variables, var, kind, place}
-use Rattle.model_bridge.proofs.Words.{container, has_length, fits, at_half}
+use Rattle.model_bridge.proofs.Words.{container, fits, at_half}
+use Rattle.stow_data.proofs.Fitting.{fits_said}
 use Rattle.zero_one_rows.specs.Rows.{active, half, covers, below, occ, occ20, is_twenty, is_call, IsSolution, bit, less}
 use Rattle.stow_data.specs.Plans.{no_half, no_place, no_container}
 use Rattle.model_bridge.proofs.Sums.{found, below_one, below_two}
@@ -212,7 +213,7 @@ module _ (m : Voyage) (x : ℕ → Bool) (facts : Facts m) (i : ℕ) (held : Lis
       well_formed = record {
         each_place = shows.each_place;
         known = λ p c h. let e = shows.from_plan p c h in (container m e.0.1, ap (slice_get m.cargo.containers) (sym e.3) ∙ box_is e.0 e.1);
-        fits = λ p c at box s. same_length_is box.long (length_in at.span) (and_parts (has_length at.span box.long) _ (stands_pair p c at box s)).0;
+        fits = λ p c at box s. (fits_said at box.long box.reefer (stands_pair p c at box s)).length_fits;
         apart = λ h c d f g. let a = fills_pair plan shows h c f in let b = fills_pair plan shows h d g in
             sym a.4 ∙ (ap (spot m) (one_there a.0 b.0 h a.1 b.1 a.2 b.2) ∙ b.4);
         once = λ p q c f g. let a = shows.from_plan p c f in let b = shows.from_plan q c g in
@@ -220,10 +221,7 @@ module _ (m : Voyage) (x : ℕ → Bool) (facts : Facts m) (i : ℕ) (held : Lis
       }
 
       plugged : IsPlugged m.ship m.cargo plan
-      plugged p c at box s cold = ⊎_elim
-          (λ (h : not box.reefer ≡ true). absurd (both_ways box.reefer (not-true box.reefer h) cold))
-          (λ (h : at.plug ≡ true). h)
-          (or_cases (not box.reefer) at.plug (and_parts (has_length at.span box.long) _ (stands_pair p c at box s)).1)
+      plugged p c at box s = (fits_said at box.long box.reefer (stands_pair p c at box s)).has_plug
 
       pub stowed : IsStowed m.ship m.cargo i plan
       stowed = record {

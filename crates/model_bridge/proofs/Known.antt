@@ -9,7 +9,8 @@ use Rattle.stow_data.specs.declared.cargoes.Container.{Container}
 use Rattle.stow_data.specs.declared.geometry.Span.{Span}
 use Rattle.stow_data.specs.declared.geometry.Length.{Length}
 use Rattle.stow_data.specs.declared.geometry.Length.TheVariants.{Twenty, Forty}
-use Rattle.stow_data.specs.Ship.{places, HasLength, same_length, length_in}
+use Rattle.stow_data.specs.Ship.{places}
+use Rattle.stow_data.proofs.Fitting.{fits_shown}
 use Rattle.stow_data.specs.Plans.{Plan}
 use Rattle.stowage_rules.specs.Plan.{Holds}
 use Rattle.stowage_rules.specs.Plan.{Stands}
@@ -17,7 +18,7 @@ use Rattle.stow_data.specs.declared.kind_list.Kind.{Kind}
 use Rattle.zero_one_rows.specs.declared.program.Row.TheVariants.{Start}
 use Rattle.stow_data.specs.Kinds.{kind_of}
 use Rattle.zero_one_rows.specs.Variables.{Voyage, variables, var, kind, all_kinds, place, arrived, calls}
-use Rattle.model_bridge.proofs.Words.{container, kind_at, fits, begun, has_length, shown_kind, kind_known, kind_is, box_at, stack_known, tier_low, half_known}
+use Rattle.model_bridge.proofs.Words.{container, kind_at, fits, begun, shown_kind, kind_known, kind_is, box_at, stack_known, tier_low, half_known}
 use Rattle.stow_data.specs.Plans.{no_container, no_place}
 use Rattle.zero_one_rows.specs.Rows.{has, is_filled, IsSolution, bit}
 use Rattle.model_bridge.proofs.Calls.{Facts}
@@ -28,17 +29,6 @@ use Rattle.zero_one_rows.proofs.VariableList.{var_listed}
 use Rattle.model_bridge.proofs.Sums.{found, none_sum, no_term, below_two, same_sum}
 use Rattle.model_bridge.proofs.Carry.{IsCarried, pairs_now, shows_plan, held_plan}
 use Rattle.model_bridge.proofs.Voyage.{voyage_from, costs}
-
-pub length_to : (s : Span) (l : Length) → HasLength s l → has_length s l ≡ true
-length_to s l h = ap (λ (z : Length). same_length z (length_in s)) h ∙ own (length_in s)
-  where
-    own : (l : Length) → same_length l l ≡ true
-    own Twenty = refl
-    own Forty = refl
-
-pub plug_to : (cold plug : Bool) → (IsTrue cold → IsTrue plug) → (not cold || plug) ≡ true
-plug_to true plug h = h refl
-plug_to false plug h = refl
 
 -- a number below n that passes, or 0
 abbrev pub some_of : (ℕ → Bool) → ℕ → ℕ
@@ -67,7 +57,7 @@ module _ (m : Voyage) (rules : IsProblem m) where
       let box : container m c ≡ k.0 = get_or_from_slice_get m.cargo.containers c k.0 no_container k.1 in
       let s : Stands m.ship m.cargo m.cargo.arrival p c (place m p) k.0 = record { is_place = slice_get-get_or (places m.ship) p no_place l; holds = h; is_container = k.1 } in
       ap (λ (z : Container). fits (place m p) (kind_of m.ship.weight_step z)) box
-      ∙ and_from _ _ (length_to (place m p).span k.0.long (rules.arrives.well_formed.fits p c (place m p) k.0 s)) (plug_to k.0.reefer (place m p).plug (rules.arrives.plugged p c (place m p) k.0 s))
+      ∙ fits_shown (place m p) k.0.long k.0.reefer (record { length_fits = rules.arrives.well_formed.fits p c (place m p) k.0 s; has_plug = rules.arrives.plugged p c (place m p) k.0 s })
 
   var_test : (v : ℕ) → v < length (variables m) → ((var m v).put < (var m v).lifted) × ((var m v).lifted ≤ (kind m (var m v).kind).dest) × (cond ((var m v).put == 0) (arrived m (var m v).kind (var m v).place) (begun m (var m v).kind (var m v).put && fits (place m (var m v).place) (kind m (var m v).kind)) ≡ true)
   var_test v l = let t = (var_listed m v l).0 in let a = and_parts (nat_lt (var m v).put (var m v).lifted) _ t in let b = and_parts (nat_le (var m v).lifted (kind m (var m v).kind).dest) _ a.1 in

@@ -19,7 +19,8 @@ use Rattle.model_bridge.proofs.Sums.{any_from, any_at}
 use Rattle.zero_one_rows.proofs.VariableList.{var_listed, var_number, var_once}
 use Rattle.model_bridge.specs.Laws.{IsProblem}
 use Rattle.model_bridge.proofs.Stays.{IsSailed}
-use Rattle.model_bridge.proofs.Known.{facts, some_of, some_of_is, length_to, plug_to}
+use Rattle.model_bridge.proofs.Known.{facts, some_of, some_of_is}
+use Rattle.stow_data.proofs.Fitting.{fits_shown}
 use Rattle.model_bridge.proofs.Carry.{IsCarried}
 
 holds_or : (plan : Plan) (p c : ℕ) → Holds plan p c ⊎ (Holds plan p c → ⊥)
@@ -192,7 +193,7 @@ module _ (m : Voyage) (rules : IsProblem m) (plan : ℕ → Plan) (lift : ℕ �
       let s : Stands m.ship m.cargo (plan i) p c (place m p) k.0 = record { is_place = slice_get-get_or (places m.ship) p no_place low; holds = h; is_container = k.1 } in (
         low,
         ap (λ (z : Container). fits (place m p) (kind_of m.ship.weight_step z)) box
-            ∙ and_from _ _ (length_to (place m p).span k.0.long (st.well_formed.fits p c (place m p) k.0 s)) (plug_to k.0.reefer (place m p).plug (st.plugged p c (place m p) k.0 s)),
+            ∙ fits_shown (place m p) k.0.long k.0.reefer (record { length_fits = st.well_formed.fits p c (place m p) k.0 s; has_plug = st.plugged p c (place m p) k.0 s }),
       )
 
   cond_in : (b x y : Bool) → (b ≡ true → x ≡ true) → (b ≡ false → y ≡ true) → cond b x y ≡ true

@@ -13,7 +13,7 @@ use Rattle.stow_data.specs.declared.geometry.Span.{Span}
 use Rattle.stow_data.specs.declared.geometry.Stack.{Stack}
 use Rattle.stow_data.specs.declared.cargoes.Container.{Container}
 use Rattle.stow_data.specs.declared.kind_list.Kind.{Kind}
-use Rattle.stow_data.specs.Ship.{places, halves, HasHalf, same_length, length_in}
+use Rattle.stow_data.specs.Ship.{places, halves, HasHalf, same_length}
 use Rattle.stow_data.specs.Ship.{fits as fits_at}
 use Rattle.stow_data.specs.Plans.{no_container, no_stack}
 use Rattle.stow_data.specs.Kinds.{kind_of, kind_number, alike, same_flag, loading}
@@ -32,9 +32,6 @@ use Rattle.crossing_law.proofs.KindFacts.{kind_alike, kind_first, loads_total, s
 abbrev pub any_below : ℕ → (ℕ → Bool) → Bool
 any_below zero t = false
 any_below (suc n) t = t n || any_below n t
-
-abbrev pub has_length : Span → Length → Bool
-has_length s l = same_length l (length_in s)
 
 abbrev pub fits : Place → Kind → Bool
 fits p k = fits_at p k.long k.reefer

@@ -5,7 +5,7 @@ use Rattle.std.proofs.lemmas.Bool.{cases_eq, cases_lt}
 use Rattle.std.proofs.lemmas.Option.{get_or_from_slice_get, same_Some, slice_get_within}
 use Rattle.stow_data.specs.declared.geometry.Half.{Half}
 use Rattle.stow_data.specs.declared.cargoes.Container.{Container}
-use Rattle.stow_data.specs.Ship.{Ship, HasLength}
+use Rattle.stow_data.specs.Ship.{Ship, Takes}
 use Rattle.stow_data.specs.Shipment.{Cargo, IsAboard, IsCargo}
 use Rattle.stow_data.specs.Profile.{IsShip}
 use Rattle.stow_data.specs.Plans.{Plan}
@@ -62,7 +62,7 @@ module _ (ship : Ship) (cargo : Cargo) (call : ℕ) (rules : IsShip ship) (shipp
     fits = λ p c place container stands.
         let a = said p c stands.holds in
         let one : a.says.container ≡ container = same_Some a.says.container container (sym a.says.is_container ∙ stands.is_container) in
-        subst (λ (z : Container). HasLength place.span z.long) one (a.says.fits place stands.is_place);
+        subst (λ (z : Container). Takes place z.long) one (a.says.fits place stands.is_place);
     apart = apart;
     once = once;
   }

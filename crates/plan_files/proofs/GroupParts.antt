@@ -7,7 +7,8 @@ use Rattle.edifact_segments.specs.declared.segments.Segment.{Segment}
 use Rattle.bookings.specs.declared.shipment.Booking.{Booking}
 use Rattle.baplie.specs.Groups.{cell_group, cell_in, class_from, class_in, facts_from, is_long, long_of_bay, name_of, text_in, weight_in}
 use Rattle.baplie.specs.Segments.{closes, element, is_container, is_cooled, is_one, names_port, opens}
-use Rattle.baplie.specs.Texts.{cell_of, long_of}
+use Rattle.stow_data.specs.Types.{length_of_type}
+use Rattle.baplie.specs.Texts.{cell_of}
 use Rattle.baplie.specs.declared.parts.CellGroup.{CellGroup}
 use Rattle.baplie.proofs.CellDigits.{cell-known}
 use Rattle.plan_files.specs.DepartureFile.{Group, group_segments, cell_group_of}
@@ -97,7 +98,7 @@ told g p = ap with_container (found-container number b.vgm g.kg b.temperature g.
     iso : name_of b.iso ≡ b.iso
     iso = named b.iso (not_long 10 b.iso (omega arith) p.typed)
 
-    long : unwrap_or (long_of b.iso) (long_of_bay (unwrap_or (cell_of (cell_text number)) (0, 0, 0)).0) ≡ b.long
+    long : unwrap_or (length_of_type b.iso) (long_of_bay (unwrap_or (cell_of (cell_text number)) (0, 0, 0)).0) ≡ b.long
     long = ap (λ o. unwrap_or o (long_of_bay (unwrap_or (cell_of (cell_text number)) (0, 0, 0)).0)) p.long
 
     empty : is_one (element (eqd g.cell.id b.iso b.empty) 6) (codes "4") ≡ b.empty

@@ -5,7 +5,8 @@ use Rattle.std.proofs.lemmas.Bool.Decides.{nat_tests}
 use Rattle.std.proofs.lemmas.Fmt.{digits_decimal}
 use Rattle.std.specs.Fmt.{decimal}
 use Rattle.std.specs.List.{list_all, position_or_len}
-use Rattle.baplie.specs.Texts.{is_digit, is_mark, number_of, read_at, at_most, weight_of}
+use Rattle.stow_data.specs.Digits.{is_digit}
+use Rattle.baplie.specs.Texts.{is_mark, number_of, read_at, at_most, weight_of}
 use Rattle.baplie.proofs.Counts.{both, numerals, number_of-decimal}
 
 -- digits have no decimal mark

@@ -14,7 +14,7 @@ use Rattle.baplie.specs.declared.causes.Cause.TheVariants.{NotBaplie, BadCell, N
 use Rattle.baplie.specs.Finding.{scan, group_causes, group_cause}
 use Rattle.baplie.specs.Groups.{cell_group, cell_in, facts_at, facts_from, lacks, long_of_bay, prior, shows}
 use Rattle.baplie.specs.Segments.{component, element, is_container, is_one, opens, same_text}
-use Rattle.baplie.specs.Texts.{long_of}
+use Rattle.stow_data.specs.Types.{length_of_type}
 use Rattle.baplie.proofs.CellDigits.{cell-known}
 use Rattle.baplie.proofs.Scans.{none≢some, scan-cons, scan-first}
 use Rattle.plan_files.specs.DepartureFile.{moved, moved_segment}
@@ -187,7 +187,7 @@ module _ (cell : ℕ × ℕ × ℕ) (number : IsNumber cell) (rest : List (List 
         reefer = (facts_at (first ∷ ss) s).reefer;
         class = (facts_at (first ∷ ss) s).class;
         dest = (facts_at (first ∷ ss) s).dest;
-      })) (same_long (long_of (component s 3 1)) (long_of_bay (cell_in (now ∷ ss)).0) (long_of_bay (cell_in (first ∷ ss)).0) (bay ∙ h))
+      })) (same_long (length_of_type (component s 3 1)) (long_of_bay (cell_in (now ∷ ss)).0) (long_of_bay (cell_in (first ∷ ss)).0) (bay ∙ h))
 
   same_told : IfSome (cell_group (first ∷ ss)).facts (λ f. long_of_bay cell.0 ≡ f.long) → cell_group (now ∷ ss) ≡ moved cell (cell_group (first ∷ ss))
   same_told h = λ i. record {

@@ -23,13 +23,12 @@ use Rattle.bookings.specs.declared.shipment.Booking.{Booking}
 use Rattle.bookings.specs.declared.shipment.Bookings.{Bookings}
 use Rattle.bookings.specs.BookedCargo as booked
 use Rattle.toml_values.specs.Values.{is_code}
-use Rattle.bookings.specs.Reading.{length_of}
 use Rattle.bookings.specs.Rules.{IsBooking, IsBookings}
 use Rattle.arrival_plan.specs.Settled.{told}
 use Rattle.baplie.specs.declared.parts.CellGroup.{CellGroup}
 use Rattle.baplie.specs.declared.parts.Facts.{Facts}
 use Rattle.baplie.specs.Groups.{cell_group, long_of_bay}
-use Rattle.baplie.specs.Texts.{long_of}
+use Rattle.stow_data.specs.Types.{length_of_type}
 use Rattle.baplie.specs.Whole.{IsWhole}
 use Rattle.plan_files.specs.DepartureFile.{AreArrived, no_booking, no_group, port_of, number_at, booked_group, cell_group_of, group_by, group_at, groups, message_of, moved, moved_segments}
 use Rattle.plan_files.proofs.Arrived.{few_arrived, long_by_bay, one_out, put_out, put_out_else, read_group, total, total_joined}
@@ -59,11 +58,6 @@ booked_head cargo bookings call same b h = record {
   next = port-is cargo bookings (call + 1) same b (omega arith);
   small = omega (arith, b.calls_to);
 }
-
--- the length by a type
-long-is : (t : List ℕ) (o : Option Length) → 0 < length t → length_of t ≡ o → long_of t ≡ o
-long-is [] o s e = absurd (omega arith)
-long-is (b ∷ bs) o s e = e
 
 -- the class of a booking
 class-is : (o : Option (List ℕ)) → IfSome o (λ c. IsTrue (is_class c)) → IfSome o (IsText 8)
@@ -102,7 +96,7 @@ booked_rules ship cargo bookings p index booking s b same h is =
       discharged = port-is cargo bookings booking.dest same b rules.in_rotation;
       loaded = port-is cargo bookings booking.load same b (omega (arith, rules.later, rules.in_rotation));
       typed = typed;
-      long = long-is booking.iso (Some booking.long) typed.some rules.long;
+      long = rules.long;
       kg = rules.kg_to;
       temperature_from = rules.temperature_from;
       temperature_to = rules.temperature_to;

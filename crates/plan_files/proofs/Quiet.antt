@@ -11,7 +11,7 @@ use Rattle.baplie.specs.declared.causes.Prior.{Prior}
 use Rattle.baplie.specs.Finding.{scan, group_causes, group_cause}
 use Rattle.baplie.specs.Groups.{is_long, lacks, prior, shows}
 use Rattle.baplie.specs.Segments.{is_container, is_danger, names_port}
-use Rattle.baplie.specs.Texts.{long_of}
+use Rattle.stow_data.specs.Types.{length_of_type}
 use Rattle.plan_files.specs.DepartureFile.{Group, group_segments}
 use Rattle.plan_files.specs.DepartureSegments.{loc, cell_segment, mea, tmp, temperature_segments, rff, eqd, dgs, goods_segments}
 use Rattle.baplie.proofs.Scans.{scan-cons}
@@ -28,7 +28,7 @@ pub record IsBookedGroup (g : Group) : Type 0 where
   pub discharged : IsText 35 g.cell.port
   pub loaded : IsText 35 g.load_port
   pub typed : IsText 10 g.booking.iso
-  pub long : long_of g.booking.iso ≡ Some g.booking.long
+  pub long : length_of_type g.booking.iso ≡ Some g.booking.long
   pub kg : g.kg ≤ 99999
   pub temperature_from : IfSome g.booking.temperature (λ t. negsuc 98 ≤ℤ t)
   pub temperature_to : IfSome g.booking.temperature (λ t. t ≤ℤ pos 99)
@@ -95,7 +95,7 @@ unfolding rff
 quiet-rff lacks container port danger NotBaplie = refl
 quiet-rff lacks container port danger c = refl
 
-quiet-eqd : (id iso : List ℕ) (long : Length) (empty : Bool) → 0 < length id → is_long id ≡ false → is_long iso ≡ false → long_of iso ≡ Some long → (lacks port danger : Bool) → Quiet (behind lacks false port danger) (eqd id iso empty)
+quiet-eqd : (id iso : List ℕ) (long : Length) (empty : Bool) → 0 < length id → is_long id ≡ false → is_long iso ≡ false → length_of_type iso ≡ Some long → (lacks port danger : Bool) → Quiet (behind lacks false port danger) (eqd id iso empty)
 unfolding eqd
 quiet-eqd [] iso long empty s i t l lacks port danger c = absurd (omega arith)
 quiet-eqd (b ∷ bs) [] long empty s i t l lacks port danger c = absurd (none≢some l)
@@ -158,7 +158,7 @@ quiet-goods group s before (Some class) unno h = (subst Q (sym later) (at group 
 
 -- no segment of the group is a fault
 quiet-parts : (bay row tier : ℕ) (vgm : Bool) (kg : ℕ) (t : Option ℤ) (load port id iso : List ℕ) (long : Length) (empty : Bool) (class : Option (List ℕ)) (unno : ℕ)
-    → bay < 1000 → row < 100 → tier < 100 → kg ≤ 99999 → 0 < length port → is_long port ≡ false → 0 < length id → is_long id ≡ false → is_long iso ≡ false → long_of iso ≡ Some long → IfSome class (IsText 8)
+    → bay < 1000 → row < 100 → tier < 100 → kg ≤ 99999 → 0 < length port → is_long port ≡ false → 0 < length id → is_long id ≡ false → is_long iso ≡ false → length_of_type iso ≡ Some long → IfSome class (IsText 8)
     → EachQuiet (parts (bay, row, tier) vgm kg t load port id iso empty class unno) [] (parts (bay, row, tier) vgm kg t load port id iso empty class unno)
 unfolding cell_segment mea tmp loc rff eqd
 quiet-parts bay row tier vgm kg None load port id iso long empty class unno b r x w s l a i f g h =

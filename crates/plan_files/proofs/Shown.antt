@@ -18,7 +18,8 @@ use Rattle.plan_files.specs.Shown.{CellGroup, IsAboardGroup, SharesHalf, Shows, 
 use Rattle.plan_files.proofs.Pairs.{InPairs, all_pairs, all_pairs_at}
 use Rattle.plan_files.specs.declared.file_faults.FileNo.TheVariants.{MissingContainer}
 use Rattle.plan_files.specs.declared.standing.Standing.{Standing}
-use Rattle.plan_files.specs.PlanOf.{first_missing, is_aboard, is_missing, nothing, plan_of, standing, unless_missing}
+use Rattle.stow_data.specs.Shipment.{is_aboard}
+use Rattle.plan_files.specs.PlanOf.{first_missing, is_missing, nothing, plan_of, standing, unless_missing}
 use Rattle.plan_files.proofs.Spots.{aboard_is, is_aboard_from}
 use Rattle.plan_files.proofs.SoFar.{AreApart, IsSaid, IsSoFar, all_told, so_far_first, so_far_groups}
 use Rattle.plan_files.proofs.Steps.{none_in}

@@ -8,7 +8,7 @@ use Rattle.std.proofs.lemmas.Option.{get_or_from_slice_get, slice_get-get_or, sl
 use Rattle.std.proofs.lemmas.Slice.Eq.{bytes_eq-Decides}
 use Rattle.stow_data.specs.declared.geometry.Place.{Place}
 use Rattle.stow_data.specs.declared.cargoes.Container.{Container}
-use Rattle.stow_data.specs.Ship.{Ship, HasLength, fits}
+use Rattle.stow_data.specs.Ship.{Ship, Takes, fits}
 use Rattle.stow_data.specs.Shipment.{Cargo, IsAboard, IsCargo}
 use Rattle.stow_data.specs.Profile.{IsShip}
 use Rattle.stow_data.specs.Plans.{place_at, container_at, no_container}
@@ -30,7 +30,8 @@ use Rattle.plan_files.specs.declared.file_faults.FileNo.TheVariants.{NoSuchCell,
 use Rattle.plan_files.specs.declared.standing.Spot.{Spot}
 use Rattle.plan_files.specs.declared.standing.Standing.{Standing}
 use Rattle.plan_files.specs.Ids.{HasId, number_of}
-use Rattle.plan_files.specs.PlanOf.{ensure, is_aboard, is_bound, spotted}
+use Rattle.stow_data.specs.Shipment.{is_aboard}
+use Rattle.plan_files.specs.PlanOf.{ensure, is_bound, spotted}
 use Rattle.plan_files.proofs.Tables.{number_is}
 
 -- what a group shows
@@ -89,7 +90,7 @@ is_free ship cargo call before i g f s shipped h =
         is_container = is_container cargo by.value low;
         same_id = sym (ap (λ (x : Container). x.id) same ∙ id.same_id);
         cell = has_number ship cell at.value (wanted (place_of ship cell) (NoSuchCell (i + 1)) at.value at.is);
-        fits = λ place is_place. subst (λ (z : Place). HasLength z.span c.long) (place_is ship at.value place is_place) (fits_said (place_at ship at.value) c.long false fit.0).length_fits;
+        fits = λ place is_place. subst (λ (z : Place). Takes z c.long) (place_is ship at.value place is_place) (fits_said (place_at ship at.value) c.long false fit.0).length_fits;
         discharge = has_port cargo by.value c shipped (is_container cargo by.value low) ∙ ap (λ (port : List ℕ). Some port) (sym ((bytes_eq-Decides f.dest (port_of cargo c.dest)).0 port.0));
       };
       aboard = aboard_is call c aboard.0;
@@ -109,7 +110,7 @@ spotted_from ship cargo call before i g f s rules shipped h =
     let same : container_at cargo s.container ≡ x = container_is cargo s.container x h.says.is_container in
     let place = h.says.cell.place in
     let is_place = h.says.cell.is_place in
-    let length_fits : HasLength (place_at ship s.place).span x.long = subst (λ (z : Place). HasLength z.span x.long) (sym (place_is ship s.place place is_place)) (h.says.fits place is_place) in
+    let length_fits : Takes (place_at ship s.place) x.long = subst (λ (z : Place). Takes z x.long) (sym (place_is ship s.place place is_place)) (h.says.fits place is_place) in
     let fit : fits (place_at ship s.place) (container_at cargo s.container).long false ≡ true =
     ap (λ (c : Container). fits (place_at ship s.place) c.long false) same ∙ fits_shown (place_at ship s.place) x.long false (record { length_fits = length_fits; has_plug = λ e. absurd (both_ways false refl e) }) in
     let port : port_of cargo x.dest ≡ f.dest = get_or_from_slice_get cargo.rotation (x.dest - 1) f.dest [] h.says.discharge in

@@ -9,10 +9,9 @@ use Rattle.std.specs.List.{list_all}
 use Rattle.std.specs.Prelude.{nat_le}
 use Rattle.edifact_segments.specs.Characters.{is_control}
 use Rattle.edifact_segments.specs.ReadBack.{IsPrintable}
-use Rattle.baplie.specs.Texts as texts
 use Rattle.stow_data.specs.Profile.{is_class_byte, is_class, is_name_byte, is_name}
-use Rattle.toml_values.specs.Values.{is_code_byte, is_digit, is_code, is_digits}
-use Rattle.baplie.specs.Texts.{digit}
+use Rattle.toml_values.specs.Values.{is_code_byte, is_code, is_digits}
+use Rattle.stow_data.specs.Digits.{digit, is_digit}
 use Rattle.plan_files.specs.DepartureSegments.{cell_text}
 use Rattle.baplie.proofs.Counts.{both, numerals}
 
@@ -46,7 +45,7 @@ pub closed : (t : List ℕ) → list_all (λ b. not (is_control b)) t ≡ true �
 closed t h = calm_by (λ b. not (is_control b)) calm_byte t h
 
 pub printable_decimal : (n : ℕ) → n < 2 ^ 64 → IsPrintable (decimal n)
-printable_decimal n h = calm_by texts.is_digit calm_digit (decimal n) (digits_decimal numerals n h)
+printable_decimal n h = calm_by is_digit calm_digit (decimal n) (digits_decimal numerals n h)
 
 -- a temperature
 pub printable_signed : (z : ℤ) → negsuc 98 ≤ℤ z → z ≤ℤ pos 99 → IsPrintable (signed_decimal z)

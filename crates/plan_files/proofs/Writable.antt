@@ -8,7 +8,7 @@ use Rattle.edifact_segments.specs.ReadBack.{IsPrintable, IsWritable}
 use Rattle.edifact_segments.proofs.CanonicalLemmas.{push_full}
 use Rattle.bookings.specs.declared.shipment.Bookings.{Bookings}
 use Rattle.edifact_segments.specs.declared.segments.Segment.{Segment}
-use Rattle.baplie.specs.Texts.{digit}
+use Rattle.stow_data.specs.Digits.{digit}
 use Rattle.plan_files.specs.DepartureSegments.{one, port_element, segment, unb, unh, bgm, dtm, tdt, loc, cell_segment, weight_code, mea, tmp, temperature_segments, rff, fullness, eqd, dgs, goods_segments}
 use Rattle.baplie.proofs.Counts.{some_digits}
 use Rattle.plan_files.proofs.Texts.{IsText, IsDate, closed, printable_decimal, printable_signed, printable-take, printable-drop, printable_cell, printable_number}

@@ -2,7 +2,8 @@
 use Rattle.std.specs.Prelude.{ℕ, ℤ, ◌/◌, ◌==◌, Bool, if◌then◌else◌, codes, List, [], ◌∷◌, ◌++◌, take, drop, Option, Some, None}
 use Rattle.std.specs.Fmt.{decimal, signed_decimal}
 use Rattle.edifact_segments.specs.declared.segments.Segment.{Segment}
-use Rattle.baplie.specs.Texts.{digit, cell_digits}
+use Rattle.stow_data.specs.Digits.{digit}
+use Rattle.baplie.specs.Texts.{cell_digits}
 use Rattle.bookings.specs.declared.shipment.Bookings.{Bookings}
 
 abbrev pub segment : List ℕ → List (List (List ℕ)) → Segment

@@ -3,7 +3,7 @@ use Rattle.std.specs.Prelude.{ℕ, ◌+◌, Bool, true, false, not, ◌&&◌, Li
 use Rattle.std.specs.Str.{bytes_eq}
 use Rattle.stow_data.specs.declared.cargoes.Container.{Container}
 use Rattle.stow_data.specs.Ship.{Ship, places, fits}
-use Rattle.stow_data.specs.Shipment.{Cargo}
+use Rattle.stow_data.specs.Shipment.{Cargo, is_aboard}
 use Rattle.stow_data.specs.Plans.{Plan, place_at, container_at, container_numbers}
 use Rattle.toml_values.specs.Values.{◌>>=◌}
 use Rattle.baplie.specs.declared.parts.CellGroup.{CellGroup}
@@ -23,10 +23,6 @@ ensure so fault = if so then Ok tt else Err fault
 -- the port is that at which the container leaves
 abbrev pub is_bound : Cargo → Container → List ℕ → Bool
 is_bound cargo c port = bytes_eq port (port_of cargo c.dest)
-
--- the container is aboard after the call
-abbrev pub is_aboard : ℕ → Container → Bool
-is_aboard call c = nat_le c.load call && nat_lt call c.dest
 
 -- the container that a group tells of, and its place
 unfoldable pub spotted : Ship → Cargo → ℕ → Standing → ℕ → CellGroup → Facts → Result Spot FileNo

@@ -6,7 +6,7 @@ use Rattle.baplie.specs.declared.parts.Message.{Message}
 use Rattle.stow_data.specs.declared.geometry.Half.{Half}
 use Rattle.stow_data.specs.declared.geometry.Place.{Place}
 use Rattle.stow_data.specs.declared.cargoes.Container.{Container}
-use Rattle.stow_data.specs.Ship.{Ship, places, HasHalf, HasLength, HasNumber}
+use Rattle.stow_data.specs.Ship.{Ship, places, HasHalf, HasNumber, Takes}
 use Rattle.stow_data.specs.Shipment.{Cargo, IsAboard}
 use Rattle.stow_data.specs.Plans.{Plan}
 use Rattle.stowage_rules.specs.Plan.{Holds}
@@ -44,7 +44,7 @@ pub record Says (ship : Ship) (cargo : Cargo) (g : CellGroup) (p c : ℕ) : Type
   pub is_container : slice_get cargo.containers c ≡ Some container
   pub same_id : g.id ≡ container.id
   pub cell : HasNumber ship p (g.bay, g.row, g.tier)
-  pub fits : (place : Place) → slice_get (places ship) p ≡ Some place → HasLength place.span container.long
+  pub fits : (place : Place) → slice_get (places ship) p ≡ Some place → Takes place container.long
   pub discharge : slice_get cargo.rotation (container.dest - 1) ≡ Some g.port
 
 -- one of the groups says so

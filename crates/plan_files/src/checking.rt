@@ -9,7 +9,7 @@ use crate::file_faults::FileNo;
 use crate::plan_faults::PlanNo;
 use crate::reading::plan_of_message;
 use crate::shown_law::told_is_shown;
-use baplie::Message;
+use baplie::{Message, MessageList};
 use plan_lifts::{LiftsFault, lifts};
 use std::alloc::Global;
 use stow_data::{CallNo, Cargo, Plan, PlanList, Ship};
@@ -77,9 +77,8 @@ fn counted(alloc: Global, ship: &Ship, cargo: &Cargo, plans: &PlanList) -> Resul
     }
 }
 
-/// The rehandles of the departures that the files show, of which the first is that of call 1. Else the first file that
-/// shows no plan, and where all show one, the first departure that breaks a rule.
-pub fn check_plan(
+/// The rehandles of the departures that messages show, or the first part that doesn't hold.
+fn count_messages(
     alloc: Global,
     ship: &Ship,
     cargo: &Cargo,
@@ -95,4 +94,21 @@ pub fn check_plan(
     cargo.obeys_rules();
     let plans = shown_plans(alloc, ship, cargo, messages)?;
     counted(alloc, ship, cargo, &plans)
+}
+
+/// The rehandles of the departures that the files show, of which the first is that of call 1. Else the first file that
+/// shows no plan, and where all show one, the first departure that breaks a rule.
+pub fn check_plan(
+    alloc: Global,
+    ship: &Ship,
+    cargo: &Cargo,
+    messages: &MessageList,
+) -> Result<u64, PlanNo>
+    requires arrival { HasArrival ship.now cargo.now }
+    requires each_call { length messages.now + 1 ≡ length cargo.now.rotation }
+    requires few { All (λ m. length m.groups ≤ 2 ^ 29) messages.now }
+    ensures counted { IfOk result (λ count. HasRehandles ship.now cargo.now (map shown_by messages.now) count) }
+    ensures refused { IfErr result (λ e. IsPlanNo ship.now cargo.now messages.now e) }
+{
+    count_messages(alloc, ship, cargo, messages.as_slice())
 }

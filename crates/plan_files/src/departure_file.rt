@@ -37,12 +37,12 @@ pub fn departure_text(
 {
     ship.obeys_rules();
     cargo.obeys_rules();
-    let message = departure_message(alloc, ship, cargo, bookings, arrived, plan, call)?;
+    let message = message_of(alloc, ship, cargo, bookings, arrived, plan, call)?;
     write_baplie(alloc, &message)
 }
 
 /// The message of the departure of a call. Each container is one of the bookings, or of these groups.
-pub fn departure_message(
+pub fn message_of(
     alloc: Global,
     ship: &Ship,
     cargo: &Cargo,

@@ -2,12 +2,12 @@
 ghost use Rattle.std.specs.Prelude.{◌≡◌, ◌++◌, ◌∷◌, [], IfOk, OnOk, drop, length, map, take};
 ghost use Rattle.plan_files.specs.DepartureSegments.{parties, unb, unh, bgm, dtm, tdt, loc, cell_segment, weight_code, mea, tmp, temperature_segments, rff, fullness, eqd, dgs, goods_segments};
 
-use baplie::{cell_text, digit};
+use baplie::cell_text;
 use bookings::Bookings;
 use edifact_segments::{ElementBuffer, Segment, SegmentList};
 use itoa::Buffer;
 use std::alloc::Global;
-use stow_data::{Name, NoMemory};
+use stow_data::{Name, NoMemory, digit};
 
 /// Appends an element of these components.
 pub fn compose(elements: &mut ElementBuffer, components: &[&[u8]]) -> Result<(), NoMemory>

@@ -1,10 +1,11 @@
 //! What the cell groups of a departure file tell, group after group.
 ghost use Rattle.std.specs.Prelude.{◌≡◌, ◌≢◌, ◌<◌, ◌^◌, Ok, Err, IfErr, IfOk, OnOk, false, length, slice_index_or};
 ghost use Rattle.stow_data.specs.Ship.{fits, places};
+ghost use Rattle.stow_data.specs.Shipment.{is_aboard};
 ghost use Rattle.stow_data.specs.Plans.{container_at, place_at};
 ghost use Rattle.plan_files.specs.declared.file_faults.FileNo.TheVariants.{NoMemory as WantOfMemory};
 ghost use Rattle.plan_files.specs.Ids.{IsIdTable};
-ghost use Rattle.plan_files.specs.PlanOf.{is_aboard, is_bound, spotted, with_facts};
+ghost use Rattle.plan_files.specs.PlanOf.{is_bound, spotted, with_facts};
 
 use crate::cell_groups::port_of;
 use crate::file_faults::FileNo;
@@ -29,8 +30,7 @@ pub fn is_aboard(cargo: &Cargo, c: ContainerNo, call: CallNo) -> bool
     requires { c < length cargo.now.containers }
     ensures { result ≡ is_aboard call (container_at cargo.now c) }
 {
-    let container = cargo.container(c);
-    container.load <= call && call < container.dest
+    cargo.container(c).is_aboard(call)
 }
 
 /// Whether a container stands somewhere already.

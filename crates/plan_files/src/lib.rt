@@ -19,7 +19,7 @@ mod standing;
 
 pub use cell_groups::port_of;
 pub use checking::check_plan;
-pub use departure_file::{departure_message, departure_text};
+pub use departure_file::{departure_text, message_of};
 pub use file_faults::FileNo;
 pub use laws::departure_reads;
 pub use legal_law::legal_is_checked;

@@ -14,8 +14,9 @@ use Rattle.voyage_files.specs.declared.answer.Answer.{Answer}
 use Rattle.voyage_files.specs.declared.answer.Answer.TheVariants as answer
 use Rattle.voyage_files.specs.declared.voyage.BookedVoyage.{BookedVoyage}
 use Rattle.stow_cli.specs.Answers.{IsAnswerTo, PlanWithin}
-use Rattle.stow_cli.specs.Made.{behind, made_files, made_names, only_made}
+use Rattle.stow_cli.specs.Made.{behind, made_files, made_inputs}
 use Rattle.stow_cli.specs.Voyages.{Overflows}
+use Rattle.stow_cli.proofs.MadeInputs.{made_are_inputs, made_is_within}
 use Rattle.stow_cli.proofs.Searched.{list_is_fine, made_searched, searched, yes_is_fine}
 use Rattle.stow_cli.specs.declared.status.Status.{Status}
 use Rattle.stow_cli.specs.declared.status.Status.TheVariants as status
@@ -62,23 +63,44 @@ ends_search order v budget status.Fault before now h run quiet = quiet refl
 plan_searches : (profile bookings base : List ℕ) (arrival : Option (List ℕ)) (workers budget : ℕ) (files : Files) (v : BookedVoyage) → AreGood (names_from profile bookings base arrival) (Some files) v → AnswersSearch (Plan profile bookings base arrival workers budget) (Some files) v budget
 plan_searches profile bookings base arrival workers budget files v good a h = of_within budget base v a (searched (names_from profile bookings base arrival) files budget v a good.inputs_are good.within h)
 
-make_searches : (number : ℕ) (base : List ℕ) (files : Option Files) (v : BookedVoyage) → AreGood (made_names base) (only_made number base) v → AnswersSearch (Make number base) files v 50
-make_searches number base files v good a h =
-    let within = made_searched number base v h.planned good.inputs_are good.within h.plans in
+make_searches : (number : ℕ) (base : List ℕ) (files : Option Files) → AnswersSearch (Make number base) files (made_inputs number) 50
+make_searches number base files a h =
+    let v = made_inputs number in
+    let within = made_searched number base v h.planned (made_are_inputs number base) (made_is_within number) h.plans in
     subst (IsSearched v 50) (sym h.answer_is) (of_behind 50 v (made_files number base) h.planned (of_within 50 base v h.planned within))
+
+fault_or_not : (s : Status) → (s ≡ status.Fault) ⊎ (s ≡ status.Fault → ⊥)
+fault_or_not status.Fault = inl refl
+fault_or_not status.Fine = inr (λ e. cc)
+fault_or_not status.No = inr (λ e. cc)
+fault_or_not status.Words = inr (λ e. cc)
+fault_or_not status.Gap = inr (λ e. cc)
+fault_or_not status.NoPlan = inr (λ e. cc)
+fault_or_not status.Undecided = inr (λ e. cc)
+fault_or_not status.Input = inr (λ e. cc)
+fault_or_not status.Memory = inr (λ e. cc)
+fault_or_not status.Large = inr (λ e. cc)
+
+-- `make` ends as a search, whether a count of faults rose or not, or with the status of a fault
+make_ends : (number : ℕ) (base : List ℕ) (s : Status) (before now : Outside) → Follows (Make number base) s before now → (s ≡ status.Fault) ⊎ EndsSearch (made_inputs number) 50 s before now
+make_ends number base s before now run =
+    elim (fault_or_not s) [
+      | inl fault ↦ inl fault
+      | inr none ↦ inr (ends_search (Make number base) (made_inputs number) 50 s before now (make_searches number base before.files) run none)
+    ]
 
 -- ## `check` and `show`
 
-fine_alike : (order : Order) (s : Status) (work : Work) → work.finding ≡ finding.Fine → (e : EndsAlike order s (answer.Work work)) → e.answer ≡ answer.Work work → s ≡ status.Fine
-fine_alike order s work fine e same = e.status_is ∙ ap status_of same ∙ ap found_status fine
+fine_alike : (order : Order) (files : Option Files) (s : Status) (work : Work) → work.finding ≡ finding.Fine → (e : EndsAlike order files s (answer.Work work)) → e.answer ≡ answer.Work work → s ≡ status.Fine
+fine_alike order files s work fine e same = e.status_is ∙ ap status_of same ∙ ap found_status fine
 
-fine_check : (profile bookings base : List ℕ) (arrival : Option (List ℕ)) (s : Status) (files : Files) (work : Work) → IsAnswerTo (Check profile bookings base arrival) (Some files) (answer.Work work) → EndsAlike (Check profile bookings base arrival) s (answer.Work work) ⊎ (s ≡ status.Memory) → IsFine s
-fine_check profile bookings base arrival s files work h (inr m) = inr m
-fine_check profile bookings base arrival s files work h (inl e) = inl (fine_alike (Check profile bookings base arrival) s work (yes_is_fine profile bookings base arrival (Some files) work h) e e.agrees)
+fine_check : (profile bookings base : List ℕ) (arrival : Option (List ℕ)) (s : Status) (before : Option Files) (files : Files) (work : Work) → IsAnswerTo (Check profile bookings base arrival) (Some files) (answer.Work work) → EndsAlike (Check profile bookings base arrival) before s (answer.Work work) ⊎ (s ≡ status.Memory) → IsFine s
+fine_check profile bookings base arrival s before files work h (inr m) = inr m
+fine_check profile bookings base arrival s before files work h (inl e) = inl (fine_alike (Check profile bookings base arrival) before s work (yes_is_fine profile bookings base arrival (Some files) work h) e e.agrees)
 
-fine_show : (file : List ℕ) (s : Status) (files : Files) (work : Work) → IsAnswerTo (Show file) (Some files) (answer.Work work) → EndsAlike (Show file) s (answer.Work work) ⊎ (s ≡ status.Memory) → IsFine s
-fine_show file s files work h (inr m) = inr m
-fine_show file s files work h (inl e) = inl (fine_alike (Show file) s work (list_is_fine file (Some files) work h) e e.agrees)
+fine_show : (file : List ℕ) (s : Status) (before : Option Files) (files : Files) (work : Work) → IsAnswerTo (Show file) (Some files) (answer.Work work) → EndsAlike (Show file) before s (answer.Work work) ⊎ (s ≡ status.Memory) → IsFine s
+fine_show file s before files work h (inr m) = inr m
+fine_show file s before files work h (inl e) = inl (fine_alike (Show file) before s work (list_is_fine file (Some files) work h) e e.agrees)
 
 -- ## All orders
 
@@ -90,14 +112,17 @@ ends_order (Plan profile bookings base arrival workers budget) s before now run 
     let order = Plan profile bookings base arrival workers budget in
     let answers = subst (λ (fs : Option Files). AnswersSearch order fs v budget) (sym told) (plan_searches profile bookings base arrival workers budget files v good) in
     ends_search order v budget s before now answers run (not_fault s before now fault quiet)
-ends_order (Make number base) s before now run exact fault quiet = λ v good. ends_search (Make number base) v 50 s before now (make_searches number base before.files v good) run (not_fault s before now fault quiet)
+ends_order (Make number base) s before now run exact fault quiet = ends_search (Make number base) (made_inputs number) 50 s before now (make_searches number base before.files) run (not_fault s before now fault quiet)
 ends_order (Check profile bookings base arrival) s before now run exact fault quiet = λ files work told h.
     let answered = subst (λ (fs : Option Files). IsAnswerTo (Check profile bookings base arrival) fs (answer.Work work)) (sym told) h in
-    fine_check profile bookings base arrival s files work h (exact files (answer.Work work) told quiet answered)
+    fine_check profile bookings base arrival s before.files files work h (exact files (answer.Work work) told quiet answered)
 ends_order (Show file) s before now run exact fault quiet = λ files work told h.
     let answered = subst (λ (fs : Option Files). IsAnswerTo (Show file) fs (answer.Work work)) (sym told) h in
-    fine_show file s files work h (exact files (answer.Work work) told quiet answered)
+    fine_show file s before.files files work h (exact files (answer.Work work) told quiet answered)
 
 pub complete : (wanted : Result Order WordsNo) (s : Status) (before now : Outside) → IsRun wanted s before now → IsExact wanted s before now → (s ≡ status.Fault → HasRisen before now) → IsComplete wanted s before now
 complete (Err why) s before now run exact fault = tt
-complete (Ok order) s before now run exact fault = ends_order order s before now run exact fault
+complete (Ok (Make number base)) s before now run exact fault = make_ends number base s before now run
+complete (Ok (Plan profile bookings base arrival workers budget)) s before now run exact fault = ends_order (Plan profile bookings base arrival workers budget) s before now run exact fault
+complete (Ok (Check profile bookings base arrival)) s before now run exact fault = ends_order (Check profile bookings base arrival) s before now run exact fault
+complete (Ok (Show file)) s before now run exact fault = ends_order (Show file) s before now run exact fault

@@ -10,20 +10,23 @@ use Rattle.stow_io.specs.declared.files.Finding.TheVariants as finding
 use Rattle.voyage_files.specs.declared.answer.Answer.{Answer}
 use Rattle.voyage_files.specs.declared.answer.Answer.TheVariants as answer
 use Rattle.stow_cli.specs.Answers.{IsAnswerTo}
+use Rattle.stow_cli.specs.Law.{Agree}
 use Rattle.stow_cli.proofs.Agreement.{answers_agree}
 use Rattle.stow_cli.specs.declared.status.Status.{Status}
 use Rattle.stow_cli.specs.declared.status.Status.TheVariants as status
 use Rattle.stow_cli.specs.Ends.{IsDone, Follows, Refuses, IsRun, IsExact, EndsAlike, found_status, status_of}
 
 -- an answer to the order, over files that are told, agrees with each other one
-alike : (order : Order) (all : Option Files) (files : Files) (a b : Answer) (s : Status) → all ≡ Some files → IsAnswerTo order all a → IsAnswerTo order all b → s ≡ status_of a → EndsAlike order s b
-alike order all files a b s told h k is = record {
-  answer = a;
-  status_is = is;
-  agrees = answers_agree order files a b (subst (λ (m : Option Files). IsAnswerTo order m a) told h) (subst (λ (m : Option Files). IsAnswerTo order m b) told k);
-}
+alike : (order : Order) (all : Option Files) (files : Files) (a b : Answer) (s : Status) → all ≡ Some files → IsAnswerTo order all a → IsAnswerTo order all b → s ≡ status_of a → EndsAlike order all s b
+alike order all files a b s told h k is =
+    let agree = answers_agree order files a b (subst (λ (m : Option Files). IsAnswerTo order m a) told h) (subst (λ (m : Option Files). IsAnswerTo order m b) told k) in
+    record {
+      answer = a;
+      status_is = is;
+      agrees = subst (λ (m : Option Files). Agree order m a b) (sym told) agree;
+    }
 
-done_alike : (order : Order) (s : Status) (before now : Outside) (files : Files) (a : Answer) (d : IsDone order s before now) (f : Finding) → d.work.finding ≡ f → s ≡ found_status f → before.files ≡ Some files → IsAnswerTo order before.files a → EndsAlike order s a
+done_alike : (order : Order) (s : Status) (before now : Outside) (files : Files) (a : Answer) (d : IsDone order s before now) (f : Finding) → d.work.finding ≡ f → s ≡ found_status f → before.files ≡ Some files → IsAnswerTo order before.files a → EndsAlike order before.files s a
 done_alike order s before now files a d f found is told h = alike order before.files files (answer.Work d.work) a s told d.answered h (is ∙ ap found_status (sym found))
 
 exact_order : (order : Order) (s : Status) (before now : Outside) → Follows order s before now → (s ≡ status.Fault → HasRisen before now) → IsExact (Ok order) s before now

@@ -4,8 +4,10 @@ pub mod Works
 pub mod WrittenFiles
 pub mod OneCheck
 pub mod OneAnswer
+pub mod Limits
 pub mod Agreement
 pub mod Searched
+pub mod MadeInputs
 pub mod Exact
 pub mod Complete
 pub mod Obeying

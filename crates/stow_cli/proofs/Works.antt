@@ -1,6 +1,7 @@
 -- The files of a voyage, made one after the other.
 use Rattle.std.proofs.Common.{◌≡◌, ℕ, zero, suc, ◌+◌, ◌<◌, ◌≤◌, List, [], ◌∷◌, ◌++◌, length, get_or, drop, refl, sym, subst, ◌∙◌, ap, arith, append_assoc, Option, Some, None}
 use Rattle.std.specs.Prelude.{All, Result, Ok, Err, IfOk}
+use Rattle.std.proofs.Math.Nat.{lt_of_lt_of_le}
 use Rattle.std.proofs.lemmas.List.{append-nil, drop_all, drop_more}
 use Rattle.stow_data.specs.Ship.{Ship}
 use Rattle.stow_data.specs.Shipment.{Cargo}
@@ -88,7 +89,7 @@ sails_from base v budget p b certified plans short = record {
 
 pub answers_from : (base : List ℕ) (v : BookedVoyage) (budget : ℕ) (p : Planned) (a : Answer) → IsBooked v → Certifies (voyage_of v) budget p.head p.tree → HasPlans (voyage_of v) p.head.rehandles p.plans → AreTextsOf base v p a → PlanWithin budget base v a
 answers_from base v budget p (answer.Work work) b certified plans h = subst (Sails base v budget) (sym h.1) (sails_from base v budget p b certified plans h.0)
-answers_from base v budget p (answer.Large line) b certified plans h = record { head = p.head; tree = p.tree; certified = certified; overlong = h }
+answers_from base v budget p (answer.Large line) b certified plans h = record { head = p.head; tree = p.tree; certified = certified; overlong = h; possible = lt_of_lt_of_le h.long certified.short }
 answers_from base v budget p (answer.No line) b certified plans h = h
 answers_from base v budget p (answer.Input line) b certified plans h = h
 

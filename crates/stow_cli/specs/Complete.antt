@@ -13,7 +13,7 @@ use Rattle.voyage_files.specs.Inputs.{AreInputs}
 use Rattle.voyage_files.specs.declared.answer.Answer.TheVariants as answer
 use Rattle.voyage_files.specs.declared.voyage.BookedVoyage.{BookedVoyage}
 use Rattle.stow_cli.specs.Answers.{IsAnswerTo}
-use Rattle.stow_cli.specs.Made.{made_names, only_made}
+use Rattle.stow_cli.specs.Made.{made_inputs}
 use Rattle.stow_cli.specs.Voyages.{Overflows, voyage_of}
 use Rattle.stow_cli.specs.declared.status.Status.{Status}
 use Rattle.stow_cli.specs.declared.status.Status.TheVariants as status
@@ -37,14 +37,15 @@ EndsSearch v budget _ before now = ⊥
 abbrev pub IsFine : Status → Type 0
 IsFine s = (s ≡ status.Fine) ⊎ (s ≡ status.Memory)
 
--- Good inputs of `plan` are searched, and so are those that `make` makes, whatever the folder tells. Files that `check` has a yes for have that, and a bay plan is listed
+-- Good inputs of `plan` are searched, and so is the voyage of a made ship, whatever its number. Files that `check` has a yes for have that, and a bay plan is listed
 abbrev pub EndsOrder : Order → Status → Outside → Outside → Type 0
 EndsOrder (Plan profile bookings base arrival workers budget) s before now = (files : Files) (v : BookedVoyage) → before.files ≡ Some files → AreGood (names_from profile bookings base arrival) (Some files) v → EndsSearch v budget s before now
-EndsOrder (Make number base) s before now = (v : BookedVoyage) → AreGood (made_names base) (only_made number base) v → EndsSearch v 50 s before now
+EndsOrder (Make number base) s before now = EndsSearch (made_inputs number) 50 s before now
 EndsOrder (Check profile bookings base arrival) s before now = (files : Files) (work : Work) → before.files ≡ Some files → IsAnswerTo (Check profile bookings base arrival) (Some files) (answer.Work work) → IsFine s
 EndsOrder (Show file) s before now = (files : Files) (work : Work) → before.files ≡ Some files → IsAnswerTo (Show file) (Some files) (answer.Work work) → IsFine s
 
--- where neither count of faults rose, an order ends so
+-- An order ends so where neither count of faults rose. `make` is never refused: where one rose it ends so too, or with the status of a fault
 abbrev pub IsComplete : Result Order WordsNo → Status → Outside → Outside → Type 0
 IsComplete (Err why) s before now = Unit {0}
+IsComplete (Ok (Make number base)) s before now = (s ≡ status.Fault) ⊎ EndsOrder (Make number base) s before now
 IsComplete (Ok order) s before now = (HasRisen before now → ⊥) → EndsOrder order s before now

@@ -58,6 +58,15 @@ pub record IsUnread (order : Order) (before now : Outside) : Type 0 where
 abbrev pub OnlyPrints : List ℕ → Outside → Outside → Type 0
 OnlyPrints line before now = (now.files ≡ before.files) × Prints line before now
 
+-- the status of a report, or of a refused check, which is printed whole; another status may stand although its line was cut
+abbrev pub IsReported : Status → Type 0
+IsReported status.Fine = Unit {0}
+IsReported status.No = Unit {0}
+IsReported status.Gap = Unit {0}
+IsReported status.NoPlan = Unit {0}
+IsReported status.Undecided = Unit {0}
+IsReported _ = ⊥
+
 -- how a run with this order may end: the status, and what is outside before it and after it
 abbrev pub Follows : Order → Status → Outside → Outside → Type 0
 Follows order status.Fine before now = IsDone order status.Fine before now
@@ -110,12 +119,12 @@ status_of (answer.Input line) = status.Input
 status_of (answer.Large line) = status.Large
 
 -- the status of an answer to the order that agrees with this one
-pub record EndsAlike (order : Order) (s : Status) (a : Answer) : Type 0 where
+pub record EndsAlike (order : Order) (files : Option Files) (s : Status) (a : Answer) : Type 0 where
   pub answer : Answer
   pub status_is : s ≡ status_of answer
-  pub agrees : Agree order answer a
+  pub agrees : Agree order files answer a
 
 -- Words that are refused end with the status of words. Where the folder tells its files and neither count rose, an order ends with the status of its one answer; the order of a plan with that of an answer to which a search can come, where the one given is such. Either may end with want of memory
 abbrev pub IsExact : Result Order WordsNo → Status → Outside → Outside → Type 0
 IsExact (Err why) s before now = (s ≡ status.Words) ⊎ (s ≡ status.Memory)
-IsExact (Ok order) s before now = (files : Files) (a : Answer) → before.files ≡ Some files → (HasRisen before now → ⊥) → IsAnswerTo order before.files a → EndsAlike order s a ⊎ (s ≡ status.Memory)
+IsExact (Ok order) s before now = (files : Files) (a : Answer) → before.files ≡ Some files → (HasRisen before now → ⊥) → IsAnswerTo order before.files a → EndsAlike order before.files s a ⊎ (s ≡ status.Memory)

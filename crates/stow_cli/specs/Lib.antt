@@ -9,3 +9,4 @@ pub mod Ends
 pub mod Complete
 pub mod Taken
 pub mod Obeyed
+pub mod Program

@@ -8,6 +8,10 @@ use Rattle.stow_io.specs.declared.files.NamedFile.{NamedFile}
 use Rattle.voyage_files.specs.Names.{Names, names_from}
 use Rattle.voyage_files.specs.declared.answer.Answer.{Answer}
 use Rattle.voyage_files.specs.declared.answer.Answer.TheVariants as answer
+use Rattle.voyage_files.specs.declared.voyage.BookedVoyage.{BookedVoyage}
+use Rattle.made_texts.specs.MadeShip.{made_ship}
+use Rattle.made_texts.specs.MadeBookings.{made_bookings}
+use Rattle.made_texts.specs.MadeVoyage.{made_cargo}
 
 -- the names of a made profile and of made bookings
 abbrev pub profile_name : List ℕ → List ℕ
@@ -23,6 +27,10 @@ made_files number base = record { name = profile_name base; bytes = profile_text
 -- they are the inputs; the ship comes in empty
 abbrev pub made_names : List ℕ → Names
 made_names base = names_from (profile_name base) (bookings_name base) base None
+
+-- what they are read as: the made ship, its bookings and the cargo that these make
+abbrev pub made_inputs : ℕ → BookedVoyage
+made_inputs number = record { ship = made_ship; bookings = made_bookings number; message = None; cargo = made_cargo number }
 
 -- a folder that holds nothing
 abbrev pub no_files : Option Files

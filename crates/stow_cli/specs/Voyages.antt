@@ -1,5 +1,5 @@
 -- What the files of a plan mean: the departures of a legal voyage, their rehandle count, and the certificate of a bound.
-use Rattle.std.specs.Prelude.{◌≡◌, ℕ, List, [], ◌∷◌, ◌++◌, map, Option, Some, None}
+use Rattle.std.specs.Prelude.{◌≡◌, ◌<◌, ◌+◌, ◌*◌, ℕ, length, List, [], ◌∷◌, ◌++◌, map, Option, Some, None}
 use Rattle.stow_data.specs.Plans.{Plan}
 use Rattle.plan_files.specs.Shown.{IsLegalFileSet, shown_by}
 use Rattle.baplie.specs.declared.parts.Message.{Message}
@@ -8,7 +8,7 @@ use Rattle.stow_io.specs.declared.files.NamedFile.{NamedFile}
 use Rattle.stow_io.specs.declared.files.Work.{Work}
 use Rattle.stow_report.specs.Reports.{report_text}
 use Rattle.voyage_meaning.specs.Voyage.{HasCount}
-use Rattle.zero_one_rows.specs.Variables.{Voyage}
+use Rattle.zero_one_rows.specs.Variables.{Voyage, variables}
 use Rattle.certificate.specs.declared.tree.Head.{Head}
 use Rattle.certificate.specs.declared.tree.Record.{Record}
 use Rattle.plan_search.specs.Certified.{Certifies}
@@ -52,9 +52,10 @@ pub record Sails (base : List ℕ) (v : BookedVoyage) (budget : ℕ) (work : Wor
   pub report : work.report ≡ report_text head
   pub finding : work.finding ≡ finding_of head.outcome
 
--- The certificate's text is longer than its limit, and the line says how long it is; nothing is written.
+-- The certificate's text is longer than its limit, and the line says how long it is; nothing is written. That never comes where the budget and the variables of the program leave no room for so long a text.
 pub record Overflows (v : BookedVoyage) (budget : ℕ) (line : List ℕ) : Type 0 where
   pub head : Head
   pub tree : List Record
   pub certified : Certifies (voyage_of v) budget head tree
   pub overlong : IsOverlong head tree line
+  pub possible : 536870912 < budget * (length (variables (voyage_of v)) + 70) * 80 + 400000

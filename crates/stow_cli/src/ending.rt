@@ -3,7 +3,7 @@ ghost use Rattle.std.specs.Prelude.{◌≡◌, ◌≤◌};
 ghost use Rattle.stow_io.specs.Causes.{Rose};
 ghost use Rattle.stow_io.specs.Ends.{Says};
 ghost use Rattle.stow_io.specs.Outside.{outside, HasRisen};
-ghost use Rattle.stow_cli.specs.Ends.{SaysNo, Completes, words_line, words_status};
+ghost use Rattle.stow_cli.specs.Ends.{SaysNo, Completes, IsReported, words_line, words_status};
 
 use crate::status::Status;
 use stow_io::{Ended, Finding, Folder, Sink, Work, finish, say};
@@ -16,6 +16,7 @@ pub fn complete<F: Folder, K: Sink>(work: &Work, folder: &mut F, out: &mut K) ->
     ensures quiet { (result ≡ Status.Fault → ⊥) → F.faults folder.new ≡ F.faults folder.old }
     ensures later { F.faults folder.old ≤ F.faults folder.new }
     ensures sink_later { K.faults out.old ≤ K.faults out.new }
+    ensures sink_quiet { IsReported result → K.faults out.new ≡ K.faults out.old }
 {
     match finish(work, folder, out) {
         Ended::Done => match work.finding {
@@ -33,6 +34,7 @@ pub fn complete<F: Folder, K: Sink>(work: &Work, folder: &mut F, out: &mut K) ->
 pub fn say_no<K: Sink>(out: &mut K, line: &[u8]) -> Status
     ensures refused { SaysNo result line.now (K.written out.old) (K.written out.new) (Rose (K.faults out.old) (K.faults out.new)) }
     ensures later { K.faults out.old ≤ K.faults out.new }
+    ensures quiet { IsReported result → K.faults out.new ≡ K.faults out.old }
 {
     match out.put(line) {
         Ok(()) => Status::No,

@@ -18,6 +18,6 @@ mod work;
 
 pub use answering::answer_to;
 pub use law::answers_agree;
-pub use process::program;
+pub use process::{exit_code, program};
 pub use status::Status;
 pub use top::stow;

@@ -2,7 +2,7 @@
 ghost use Rattle.std.specs.Prelude.{◌≡◌, ◌⊎◌, ◌≤◌};
 ghost use Rattle.stow_io.specs.Outside.{outside, HasRisen};
 ghost use Rattle.stow_words.specs.Orders.{ordered, IsInRange};
-ghost use Rattle.stow_cli.specs.Ends.{Follows, IsRun};
+ghost use Rattle.stow_cli.specs.Ends.{Follows, IsReported, IsRun};
 ghost use Rattle.stow_cli.specs.Obeyed.{Obeys};
 ghost use Rattle.stow_cli.specs.Taken.{HasClapFault, OrdersOwn};
 
@@ -47,6 +47,7 @@ fn obey<R: Threads + Wait + Sync, F: Folder, K: Sink, G: Gate + Sync>(
     ensures quiet { (result ≡ Status.Fault → ⊥) → F.faults folder.new ≡ F.faults folder.old }
     ensures folder_later { F.faults folder.old ≤ F.faults folder.new }
     ensures sink_later { K.faults out.old ≤ K.faults out.new }
+    ensures sink_quiet { IsReported result → K.faults out.new ≡ K.faults out.old }
 {
     match read_words(alloc, words) {
         Ok(order) => follow(rt, alloc, &order, folder, out, gate),
@@ -69,6 +70,7 @@ fn follow<R: Threads + Wait + Sync, F: Folder, K: Sink, G: Gate + Sync>(
     ensures quiet { (result ≡ Status.Fault → ⊥) → F.faults folder.new ≡ F.faults folder.old }
     ensures folder_later { F.faults folder.old ≤ F.faults folder.new }
     ensures sink_later { K.faults out.old ≤ K.faults out.new }
+    ensures sink_quiet { IsReported result → K.faults out.new ≡ K.faults out.old }
 {
     match answer_to(rt, alloc, order, folder, gate) {
         Ok(Answer::Work(work)) => complete(&work, folder, out),

@@ -6,7 +6,7 @@ use Rattle.std.proofs.lemmas.Option.{same_Some}
 use Rattle.stow_data.specs.declared.geometry.Place.{Place}
 use Rattle.stow_data.specs.declared.geometry.Length.{Length}
 use Rattle.stow_data.specs.declared.geometry.Length.TheVariants.{Twenty, Forty}
-use Rattle.stow_data.specs.Ship.{Ship, places, length_in, same_length, Fits, FitsAt, fits}
+use Rattle.stow_data.specs.Ship.{Ship, places, length_in, same_length, Takes, takes_length, Fits, FitsAt, fits}
 
 same : (a b : Length) → same_length a b ≡ true → a ≡ b
 same Twenty Twenty h = refl
@@ -26,11 +26,17 @@ plug_shown : (reefer plug : Bool) → (reefer ≡ true → plug ≡ true) → (n
 plug_shown true plug h = h refl
 plug_shown false plug h = refl
 
+takes_said : (p : Place) (long : Length) → takes_length p long ≡ true → Takes p long
+takes_said p long = same long (length_in p.span)
+
+takes_shown : (p : Place) (long : Length) → Takes p long → takes_length p long ≡ true
+takes_shown p long h = subst (λ (l : Length). same_length long l ≡ true) h (same_self long)
+
 pub fits_said : (p : Place) (long : Length) (reefer : Bool) → fits p long reefer ≡ true → Fits p long reefer
-fits_said p long reefer h = let both = and_parts _ _ h in record { length_fits = same long (length_in p.span) both.0; has_plug = plug_said reefer p.plug both.1 }
+fits_said p long reefer h = let both = and_parts _ _ h in record { length_fits = takes_said p long both.0; has_plug = plug_said reefer p.plug both.1 }
 
 pub fits_shown : (p : Place) (long : Length) (reefer : Bool) → Fits p long reefer → fits p long reefer ≡ true
-fits_shown p long reefer h = and_from _ _ (subst (λ (l : Length). same_length long l ≡ true) h.length_fits (same_self long)) (plug_shown reefer p.plug h.has_plug)
+fits_shown p long reefer h = and_from _ _ (takes_shown p long h.length_fits) (plug_shown reefer p.plug h.has_plug)
 
 one_value : (a b : Bool) → (a ≡ true → b ≡ true) → (b ≡ true → a ≡ true) → a ≡ b
 one_value true b f g = sym (f refl)

@@ -13,3 +13,4 @@ pub mod Firsts
 pub mod KindJoins
 pub mod KindLemmas
 pub mod PlanLookups
+pub mod Nines

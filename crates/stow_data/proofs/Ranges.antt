@@ -1,5 +1,5 @@
 -- What `all` and `any` answer over a range, said of the numbers in it.
-use Rattle.std.proofs.Common.{◌≡◌, Bool, ℕ, ◌+◌, ◌-◌, ◌≤◌, ◌<◌, List, length, get_or, arith, subst, sym, refl, true, false}
+use Rattle.std.proofs.Common.{◌≡◌, Bool, ℕ, ◌+◌, ◌-◌, ◌≤◌, ◌<◌, List, length, get_or, arith, subst, refl, true, false}
 use denote.Param.Members.{Mut}
 use Rattle.std.specs.declared.option.Option.{Option}
 use Rattle.std.specs.Iterator.{YieldsThen}

@@ -9,3 +9,5 @@ pub mod Plans
 pub mod Cargoes
 pub mod Kinds
 pub mod KindFields
+pub mod Digits
+pub mod Types

@@ -98,27 +98,27 @@ length_in Both = length_of.Forty
 length_in Fore = length_of.Twenty
 length_in Aft = length_of.Twenty
 
-abbrev pub HasLength : Span → Length → Type 0
-HasLength span long = long ≡ length_in span
-
--- the place takes containers of this length
+-- the length fits the place; each crate that looks at lengths and places asks this, or what fits
 abbrev pub Takes : Place → Length → Type 0
-Takes p long = HasLength p.span long
+Takes p long = long ≡ length_in p.span
 
 -- a container of this length, a reefer or not, fits the place
 pub record Fits (p : Place) (long : Length) (reefer : Bool) : Type 0 where
   pub length_fits : Takes p long
   pub has_plug : IsTrue reefer → IsTrue p.plug
 
--- the same as a truth value
+-- the same as truth values
 abbrev pub same_length : Length → Length → Bool
 same_length length_of.Twenty length_of.Twenty = true
 same_length length_of.Forty length_of.Forty = true
 same_length length_of.Twenty length_of.Forty = false
 same_length length_of.Forty length_of.Twenty = false
 
+abbrev pub takes_length : Place → Length → Bool
+takes_length p long = same_length long (length_in p.span)
+
 abbrev pub fits : Place → Length → Bool → Bool
-fits p long reefer = same_length long (length_in p.span) && (not reefer || p.plug)
+fits p long reefer = takes_length p long && (not reefer || p.plug)
 
 -- stack s lies under cover k, or stands on it
 pub record LiesUnder (ship : Ship) (s k : ℕ) : Type 0 where

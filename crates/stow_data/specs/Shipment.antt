@@ -1,5 +1,5 @@
 -- What contracts see of a cargo, and the rules that it obeys.
-use Rattle.std.specs.Prelude.{◌≢◌, ◌^◌, ◌<◌, ◌≤◌, ℕ, List, Option, length, All, AllPairs}
+use Rattle.std.specs.Prelude.{◌≢◌, ◌^◌, ◌<◌, ◌≤◌, ℕ, Bool, ◌&&◌, nat_le, nat_lt, List, Option, length, All, AllPairs}
 use Rattle.stow_data.specs.declared.cargoes.Container.{Container}
 
 -- the ports of the calls from 1, the containers, and for each place what stands there at arrival
@@ -25,3 +25,7 @@ pub record IsCargo (cargo : Cargo) : Type 0 where
 pub record IsAboard (call : ℕ) (c : Container) : Type 0 where
   pub loaded : c.load ≤ call
   pub stays : call < c.dest
+
+-- the same as a truth value
+abbrev pub is_aboard : ℕ → Container → Bool
+is_aboard call c = nat_le c.load call && nat_lt call c.dest

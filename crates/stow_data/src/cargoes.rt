@@ -1,6 +1,6 @@
 //! The cargo of a voyage: the rotation, the containers and the arrival.
-ghost use Rattle.std.specs.Prelude.{◌≡◌, ◌<◌, ◌≤◌, ◌-◌, ◌*◌, Some, length, slice_get};
-ghost use Rattle.stow_data.specs.Shipment.{IsCargo};
+ghost use Rattle.std.specs.Prelude.{◌≡◌, ◌<◌, ◌≤◌, ◌-◌, ◌*◌, ◌↔◌, IsTrue, Some, length, slice_get};
+ghost use Rattle.stow_data.specs.Shipment.{IsAboard, IsCargo, is_aboard};
 
 use crate::geometry::Length;
 use crate::list::Seq;
@@ -31,6 +31,16 @@ pub struct Container {
     /// Its class of dangerous goods.
     pub class: Option<Name>,
     pub origin: Origin,
+}
+
+impl Container {
+    /// Whether it is aboard after a call.
+    pub fn is_aboard(&self, call: CallNo) -> bool
+        ensures is { IsTrue result ↔ IsAboard call self.now }
+        ensures value { result ≡ is_aboard call self.now }
+    {
+        self.load <= call && call < self.dest
+    }
 }
 
 /// A list of containers.

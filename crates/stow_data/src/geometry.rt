@@ -1,6 +1,7 @@
 //! The parts of a ship: lengths, half-cells, places, stacks, hatch covers and separations (ISO 9711).
-ghost use Rattle.std.specs.Prelude.{◌↔◌, IsTrue};
+ghost use Rattle.std.specs.Prelude.{◌≡◌, ◌↔◌, IsTrue};
 ghost use Rattle.stow_data.specs.Ship.{Takes};
+ghost use Rattle.stow_data.specs.Types.{length_of_type};
 
 use crate::list::{FlagList, Seq};
 use crate::names::Name;
@@ -11,6 +12,18 @@ use crate::numbers::StackNo;
 pub enum Length {
     Twenty,
     Forty,
+}
+
+/// The length of a container by its size and type code (ISO 6346): None where the first character is
+/// neither `2` nor `4`.
+pub fn length_of_type(text: &[u8]) -> Option<Length>
+    ensures { result ≡ length_of_type text.now }
+{
+    match text.first() {
+        Some(b'2') => Some(Length::Twenty),
+        Some(b'4') => Some(Length::Forty),
+        _ => None,
+    }
 }
 
 /// Which half-cells of a cell a place takes.

@@ -3,6 +3,7 @@
 
 mod cargoes;
 mod cells;
+mod digits;
 mod geometry;
 mod hatches;
 mod kind_finder;
@@ -20,9 +21,10 @@ mod tables;
 mod words;
 
 pub use cargoes::{Cargo, Container, ContainerList, Origin};
+pub use digits::{are_digits, digit, value_of};
 pub use geometry::{
     Cover, CoverList, Half, Length, Lengths, Place, Separation, SeparationList, Span, Stack,
-    StackList, Stacks,
+    StackList, Stacks, length_of_type,
 };
 pub use kind_finder::kinds;
 pub use kind_list::{Kind, Kinds};

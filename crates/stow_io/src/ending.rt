@@ -52,6 +52,7 @@ pub fn finish<F: Folder, K: Sink>(work: &Work, folder: &mut F, out: &mut K) -> E
     ensures quiet { (result ≡ Ended.Fault → ⊥) → F.faults folder.new ≡ F.faults folder.old }
     ensures later { F.faults folder.old ≤ F.faults folder.new }
     ensures sink_later { K.faults out.old ≤ K.faults out.new }
+    ensures sink_quiet { result ≡ Ended.Done → K.faults out.new ≡ K.faults out.old }
 {
     match write_files(folder, &work.files) {
         Ok(()) => match out.put(work.report.as_slice()) {

@@ -1,15 +1,16 @@
 //! The words of the command line.
-ghost use Rattle.std.specs.Prelude.{◌≤◌};
+ghost use Rattle.std.specs.Prelude.{◌≡◌, ◌≤◌, string_bytes, map, IfOk, OnOk};
+ghost use Rattle.std.specs.Vec.Iter.{into_iter_items};
 ghost use Rattle.stow_io.specs.Causes.{Rose};
 ghost use Rattle.stow_io.specs.Ends.{SaysWhy};
 
 use crate::ending::say;
 use crate::outside::Sink;
 use std::alloc::Global;
-use std::env;
+use std::env::{self, Args};
 use std::io::ErrorKind;
 use std::rt::Env;
-use stow_data::{Word, WordList};
+use stow_data::{NoMemory, Word, WordList};
 
 /// Why there are no words.
 #[derive(Clone, Copy)]
@@ -19,32 +20,38 @@ pub enum NoWords {
     NotText,
 }
 
-fn words_of<R: Env + Alloc>(rt: &R, alloc: Global) -> Result<WordList, NoWords> {
+/// All arguments as words, in their order.
+fn words_from(alloc: Global, args: Args) -> Result<WordList, NoMemory>
+    ensures { IfOk result (λ words. words ≡ map string_bytes (into_iter_items args)) }
+{
+    let mut words = WordList::new(alloc);
+    for arg in args {
+        words.push(Word::of(alloc, arg.as_str())?)?;
+    }
+    Ok(words)
+}
+
+fn words_of<R: Env + Alloc<A = Global>>(rt: &R, alloc: Global) -> Result<WordList, NoWords> {
     let args = match env::args(rt) {
         Ok(args) => args,
         Err(error) if error.kind() == ErrorKind::OutOfMemory => return Err(NoWords::NoMemory),
         Err(_) => return Err(NoWords::NotText),
     };
-    let mut words = WordList::new(alloc);
-    for arg in args {
-        let Ok(word) = Word::of(alloc, arg.as_str()) else {
-            return Err(NoWords::NoMemory);
-        };
-        if words.push(word).is_err() {
-            return Err(NoWords::NoMemory);
-        }
+    match words_from(alloc, args) {
+        Ok(words) => Ok(words),
+        Err(NoMemory) => Err(NoWords::NoMemory),
     }
-    Ok(words)
 }
 
 /// The words that the program was given, the first of them being its name. Where there are none, a line says why.
-pub fn given_words<R: Env + Alloc, K: Sink>(
+pub fn given_words<R: Env + Alloc<A = Global>, K: Sink>(
     rt: &R,
     alloc: Global,
     out: &mut K,
 ) -> Result<WordList, NoWords>
     ensures printed { SaysWhy result (K.written out.old) (K.written out.new) (Rose (K.faults out.old) (K.faults out.new)) }
     ensures later { K.faults out.old ≤ K.faults out.new }
+    ensures quiet { OnOk result (K.faults out.new ≡ K.faults out.old) }
 {
     let words = words_of(rt, alloc);
     match words {

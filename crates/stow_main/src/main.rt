@@ -2,8 +2,8 @@
 #![tactic(auto)]
 
 use std::process::ExitCode;
-use stow_cli::program;
+use stow_cli::exit_code;
 
 fn main(rt: HostRuntime) -> ExitCode {
-    ExitCode::from(program(&rt).number())
+    exit_code(&rt)
 }

@@ -14,7 +14,8 @@ use Rattle.baplie.specs.Faults.{body, groups, head, rest}
 use Rattle.baplie.specs.Groups.{cell_group}
 use Rattle.baplie.specs.Messages.{IsMessage}
 use Rattle.baplie.specs.Segments.{opens, closes, component}
-use Rattle.baplie.specs.Texts.{digit_of, value, is_digit, is_cell, cell_of}
+use Rattle.stow_data.specs.Digits.{digit_of, value, is_digit}
+use Rattle.baplie.specs.Texts.{is_cell, cell_of}
 use Rattle.stow_report.specs.Listings.{IsCell, AreListable}
 
 digit_small : (b : ℕ) → digit_of b ≤ 9

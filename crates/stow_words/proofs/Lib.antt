@@ -1,5 +1,4 @@
 mod Local
-mod Digits
 mod Entered
 mod Simple
 mod Read

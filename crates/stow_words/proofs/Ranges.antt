@@ -8,7 +8,8 @@ use Rattle.stow_words.specs.declared.order.WordsNo.{WordsNo}
 use Rattle.stow_words.specs.declared.commands.Verb.{Verb}
 use Rattle.stow_words.specs.declared.commands.Verb.TheVariants as verb
 use Rattle.stow_words.specs.Command.{stow_app}
-use Rattle.stow_words.specs.Numbers.{is_number, value, number_in}
+use Rattle.stow_data.specs.Digits.{value}
+use Rattle.stow_words.specs.Numbers.{is_number, number_in}
 use Rattle.stow_words.specs.Orders.{number_or, number_at, workers_in, budget_in, positional, planned, made, verb_named, order_of, entered_order, unless_faulty, ordered, Gives, IsInRange}
 
 -- a number between two others, if there is one

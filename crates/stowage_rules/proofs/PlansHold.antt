@@ -1,16 +1,17 @@
 -- Well-formed plans, from what holds place by place.
-use Rattle.std.specs.Prelude.{◌≡◌, ℕ, ◌<◌, ◌≤◌, Bool, true, false, length, slice_get, Some, ◌==◌, ◌&&◌}
+use Rattle.std.specs.Prelude.{◌≡◌, ℕ, ◌<◌, ◌≤◌, ◌↔◌, Bool, true, false, length, slice_get, slice_index_or, Some, ◌==◌, ◌&&◌, IsTrue}
 use Rattle.std.proofs.Common.{refl, sym, ◌∙◌, subst, arith}
 use Rattle.std.proofs.lemmas.Bool.{and_from, and_parts, both_ways, eq-eqb, eqb-true, false_from_ne_true}
-use Rattle.std.proofs.lemmas.Option.{slice_get_within, same_Some}
+use Rattle.std.proofs.lemmas.Option.{slice_get-get_or, slice_get_within, same_Some}
 use Rattle.stow_data.specs.declared.geometry.Half.{Half}
 use Rattle.stow_data.specs.declared.geometry.Place.{Place}
 use Rattle.stow_data.specs.declared.geometry.Span.{Span}
 use Rattle.stow_data.specs.declared.geometry.Span.TheVariants.{Fore, Aft, Both}
 use Rattle.stow_data.specs.declared.cargoes.Container.{Container}
-use Rattle.stow_data.specs.Ship.{Ship, places, HasHalf, HasLength, TakesSide, half_at}
+use Rattle.stow_data.specs.Ship.{Ship, places, HasHalf, Takes, TakesSide, half_at}
+use Rattle.stow_data.specs.Ship as ship
 use Rattle.stow_data.specs.Shipment.{Cargo}
-use Rattle.stow_data.specs.Plans.{Plan}
+use Rattle.stow_data.specs.Plans.{Plan, no_place}
 use Rattle.stowage_rules.specs.Plan.{Holds, IsWellFormed}
 use Rattle.stow_data.specs.Near.{has_column_in_common, meets}
 use Rattle.stowage_rules.specs.Departure.{HoldsAboard}
@@ -73,7 +74,7 @@ pub well_formed_from : (ship : Ship) (cargo : Cargo) (plan : Plan) → length pl
 well_formed_from ship cargo plan each fit alone = record {
   each_place = each;
   known = λ p c held. let box = fit p c held in (box.0, box.1);
-  fits = λ p c place container stands. let box = fit p c stands.holds in subst (λ (k : Container). HasLength place.span k.long) (same_Some box.0 container (sym box.1 ∙ stands.is_container)) (box.2 place stands.is_place);
+  fits = λ p c place container stands. let box = fit p c stands.holds in subst (λ (k : Container). Takes place k.long) (same_Some box.0 container (sym box.1 ∙ stands.is_container)) (box.2 place stands.is_place);
   apart = λ h c d x y. (alone x.number y.number).apart h c d (from x) (from y);
   once = λ p q c x y. (alone p q).once c x y;
 }
@@ -107,3 +108,24 @@ pub far_from : (ship : Ship) (plan : Plan) (p q c d : ℕ) (first second : Place
 far_from ship plan p q c d first second is_p is_q held_p held_q other alone = false_from_ne_true (meets first second) (λ m.
     let h = meeting_half first second m in
     other (alone.apart h.0 c d (record { place = first; is_place = is_p; has_half = h.1; holds = held_p }) (record { place = second; is_place = is_q; has_half = h.2; holds = held_q })))
+
+-- what the ship answers of a length says whether what stands at the place fits there
+pub fits_here : (s : Ship) (cargo : Cargo) (plan : Plan) (p c : ℕ) (box : Container) (answer : Bool) → p < length (places s) → Holds plan p c → slice_get cargo.containers c ≡ Some box
+    → (IsTrue answer ↔ ship.FitsAt s p box.long false) → IsTrue answer ↔ FitsAt s cargo plan p
+fits_here s cargo plan p c box answer low holds known says = (here, back)
+  where
+    only : (d : ℕ) → Holds plan p d → c ≡ d
+    only d h = same_Some c d (same_Some (Some c) (Some d) (sym holds ∙ h))
+
+    here : IsTrue answer → FitsAt s cargo plan p
+    here said d h =
+        let at = says.0 said in
+        (box, subst (λ (k : ℕ). slice_get cargo.containers k ≡ Some box) (only d h) known, λ place is. subst (λ (z : Place). Takes z box.long) (same_Some at.place place (sym at.is_place ∙ is)) at.fits.length_fits)
+
+    back : FitsAt s cargo plan p → IsTrue answer
+    back fits =
+        let r = fits c holds in
+        let place : Place = slice_index_or (places s) p no_place in
+        let is = slice_get-get_or (places s) p no_place low in
+        let same : r.0 ≡ box = same_Some r.0 box (sym r.1 ∙ known) in
+        says.1 (record { place = place; is_place = is; fits = record { length_fits = subst (λ (k : Container). Takes place k.long) same (r.2 place is); has_plug = λ cold. absurd (both_ways false refl cold) } })

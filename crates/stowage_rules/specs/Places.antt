@@ -3,7 +3,7 @@ use Rattle.std.specs.Prelude.{◌≡◌, ℕ, ◌<◌, ◌↔◌, List, Some, sl
 use Rattle.stow_data.specs.declared.geometry.Half.{Half}
 use Rattle.stow_data.specs.declared.geometry.Place.{Place}
 use Rattle.stow_data.specs.declared.cargoes.Container.{Container}
-use Rattle.stow_data.specs.Ship.{Ship, places, HasHalf, HasLength}
+use Rattle.stow_data.specs.Ship.{Ship, places, HasHalf, Takes}
 use Rattle.stow_data.specs.Shipment.{Cargo, IsAboard}
 use Rattle.stow_data.specs.Plans.{Plan}
 use Rattle.stowage_rules.specs.Plan.{Holds, Fills}
@@ -25,7 +25,7 @@ IsTakenFrom ship plan h n = (c : ℕ) × FillsFrom ship plan n h c
 
 -- what stands at place n is a container of the cargo whose length fits there
 abbrev pub FitsAt : Ship → Cargo → Plan → ℕ → Type 0
-FitsAt ship cargo plan n = (c : ℕ) → Holds plan n c → (container : Container) × (slice_get cargo.containers c ≡ Some container) × ((place : Place) → slice_get (places ship) n ≡ Some place → HasLength place.span container.long)
+FitsAt ship cargo plan n = (c : ℕ) → Holds plan n c → (container : Container) × (slice_get cargo.containers c ≡ Some container) × ((place : Place) → slice_get (places ship) n ≡ Some place → Takes place container.long)
 
 -- places p and q, if they aren't one, hold different containers and have no half-cell in common where both are filled
 pub record StandsAlone (ship : Ship) (plan : Plan) (p q : ℕ) : Type 0 where

@@ -3,7 +3,7 @@ use Rattle.std.specs.Prelude.{◌≡◌, ℕ, Some, slice_get, length}
 use Rattle.stow_data.specs.declared.geometry.Half.{Half}
 use Rattle.stow_data.specs.declared.geometry.Place.{Place}
 use Rattle.stow_data.specs.declared.cargoes.Container.{Container}
-use Rattle.stow_data.specs.Ship.{Ship, places, HasHalf, HasLength}
+use Rattle.stow_data.specs.Ship.{Ship, places, HasHalf, Takes}
 use Rattle.stow_data.specs.Shipment.{Cargo}
 use Rattle.stow_data.specs.Plans.{Plan}
 
@@ -29,6 +29,6 @@ pub record Stands (ship : Ship) (cargo : Cargo) (plan : Plan) (p c : ℕ) (place
 pub record IsWellFormed (ship : Ship) (cargo : Cargo) (plan : Plan) : Type 0 where
   pub each_place : length plan ≡ length (places ship)
   pub known : (p c : ℕ) → Holds plan p c → (container : Container) × (slice_get cargo.containers c ≡ Some container)
-  pub fits : (p c : ℕ) (place : Place) (container : Container) → Stands ship cargo plan p c place container → HasLength place.span container.long
+  pub fits : (p c : ℕ) (place : Place) (container : Container) → Stands ship cargo plan p c place container → Takes place container.long
   pub apart : (h : Half) (c d : ℕ) (x : Fills ship plan h c) (y : Fills ship plan h d) → x.number ≡ y.number
   pub once : (p q c : ℕ) → Holds plan p c → Holds plan q c → p ≡ q

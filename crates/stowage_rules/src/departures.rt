@@ -1,26 +1,12 @@
 //! Departures: plain, slow tests of a plan.
 ghost use Rattle.std.specs.Prelude.{◌≡◌, ◌↔◌, ◌<◌, ℕ, IsTrue, length};
-ghost use Rattle.stow_data.specs.Ship.{places, HasLength};
-ghost use Rattle.stow_data.specs.Shipment.{IsAboard};
+ghost use Rattle.stow_data.specs.Ship.{places};
 ghost use Rattle.stowage_rules.specs.Plan.{Holds, IsWellFormed};
 ghost use Rattle.stowage_rules.specs.Departure.{HoldsAboard, IsDeparture};
 ghost use Rattle.stowage_rules.specs.Places.{AboardAt, FitsAt, IsSomewhere, StandsAlone, StandsAloneAt};
 
 use crate::faults::departure_fault;
-use stow_data::{
-    CallNo, Cargo, Container, ContainerNo, Length, PlaceNo, Plan, Ship, Span, shares_half,
-};
-
-/// Whether the span takes a container of this length.
-fn has_length(span: Span, long: Length) -> bool
-    ensures { IsTrue result ↔ HasLength span long }
-{
-    match span {
-        Span::Both => long == Length::Forty,
-        Span::Fore => long == Length::Twenty,
-        Span::Aft => long == Length::Twenty,
-    }
-}
+use stow_data::{CallNo, Cargo, ContainerNo, PlaceNo, Plan, Ship, shares_half};
 
 /// Whether what stands at a place is a container of the cargo whose length fits there.
 fn fits_at(ship: &Ship, cargo: &Cargo, plan: &Plan, p: PlaceNo) -> bool
@@ -34,7 +20,7 @@ fn fits_at(ship: &Ship, cargo: &Cargo, plan: &Plan, p: PlaceNo) -> bool
             if c.0 >= cargo.len() {
                 return false;
             }
-            has_length(ship.place(p).span, cargo.container(c).long)
+            ship.fits(p, cargo.container(c).long, false)
         }
     }
 }
@@ -88,13 +74,6 @@ pub fn is_well_formed(ship: &Ship, cargo: &Cargo, plan: &Plan) -> bool
     all_fit(ship, cargo, plan) && all_stand_alone(ship, plan)
 }
 
-/// Whether a container is aboard after a call.
-pub fn is_aboard(container: &Container, call: CallNo) -> bool
-    ensures { IsTrue result ↔ IsAboard call container.now }
-{
-    container.load <= call && call < container.dest
-}
-
 /// Whether a container stands at this place.
 fn holds(plan: &Plan, p: PlaceNo, c: ContainerNo) -> bool
     requires { p < length plan.now }
@@ -117,7 +96,7 @@ fn aboard_at(ship: &Ship, cargo: &Cargo, plan: &Plan, call: CallNo, c: Container
     requires inside { c < length cargo.now.containers }
     ensures { IsTrue result ↔ AboardAt cargo.now call plan.now c }
 {
-    is_somewhere(ship, plan, c) == is_aboard(cargo.container(c), call)
+    is_somewhere(ship, plan, c) == cargo.container(c).is_aboard(call)
 }
 
 /// Whether a plan holds exactly the containers that are aboard after the call.

@@ -11,7 +11,7 @@ mod supports;
 mod tiers;
 mod weights;
 
-pub use departures::{holds_aboard, is_aboard, is_departure, is_well_formed};
+pub use departures::{holds_aboard, is_departure, is_well_formed};
 pub use faults::{RuleBroken, departure_fault};
 pub use half_cells::{filler, filler_near, is_taken, is_twenty, takes_side};
 pub use supports::is_filled;

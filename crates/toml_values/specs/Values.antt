@@ -4,6 +4,7 @@ use Rattle.std.specs.List.{list_all}
 use Rattle.std.specs.Str.{is_utf8}
 use Rattle.toml.specs.Data.{Data, string, integer, boolean, Items, array, table, Members, get_member}
 use Rattle.toml.specs.Parse.{parse_document}
+use Rattle.stow_data.specs.Digits.{is_digit}
 use Rattle.toml_values.specs.declared.of_values.Unread.{Unread}
 use Rattle.toml_values.specs.declared.of_values.Unread.TheVariants.{Missing, BadValue}
 
@@ -24,14 +25,11 @@ passing test x = if test x then Ok x else Err BadValue
 
 -- A to Z and 0 to 9
 abbrev pub is_code_byte : ℕ → Bool
-is_code_byte b = (nat_le 65 b && nat_le b 90) || (nat_le 48 b && nat_le b 57)
+is_code_byte b = (nat_le 65 b && nat_le b 90) || is_digit b
 
 -- a text of 1 to so many bytes of A to Z and 0 to 9
 abbrev pub is_code : ℕ → List ℕ → Bool
 is_code high s = (nat_le 1 (length s) && nat_le (length s) high) && list_all is_code_byte s
-
-abbrev pub is_digit : ℕ → Bool
-is_digit b = nat_le 48 b && nat_le b 57
 
 -- a text of so many digits
 abbrev pub is_digits : ℕ → List ℕ → Bool

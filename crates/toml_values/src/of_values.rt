@@ -3,10 +3,10 @@ ghost use Rattle.std.specs.Prelude.{◌≡◌, ◌≤◌, ◌&&◌, ◌==◌, is
 ghost use Rattle.std.specs.List.{list_all};
 ghost use Rattle.toml.specs.View.{array_view, table_view, view};
 ghost use Rattle.stow_data.specs.Profile.{is_class, is_class_byte, is_name, is_name_byte};
-ghost use Rattle.toml_values.specs.Values.{array_of, flag_of, is_code, is_code_byte, is_digit, is_digits, number_of, seen, signed_of, table_of, text_of, text_that};
+ghost use Rattle.toml_values.specs.Values.{array_of, flag_of, is_code, is_code_byte, is_digits, number_of, seen, signed_of, table_of, text_of, text_that};
 ghost use Rattle.toml_values.specs.Arrays.{all_tables, item_count, tables_of};
 
-use stow_data::Name;
+use stow_data::{Name, are_digits};
 use toml::value::Array;
 use toml::{Table, Value};
 
@@ -37,12 +37,6 @@ fn are_code_bytes(text: &[u8]) -> bool
     ensures { result ≡ list_all is_code_byte text.now }
 {
     text.iter().all(|b| matches!(*b, b'A'..=b'Z' | b'0'..=b'9'))
-}
-
-fn are_digits(text: &[u8]) -> bool
-    ensures { result ≡ list_all is_digit text.now }
-{
-    text.iter().all(|b| matches!(*b, b'0'..=b'9'))
 }
 
 fn is_name(text: &[u8]) -> bool

@@ -7,16 +7,13 @@ ghost use Rattle.plan_files.specs.Checked.{HasRehandles};
 ghost use Rattle.voyage_files.specs.Files.{AreLegal, AreMessages, FilesTake, IsFilesNo, IsSetNo, IsTakenNo, IsTextNo, IsTextsNo};
 
 use crate::refusals::JudgeNo;
-use baplie::{BaplieFault, Message, read_baplie};
+use baplie::{BaplieFault, Message, MessageList, read_baplie};
 use plan_files::{PlanNo, check_plan};
 use std::alloc::Global;
 use stow_data::{Bytes, CallNo, Cargo, Seq, Ship};
 
 /// The texts of the departure files, of which the first is that of call 1.
 pub type TextList = Seq<Bytes>;
-
-/// Their messages.
-type MessageList = Seq<Message>;
 
 /// The bay plan message of the departure file of a call.
 fn message_of(alloc: Global, text: &[u8], call: CallNo) -> Result<Message, JudgeNo>
@@ -56,7 +53,7 @@ fn rehandles_of(
     requires few { All (λ m. length m.groups ≤ 2 ^ 29) messages.now }
     ensures { MatchResult result (λ count. HasRehandles ship.now cargo.now (map shown_by messages.now) count) (λ no. IsSetNo ship.now cargo.now messages.now no) }
 {
-    match check_plan(alloc, ship, cargo, messages.as_slice()) {
+    match check_plan(alloc, ship, cargo, messages) {
         Ok(count) => Ok(count),
         Err(PlanNo::NoMemory) => Err(JudgeNo::NoMemory),
         Err(no) => Err(JudgeNo::Plan(no)),

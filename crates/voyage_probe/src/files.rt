@@ -7,16 +7,13 @@ use crate::plans::{comes_in_stowed, is_sound};
 use crate::said::{say, say_call, say_count, say_line, say_number, say_plan, say_plan_no};
 use crate::stop::Stop;
 use arrival_plan::{read_can_be_settled, settle};
-use baplie::{BaplieFault, CellGroup, Message, read_baplie};
+use baplie::{BaplieFault, CellGroup, Message, MessageList, read_baplie};
 use plan_files::{FileNo, PlanNo, check_plan, departure_text, plan_of_message};
 use std::alloc::Global;
-use stow_data::{Bytes, CallNo, Cargo, ContainerNo, NoMemory, Plan, PlanList, Seq, Ship, Word};
+use stow_data::{Bytes, CallNo, Cargo, ContainerNo, NoMemory, Plan, PlanList, Ship, Word};
 use stow_io::{Folder, MOST_READ, SureFolder};
 use stow_report::file_line;
 use voyage_files::BookedVoyage;
-
-/// The messages of departure files.
-type MessageList = Seq<Message>;
 
 /// The cell groups of the bay plan with which the ship comes in.
 fn arrived_groups(v: &BookedVoyage) -> &[CellGroup]
@@ -299,7 +296,7 @@ pub fn say_check(
 {
     let mut messages = MessageList::new(alloc);
     let said = match add_messages(alloc, files, names, &mut messages, out) {
-        Ok(true) => say_checked(alloc, v, messages.as_slice(), out),
+        Ok(true) => say_checked(alloc, v, &messages, out),
         Ok(false) => Ok(()),
         Err(stop) => Err(stop),
     };
@@ -311,7 +308,7 @@ pub fn say_check(
 fn say_checked(
     alloc: Global,
     v: &BookedVoyage,
-    messages: &[Message],
+    messages: &MessageList,
     out: &mut Bytes,
 ) -> Result<(), Stop>
     requires booked { IsBooked v.now }

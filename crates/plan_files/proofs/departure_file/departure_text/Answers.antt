@@ -17,14 +17,14 @@ write_baplie-requires c =
     let W : Message → Type 0 = λ m. IsWhole m in
     subst W (sym c.in_ok-message.ensures) (plan_whole c.args.ship.now c.args.bookings.now c.args.arrived.now c.args.cargo.now c.args.plan.now c.obeys_rules.ensures c.requires.rules c.obeys_rules-2.ensures c.requires.arrived c.requires.cargo c.requires.formed c.args.call c.requires.departs)
 
-pub departure_message-requires-clause-told : goal.departure_message-requires-clause-told
-departure_message-requires-clause-told c = all_told c.args.ship.now c.args.bookings.now c.args.arrived.now c.args.cargo.now c.requires.cargo
+pub message_of-requires-clause-told : goal.message_of-requires-clause-told
+message_of-requires-clause-told c = all_told c.args.ship.now c.args.bookings.now c.args.arrived.now c.args.cargo.now c.requires.cargo
 
-pub departure_message-requires-clause-departs : goal.departure_message-requires-clause-departs
-departure_message-requires-clause-departs c = subst (λ (ports : List (List ℕ)). c.args.call < length ports) (sym (same_rotation c.args.ship.now c.args.bookings.now c.args.arrived.now c.args.cargo.now c.requires.cargo)) c.requires.departs
+pub message_of-requires-clause-departs : goal.message_of-requires-clause-departs
+message_of-requires-clause-departs c = subst (λ (ports : List (List ℕ)). c.args.call < length ports) (sym (same_rotation c.args.ship.now c.args.bookings.now c.args.arrived.now c.args.cargo.now c.requires.cargo)) c.requires.departs
 
-pub departure_message-requires-clause-known : goal.departure_message-requires-clause-known
-departure_message-requires-clause-known c = λ p k holds. let x = c.requires.formed.known p k holds in slice_get_within c.args.cargo.now.containers k x.0 x.1
+pub message_of-requires-clause-known : goal.message_of-requires-clause-known
+message_of-requires-clause-known c = λ p k holds. let x = c.requires.formed.known p k holds in slice_get_within c.args.cargo.now.containers k x.0 x.1
 
 pub returns-clause-text : goal.returns-clause-text
 unfolding file_text

@@ -13,6 +13,7 @@ returns g c =
       own = c.obey.ensures.own;
       fault = c.obey.ensures.fault;
       quiet = c.obey.ensures.quiet;
+      sink_quiet = c.obey.ensures.sink_quiet;
       folder_later = c.obey.ensures.folder_later;
       sink_later = c.obey.ensures.sink_later;
     }

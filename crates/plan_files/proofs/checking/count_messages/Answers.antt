@@ -1,6 +1,6 @@
 use Rattle.std.proofs.Common.{arith}
 use Rattle.plan_files.proofs.Files.{are_plans, as_many, refusal_of, rehandles_of}
-use Rattle.plan_files.proofs.checking.check_plan.Goals as goal
+use Rattle.plan_files.proofs.checking.count_messages.Goals as goal
 
 pub counted-requires-clause-each_call : goal.counted-requires-clause-each_call
 counted-requires-clause-each_call c = omega (arith, c.requires.each_call, as_many c.args.ship.now c.args.cargo.now 1 c.args.messages.now c.in_ok-plans.plans c.in_ok-plans.ensures)

@@ -15,3 +15,8 @@ pub nines_small : (n : ℕ) → n ≤ 10 → nines n ≤ 9999999999
 nines_small n h =
     let e : n + (10 - n) ≡ 10 = omega arith in
     rw e at (nines_rise (10 - n) n)
+
+pub nine_nines : (n : ℕ) → n ≤ 9 → nines n ≤ 999999999
+nine_nines n h =
+    let e : n + (9 - n) ≡ 9 = omega arith in
+    rw e at (nines_rise (9 - n) n)

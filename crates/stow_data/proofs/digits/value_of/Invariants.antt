@@ -1,7 +1,7 @@
 use Rattle.std.proofs.Common.{◌≡◌, ◌≤◌, take, fold}
-use Rattle.stow_words.specs.Numbers.{with_digit}
-use Rattle.stow_words.proofs.Digits.{nines}
-use Rattle.stow_words.proofs.numbers.value_of.Given as goal
+use Rattle.stow_data.specs.Digits.{with_digit}
+use Rattle.stow_data.proofs.Nines.{nines}
+use Rattle.stow_data.proofs.digits.value_of.Given as goal
 
 abbrev pub invariant-loop-byte : goal.invariant-loop-byte
 invariant-loop-byte l = record {
