@@ -1,4 +1,4 @@
-//! Tests of the board that workers share, of the tree of their journals, and of the records that nodes share. They stand in a crate of their own since a crate with tests is proved twice.
+//! Tests of the board that workers share, of the tree of their journals, of the records that nodes share, and of workers to whom memory is wanting. They stand in a crate of their own since a crate with tests is proved twice.
 #![tactic(auto)]
 
 #[cfg(test)]
@@ -7,3 +7,5 @@ mod boards;
 mod ledgers;
 #[cfg(test)]
 mod trails;
+#[cfg(test)]
+mod workers;
