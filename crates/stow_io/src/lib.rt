@@ -8,6 +8,7 @@ mod memory;
 mod outside;
 mod real;
 mod streams;
+mod whole;
 mod writing;
 
 pub use ending::{Ended, finish, say, say_name};

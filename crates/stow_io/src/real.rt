@@ -1,8 +1,10 @@
 //! The real folder and the real output: the trusted edge, which tells nothing of content.
-ghost use Rattle.std.specs.Prelude.{false, ◌≡◌, ◌≤◌, length, None, IfOk};
+ghost use Rattle.std.specs.Prelude.{false, ◌≡◌, ◌≤◌, length, None, IfOk, IsErrOf};
+ghost use Rattle.stow_io.specs.Causes.{Rose};
 
 use crate::outside::{Failed, Folder, FolderNo, MOST_READ, Sink};
 use crate::streams::{read_whole, write_whole};
+use crate::whole::write_file;
 use std::alloc::Global;
 use std::fs;
 use std::io::{self, Print};
@@ -41,6 +43,19 @@ impl<'a, R: Files> RealFolder<'a, R> {
             faults: 0,
         }
     }
+
+    /// Counts a fault, where the call ended with one.
+    fn counted<T>(&mut self, end: Result<T, FolderNo>) -> Result<T, FolderNo>
+        ensures same { result ≡ end }
+        ensures later { self.old ≤ self.new }
+        ensures failed { IsErrOf end FolderNo.Failed → Rose self.old self.new }
+        ensures quiet { (IsErrOf end FolderNo.Failed → ⊥) → self.new ≡ self.old }
+    {
+        if let Err(FolderNo::Failed) = end {
+            self.faults = self.faults.saturating_add(1);
+        }
+        end
+    }
 }
 
 /// All bytes of a file, which has at most `most` of them. `FolderNo::NoMemory` where there is no memory for a piece or for
@@ -60,11 +75,6 @@ pub fn read_file<R: Files>(
     read_whole(alloc, &mut file, piece.as_mut_slice(), most)
 }
 
-fn write_file<R: Files>(rt: &R, name: &str, bytes: &[u8]) -> Result<(), Failed> {
-    let mut file = fs::create(rt, name).map_err(|_| Failed)?;
-    write_whole(&mut file, bytes)
-}
-
 #[tactic(auto, unfolding(crate::specs::Files::put))]
 impl<'a, R: Files> Folder for RealFolder<'a, R> {
     ghost files = { λ _. None };
@@ -75,18 +85,12 @@ impl<'a, R: Files> Folder for RealFolder<'a, R> {
 
     fn read(&mut self, name: &str) -> Result<Bytes, FolderNo> {
         let result = read_file(self.rt, self.alloc, name, MOST_READ);
-        if let Err(FolderNo::Failed) = result {
-            self.faults = self.faults.saturating_add(1);
-        }
-        result
+        self.counted(result)
     }
 
     fn write(&mut self, name: &str, bytes: &[u8]) -> Result<(), FolderNo> {
-        if write_file(self.rt, name, bytes).is_err() {
-            self.faults = self.faults.saturating_add(1);
-            return Err(FolderNo::Failed);
-        }
-        Ok(())
+        let result = write_file(self.rt, self.alloc, name, bytes);
+        self.counted(result)
     }
 }
 
