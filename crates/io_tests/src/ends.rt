@@ -2,8 +2,10 @@
 use std::alloc::Global;
 use std::cell::Cell;
 use std::fmt::Display;
-use std::fs;
+use std::fs::{self, Permissions};
 use std::io::{self, ErrorKind, Print, Read, Write};
+use std::os::unix::fs::{PermissionsExt, symlink};
+use std::process;
 use std::test::Fail;
 use stow_data::{Bytes, NoMemory, NumberList};
 use stow_io::{
@@ -238,12 +240,73 @@ fn a_shorter_file(rt: HostRuntime) -> Result<(), Fail> {
     Ok(())
 }
 
-/// A disk without room is told.
+/// A disk without room is told. A device takes the bytes as they come.
 #[test]
 fn a_full_disk(rt: HostRuntime) -> Result<(), Fail> {
     let mut folder = RealFolder::new(&rt, rt.alloc());
     assert!(rt; folder.write("/dev/full", b"x") == Err(FolderNo::Failed));
     assert!(rt; folder.write("/dev/null", b"x") == Ok(()));
+    Ok(())
+}
+
+/// Whether a file that a run of this process began stands in the folder.
+fn is_littered(rt: &HostRuntime) -> io::Result<bool> {
+    let own = format!(in rt.alloc(); ".stow-{}-", process::id(rt.process()))?;
+    for entry in fs::read_dir(rt, ".")? {
+        if entry?.file_name().starts_with(own.as_str()) {
+            return Ok(true);
+        }
+    }
+    Ok(false)
+}
+
+/// A write that fails once its file is begun takes that away again: here no plain file can take the name's place.
+#[test]
+fn nothing_is_left_of_a_fault(rt: HostRuntime) -> Result<(), Fail> {
+    let mut folder = RealFolder::new(&rt, rt.alloc());
+    assert!(rt; folder.write("stow_io_folder/", b"x") == Err(FolderNo::Failed));
+    assert!(rt; !is_littered(&rt)?);
+    assert!(rt; folder.write("stow_io_whole.bin", b"x") == Ok(()));
+    assert!(rt; !is_littered(&rt)?);
+    fs::remove_file(&rt, "stow_io_whole.bin")?;
+    Ok(())
+}
+
+/// What a run began that was killed is taken away, and what one that goes on has begun stays.
+#[test]
+fn what_killed_runs_began(rt: HostRuntime) -> Result<(), Fail> {
+    let (gone, alive) = (".stow-99999999-1.part", ".stow-1-1.part");
+    fs::write(&rt, gone, "half")?;
+    fs::write(&rt, alive, "half")?;
+    let mut folder = RealFolder::new(&rt, rt.alloc());
+    let written = folder.write("stow_io_swept.bin", b"x");
+    let found = (fs::exists(&rt, gone)?, fs::exists(&rt, alive)?);
+    fs::remove_file(&rt, alive)?;
+    fs::remove_file(&rt, "stow_io_swept.bin")?;
+    assert!(rt; written == Ok(()));
+    assert!(rt; found == (false, true));
+    Ok(())
+}
+
+/// A symbolic link stays, and the file that it leads to is replaced, or made. A replaced file keeps its rights.
+#[test]
+fn links_and_rights(rt: HostRuntime) -> Result<(), Fail> {
+    let (link, target) = ("stow_io_link.bin", "stow_io_target.bin");
+    symlink(&rt, target, link)?;
+    let mut folder = RealFolder::new(&rt, rt.alloc());
+    let first = folder.write(link, b"made");
+    fs::set_permissions(&rt, target, Permissions::from_mode(0o640))?;
+    let second = folder.write(link, b"replaced");
+    let found = folder.read(target);
+    let is_link = fs::symlink_metadata(&rt, link)?.is_symlink();
+    let mode = fs::metadata(&rt, target)?.permissions().mode();
+    fs::remove_file(&rt, link)?;
+    fs::remove_file(&rt, target)?;
+    assert!(rt; first == Ok(()));
+    assert!(rt; second == Ok(()));
+    assert!(rt; found.is_ok_and(|bytes| bytes.as_slice() == b"replaced".as_slice()));
+    assert!(rt; is_link);
+    assert!(rt; mode & 0o777 == 0o640);
     Ok(())
 }
 

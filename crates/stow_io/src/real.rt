@@ -15,7 +15,8 @@ use stow_data::Bytes;
 /// A file is read in pieces of this size.
 const PIECE: usize = 65_536;
 
-/// The files of the folder that the program runs in, by their paths. Contracts see its count of faults.
+/// The files of the folder that the program runs in, by their paths. A file is written whole or not at all, as `write_file`
+/// says, and it writes one at a time. Contracts see its count of faults.
 #[derive(Drop)]
 pub struct RealFolder<'a, R: Files> {
     rt: &'a R,
