@@ -14,6 +14,7 @@ top=$scratch/top
 mkdir -p "$top/bin/lib" "$top/docs" "$scratch/from"
 cp "$start" "$top/bin/lib/start"
 cp "$root/bin/lib/prove" "$top/bin/lib/real"
+cp "$root/bin/lib/ahead" "$top/bin/lib/ahead"
 sed 's/^program=.*/program=probe/' "$root/bin/stow" >"$top/bin/probe"
 chmod +x "$top/bin/probe"
 printf 'below:\nprobe: below\nbeside: below\n' >"$top/crates.txt"
@@ -90,6 +91,25 @@ ln -s "$top/bin/probe" "$scratch/linked"
 by=$scratch/linked
 runs 'by a link from another folder' ''
 by=
+
+# What is said before the program starts, and that it starts nevertheless.
+ahead() { # TITLE LINE WORDS..
+    local title=$1 line=$2
+    shift 2
+    run "$@"
+    look "$title" "${line:+$line$'\n'}in $scratch/from"$'\n'"$(printf '[%s]\n' "$@")"$'\n' "$said"
+}
+over='is read, and the plan of X may be written over it; name a new voyage anew'
+touch "$scratch/from/X-02.edi" "$scratch/from/ship"
+ln -s X-02.edi "$scratch/from/came"
+ahead 'an arrival that OUT writes' "stow: X-02.edi $over" plan ship cargo X --arrival X-02.edi
+ahead 'the same by a link' "stow: ./came $over" plan --budget 5 ship cargo --arrival=./came X
+ahead 'a cargo that OUT writes' "stow: X-02.edi $over" plan ship X-02.edi -- X
+ahead 'an arrival that OUT leaves' '' plan ship cargo Y --arrival X-02.edi
+ahead 'files that are read alone' '' check ship cargo X --arrival X-02.edi
+ahead 'a folder that is missing' 'stow: there is no folder no/, where no/X is to be written' make 3 no/X
+ahead 'words of another form' '' plan ship cargo X more
+rm "$scratch/from/"*
 
 # Each folder counts, at each depth, and crates.txt; files that the program isn't made from don't.
 for crate in below probe; do
