@@ -41,7 +41,7 @@ with open(f"{out}/{name}.begun", "w") as file:
 if os.path.exists(f"{top}/refuse"):
     sys.exit(70)
 with open(f"{out}/{name}", "w") as file:
-    file.write('#!/usr/bin/env bash\nprintf "in %s\\n" "$PWD"\nprintf "[%s]\\n" "$@"\n[ "${1:-}" != input ] || cat\n[ "${1:-}" != three ] || exit 3\n')
+    file.write('#!/usr/bin/env bash\nprintf "in %s\\n" "$PWD"\nprintf "[%s]\\n" "$@"\n[ "${1:-}" != input ] || cat\n[ "${1:-}" != three ] || exit 3\nsleep "${PROBE_SLEEP:-0}"\n')
 os.chmod(f"{out}/{name}", 0o755)
 os.replace(f"{out}/{name}.begun", f"{out}/{name}.proved")
 STUB
@@ -110,6 +110,17 @@ ahead 'files that are read alone' '' check ship cargo X --arrival X-02.edi
 ahead 'a folder that is missing' 'stow: there is no folder no/, where no/X is to be written' make 3 no/X
 ahead 'words of another form' '' plan ship cargo X more
 rm "$scratch/from/"*
+
+# The seconds of a search are told on a terminal, and nowhere else.
+seconds() { # WHERE OF STANDARD OUTPUT, WORDS..
+    (cd "$scratch/from" && PROBE_SLEEP=1.5 script -qec "$top/bin/probe ${*:2} $1" /dev/null </dev/null) | tr -d '\n' | cat -v
+}
+if command -v script >/dev/null; then
+    look 'a search on a terminal' "in $scratch/from^M[plan]^M1s^M" "$(seconds '' plan)"
+    look 'a search whose report goes elsewhere' '1s^M^M^[[K' "$(seconds '>/dev/null' plan)"
+    look 'a check' "in $scratch/from^M[check]^M" "$(seconds '' check)"
+    look 'a search away from a terminal' '' "$(seconds '>/dev/null 2>&1' plan)"
+fi
 
 # Each folder counts, at each depth, and crates.txt; files that the program isn't made from don't.
 for crate in below probe; do
