@@ -7,15 +7,16 @@ PROGRAM is the built program `stow`. Each run is a `plan` or a `make` in a folde
 calls or other bookings. After it each name has to hold what it held before or the whole new text, in the order in which they are
 written, and nothing else may stand there but one file `.stow-PROCESS-NUMBER.part` of a run that was killed.
 
-- KILLS (1,000) runs are killed: half of them at a moment by chance, half up to 5 ms after the first file is begun. Each killed run that
-  left a file is run again to its end: then all names hold the new texts and nothing else stands there.
+- KILLS (1,000) runs are killed: half of them at a moment by chance, half up to 5 ms after the first file is begun. Where some names
+  hold new texts and others don't, `check` says no, or which file is missing. Each killed run that left a file is run again to its end:
+  then all names hold the new texts and nothing else stands there.
 - The disk is full: a small file system in memory, of each size at which another file fits; and no file may have more than so many bytes.
   (The first needs the right to mount one, in a name space of its own; without it that is said.) The status is 7, with the name of a file.
 - PAIRS (200) times two runs write other voyages over one OUT at once, and what stands under the names is read all the while: each text
   that is read is the earlier one or one of the two.
 - Targets that aren't plain files of the folder: see `TARGETS` below.
 
-It prints how many looks there were, and what went wrong; it ends with 1 where anything did.
+It prints what was tried and what went wrong, and ends with 1 where anything did.
 """
 import os
 import pathlib
@@ -69,6 +70,7 @@ class Case:
         # (the order of the names is that of the writes: the ship and bookings of `make`, then the calls, then the certificate)
         self.order = sorted(self.new, key=lambda it: (it.endswith(".cert"), not it.endswith(".toml"), "bookings" in it, it))
         self.told = [it for it in self.order if self.new[it] != self.old.get(it)]
+        self.check = ["check", *(INPUTS if words[0] == "plan" else ("X.profile.toml", "X.bookings.toml")), "X"]
 
     def lay(self, inputs=None, into=None):
         """Leaves the inputs and the earlier voyage in the folder, and nothing else."""
@@ -110,7 +112,8 @@ def wait_for_writes(process, folder):
         pass
 
 
-def kill(case, chance, number):
+def kill(case, chance, number, answers):
+    """Kills a run; returns what its folder holds, and whether a file that was begun stands there."""
     case.lay()
     process = case.start()
     if number % 2:
@@ -123,6 +126,11 @@ def kill(case, chance, number):
     ended = process.returncode != -signal.SIGKILL
     fresh, others = case.judge(f"{case.name}, kill {number}", process.pid)
     counted = "ended before" if ended else "all old" if fresh == 0 else "all new" if fresh == len(case.told) else "some new"
+    if counted == "some new":
+        judged = subprocess.run([case.program, *case.check], cwd=case.folder, stdout=subprocess.PIPE, text=True)
+        look(judged.returncode in (1, 7), f"{case.name}, kill {number}: a mix is judged {judged.stdout!r}")
+        answer = " ".join(judged.stdout.split()[:3])
+        answers[answer] = answers.get(answer, 0) + 1
     if others:
         look(case.run() == case.printed, f"{case.name}, kill {number}: the next run ends otherwise")
         look(texts_of(case.folder) == case.after, f"{case.name}, kill {number}: the next run leaves {sorted(texts_of(case.folder))}")
@@ -130,13 +138,14 @@ def kill(case, chance, number):
 
 
 def kills(cases, count, chance):
-    counts, left = {}, 0
+    counts, answers, left = {}, {}, 0
     for number in range(count):
-        how, has_left = kill(cases[number // 2 % len(cases)], chance, number)
+        how, has_left = kill(cases[number // 2 % len(cases)], chance, number, answers)
         counts[how] = counts.get(how, 0) + 1
         left += has_left
     said = ", ".join(f"{counts[it]} {it}" for it in sorted(counts))
     print(f"{count} kills: {said}; {left} left a file that was begun, which the next run took away")
+    print("check of those with some new: " + ", ".join(f"{answers[it]} {it}" for it in sorted(answers)))
 
 
 def faulted(case, what, folder, **how):
