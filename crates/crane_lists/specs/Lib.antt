@@ -1,0 +1,4 @@
+pub mod Tasks
+pub mod Bays
+pub mod Rounds
+pub mod Least
