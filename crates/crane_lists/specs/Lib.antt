@@ -2,3 +2,4 @@ pub mod Tasks
 pub mod Bays
 pub mod Rounds
 pub mod Least
+pub mod Reaches

@@ -12,12 +12,16 @@ use Rattle.crane_lists.specs.declared.tasks.Task.{Task}
 abbrev pub stack_of : Ship → ℕ → ℕ
 stack_of ship p = (place_at ship p).stack
 
+-- the cover is over or under the stack
+abbrev pub IsCoverOf : Ship → ℕ → ℕ → Type 0
+IsCoverOf ship s k = LiesUnder ship s k ⊎ StandsOn ship s k
+
 -- a lift or put touches its stack, a cover move all stacks of its cover
 abbrev pub Touches : Ship → Move → ℕ → Type 0
 Touches ship (Lift p) s = s ≡ stack_of ship p
 Touches ship (Put c p) s = s ≡ stack_of ship p
-Touches ship (OffCover k) s = LiesUnder ship s k ⊎ StandsOn ship s k
-Touches ship (OnCover k) s = LiesUnder ship s k ⊎ StandsOn ship s k
+Touches ship (OffCover k) s = IsCoverOf ship s k
+Touches ship (OnCover k) s = IsCoverOf ship s k
 
 -- the cover that a move names
 abbrev pub cover_of : Move → Option ℕ
@@ -52,7 +56,7 @@ named s m = named_in s.plan m
 -- two tasks touch no common stack, and name no common container and no common cover
 pub record AreIndependent (ship : Ship) (t u : Task) : Type 0 where
   pub no_stack : (s : ℕ) → Touches ship t.step s → Touches ship u.step s → ⊥
-  pub no_box : (c : ℕ) → t.container ≡ Some c → u.container ≡ Some c → ⊥
+  pub no_container : (c : ℕ) → t.container ≡ Some c → u.container ≡ Some c → ⊥
   pub no_cover : (k : ℕ) → cover_of t.step ≡ Some k → cover_of u.step ≡ Some k → ⊥
 
 -- the task may be done: its move is allowed, and it names the container that it lifts or puts

@@ -60,7 +60,8 @@ pub fn containers_of(
 {
     let mut plan = before.copy(alloc)?;
     let mut lifted = Seq::new(alloc);
-    for m in moves {
+    let steps = moves.as_slice();
+    for m in steps {
         lifted.push(named(&plan, m))?;
         carry_out(&mut plan, m);
     }

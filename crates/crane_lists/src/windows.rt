@@ -1,5 +1,5 @@
 //! The number of rounds below which no crane list comes.
-ghost use Rattle.std.specs.Prelude.{◌≡◌, ◌≤◌, ◌<◌, ◌^◌, ℕ, cond, length};
+ghost use Rattle.std.specs.Prelude.{◌≡◌, ◌≤◌, ◌<◌, ◌^◌, ℕ, cond, length, max};
 ghost use Rattle.crane_lists.specs.Least.{IsLeastRounds, is_in_window, window_count};
 
 use crate::bays::bay_of_move;
@@ -26,10 +26,20 @@ fn count_window(ship: &Ship, b: u32, moves: &MoveList) -> u32
     ensures { result ≡ window_count ship.now b moves.now }
 {
     let mut count = 0;
-    for m in moves {
+    let steps = moves.as_slice();
+    for m in steps {
         count += mark(ship, b, m);
     }
     count
+}
+
+/// The greater of a number and that of the moves in a window.
+fn greater(ship: &Ship, b: u32, moves: &MoveList, most: u32) -> u32
+    requires first { b ≤ 998 }
+    requires few { length moves.now < 2 ^ 32 }
+    ensures { result ≡ max most (window_count ship.now b moves.now) }
+{
+    most.max(count_window(ship, b, moves))
 }
 
 /// The greatest number of moves in one window of eight bays.
@@ -40,7 +50,7 @@ fn fullest_window(ship: &Ship, moves: &MoveList) -> u32
 {
     let mut most = 0;
     for b in 0..LAST_BAY + 1 {
-        most = most.max(count_window(ship, b, moves));
+        most = greater(ship, b, moves, most);
     }
     ship.obeys_rules();
     most

@@ -1,0 +1,11 @@
+pub mod Looks
+pub mod Writes
+pub mod Commuting
+pub mod Rearranging
+pub mod Orders
+pub mod Shared
+pub mod Berthed
+pub mod Bounding
+pub mod Reaching
+pub mod Naming
+pub mod Windowing
