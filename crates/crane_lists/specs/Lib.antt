@@ -3,3 +3,4 @@ pub mod Bays
 pub mod Rounds
 pub mod Least
 pub mod Reaches
+pub mod Sharing
