@@ -46,7 +46,7 @@ total_ones : (xs : List ℕ) → total (λ x. 1) xs ≡ length xs
 total_ones [] = refl
 total_ones (x ∷ xs) = omega (arith, total_ones xs)
 
-every_under : {X : Type 0} (P Q : X → Type 0) (xs : List X) → ((x : X) → P x → Q x) → Every P xs → Every Q xs
+pub every_under : {X : Type 0} (P Q : X → Type 0) (xs : List X) → ((x : X) → P x → Q x) → Every P xs → Every Q xs
 every_under P Q [] go h = tt
 every_under P Q (x ∷ xs) go h = (go x h.0, every_under P Q xs go h.1)
 

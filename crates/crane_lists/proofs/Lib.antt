@@ -9,3 +9,7 @@ pub mod Bounding
 pub mod Reaching
 pub mod Naming
 pub mod Windowing
+pub mod Making
+pub mod Further
+pub mod Finishing
+pub mod Steps

@@ -47,7 +47,7 @@ pair_of R (x ∷ xs) turn h a b (inr i) (inl f) = inr (turn b a (subst (λ w. R 
 pair_of R (x ∷ xs) turn h a b (inr i) (inr j) = pair_of R xs turn h.1 a b i j
 
 -- items of a list that are all apart, and what holds of each two different ones
-pairs_from : {X : Type 0} (R : X → X → Type 0) (xs : List X) → EachPair (λ a b. a ≢ b) xs → ((a b : X) → In a xs → In b xs → (a ≡ b → ⊥) → R a b) → EachPair R xs
+pub pairs_from : {X : Type 0} (R : X → X → Type 0) (xs : List X) → EachPair (λ a b. a ≢ b) xs → ((a b : X) → In a xs → In b xs → (a ≡ b → ⊥) → R a b) → EachPair R xs
 pairs_from R [] once h = tt
 pairs_from R (x ∷ xs) once h = (every_from (R x) xs (λ y i. h x y (inl refl) (inr i) (every_in (λ z. x ≢ z) xs y once.0 i)), pairs_from R xs once.1 (λ a b i j ne. h a b (inr i) (inr j) ne))
 

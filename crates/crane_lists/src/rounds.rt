@@ -162,7 +162,8 @@ fn consider(
     if has_near(ship, tasks, round.as_slice(), j) {
         return Ok(());
     }
-    enter(ship, tasks, round, j)
+    enter(ship, tasks, round, j)?;
+    Ok(())
 }
 
 /// The next round: of the tasks in this order each that may go, while the round has room and none in it is too near.

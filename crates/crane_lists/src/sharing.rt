@@ -65,7 +65,8 @@ fn add_round(
 {
     let round = next_round(alloc, ship, tasks, cranes, order, board)?;
     mark(&mut board.done, round.as_slice());
-    board.rounds.push(round)
+    board.rounds.push(round)?;
+    Ok(())
 }
 
 /// Makes rounds until each task stands in one.
