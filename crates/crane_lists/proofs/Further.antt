@@ -1,5 +1,5 @@
 -- A round more keeps what the rounds so far have.
-use Rattle.std.specs.Prelude.{◌≡◌, ◌≢◌, ◌⊎◌, ◌↔◌, ℕ, zero, suc, ◌+◌, ◌≤◌, ◌<◌, Bool, true, false, cond, List, [], ◌∷◌, ◌++◌, Option, Some, All, length, slice_get, slice_index_or}
+use Rattle.std.specs.Prelude.{◌≡◌, ◌≢◌, ◌⊎◌, ◌↔◌, ℕ, zero, suc, ◌≤◌, ◌<◌, Bool, true, false, cond, List, [], ◌∷◌, ◌++◌, All, length}
 use Rattle.std.proofs.Common.{refl, sym, ◌∙◌, ap, arith, subst, inl, inr, ⊎_elim, append_assoc, append-nil}
 use Rattle.std.proofs.lemmas.Bool.{cases_lt}
 use Rattle.std.proofs.lemmas.List.Elements.{All-cons, All-nil}
@@ -8,9 +8,9 @@ use Rattle.crane_lists.specs.declared.tasks.Task.{Task}
 use Rattle.crane_lists.specs.declared.rounds.Board.{Board}
 use Rattle.crane_lists.specs.Tasks.{AreIndependent}
 use Rattle.crane_lists.specs.Rounds.{Every, EachPair, In, joined, task_at, bay_at, HasCause, IsRound, KeepOrder}
-use Rattle.crane_lists.specs.Sharing.{HasAll, HoldsFrom, IsBoard, IsFurther, IsMaking, IsSettled, IsShared, LeftOut, MayGo, WasTried, is_set, left}
+use Rattle.crane_lists.specs.Sharing.{HasAll, IsBoard, IsFurther, IsMaking, IsSettled, IsShared, LeftOut, MayGo, WasTried, is_set, left}
 use Rattle.crane_lists.proofs.Commuting.{swapped_sides}
-use Rattle.crane_lists.proofs.Orders.{every_in, every_from, in_left, in_right, in_cases, pairs_joined}
+use Rattle.crane_lists.proofs.Orders.{every_in, in_left, in_right, in_cases, pairs_joined}
 use Rattle.crane_lists.proofs.Shared.{pairs_from}
 use Rattle.crane_lists.proofs.Bounding.{every_under}
 use Rattle.crane_lists.proofs.Making.{Rises, every_push}
@@ -172,8 +172,10 @@ further ship ts cranes order round old new adds some = ⊎_elim (λ all. absurd 
               inside = adds.board.inside;
               settled = λ j n i at lt. settled_more ship ts old.done new.done i j (to i) (adds.board.settled j n i at lt);
             };
-            each = λ i. (λ set. subst (In i) (sym all) (⊎_elim (λ was. in_left (joined old.rounds) round i ((so.each i).0 was)) (λ h. in_right (joined old.rounds) round i h) ((adds.marks i).0 set)),
-                λ h. (adds.marks i).1 (⊎_elim (λ was. inl ((so.each i).1 was)) (λ k. inr k) (in_cases (joined old.rounds) round i (subst (In i) all h))));
+            each = λ i. (
+              λ set. subst (In i) (sym all) (⊎_elim (λ was. in_left (joined old.rounds) round i ((so.each i).0 was)) (λ h. in_right (joined old.rounds) round i h) ((adds.marks i).0 set)),
+              λ h. (adds.marks i).1 (⊎_elim (λ was. inl ((so.each i).1 was)) (λ k. inr k) (in_cases (joined old.rounds) round i (subst (In i) all h))),
+            );
             once = subst (EachPair (λ i j. i ≢ j)) (sym all) (pairs_joined (λ i j. i ≢ j) (joined old.rounds) round so.once
                 (pairs_under (Rises ship ts) (λ i j. i ≢ j) round (λ i j up e. let same : bay_at ship ts i ≡ bay_at ship ts j = ap (bay_at ship ts) e in omega (arith, up, same)) m.apart)
                 (λ i j h k e. clash (is_set old.done j) ((so.each j).1 (subst (λ (n : ℕ). In n (joined old.rounds)) e h)) (goes j k).waits));

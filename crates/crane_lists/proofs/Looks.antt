@@ -1,10 +1,10 @@
 -- What a task looks at, and that an independent one leaves that as it is.
-use Rattle.std.specs.Prelude.{◌≡◌, ◌⊎◌, ℕ, Option, Some, None, slice_get}
+use Rattle.std.specs.Prelude.{◌≡◌, ℕ, Option, Some, None, slice_get}
 use Rattle.std.proofs.Common.{refl, sym, ◌∙◌, ap, subst, inl, inr}
 use Rattle.std.proofs.lemmas.Option.{get_or_from_slice_get}
 use Rattle.stow_data.specs.declared.geometry.Half.{Half}
 use Rattle.stow_data.specs.declared.geometry.Place.{Place}
-use Rattle.stow_data.specs.Ship.{Ship, places, half_at, half_over, LiesUnder, StandsOn}
+use Rattle.stow_data.specs.Ship.{Ship, places, half_at, half_over}
 use Rattle.stow_data.specs.Shipment.{Cargo}
 use Rattle.stow_data.specs.Plans.{Plan, no_place, held}
 use Rattle.stowage_rules.specs.Plan.{Holds, Fills}

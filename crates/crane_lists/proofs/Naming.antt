@@ -1,13 +1,12 @@
 -- What moves lift or put, one after the other.
-use Rattle.std.specs.Prelude.{◌≡◌, ℕ, suc, ◌<◌, ◌+◌, ◌≤◌, List, [], ◌∷◌, ◌++◌, Option, length}
-use Rattle.std.proofs.Common.{refl, sym, ◌∙◌, ap, arith, drop, append-nil}
+use Rattle.std.specs.Prelude.{◌≡◌, ℕ, suc, ◌≤◌, List, [], ◌∷◌, ◌++◌, Option, length}
+use Rattle.std.proofs.Common.{refl, sym, ◌∙◌, ap, drop, append-nil}
 use Rattle.std.proofs.lemmas.List.{drop_all}
 use Rattle.stow_data.specs.Shipment.{Cargo}
 use Rattle.stow_data.specs.Plans.{Plan}
 use Rattle.voyage_meaning.specs.declared.moves.Move.{Move}
 use Rattle.voyage_meaning.specs.declared.moves.Move.TheVariants.{OffCover, OnCover, Lift, Put}
 use Rattle.voyage_meaning.specs.Moves.{State, after}
-use Rattle.crane_lists.specs.declared.tasks.Task.{Task}
 use Rattle.crane_lists.specs.Tasks.{carried_out, named_from, named_in, tasks_of, tasks_with}
 
 pub named_each : (plan : Plan) (moves : List Move) → length (named_from plan moves) ≡ length moves

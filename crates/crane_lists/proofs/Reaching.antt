@@ -1,9 +1,7 @@
 -- Two tasks are independent where what they reach is apart and they name no common container.
-use Rattle.std.specs.Prelude.{◌≡◌, ◌⊎◌, ℕ, ◌+◌, ◌-◌, ◌*◌, ◌≤◌, List, Option, Some, None, All, length, slice_get, slice_index_or}
+use Rattle.std.specs.Prelude.{◌≡◌, ℕ, ◌+◌, ◌-◌, ◌*◌, ◌≤◌, List, Some, All, slice_get}
 use Rattle.std.proofs.Common.{refl, sym, ◌∙◌, ap, arith, subst, inl, inr}
 use Rattle.std.proofs.lemmas.Option.{get_or_from_slice_get, slice_get_within}
-use Rattle.stow_data.specs.declared.geometry.Cover.{Cover}
-use Rattle.stow_data.specs.declared.geometry.Stack.{Stack}
 use Rattle.stow_data.specs.Ship.{Ship, LiesUnder, StandsOn}
 use Rattle.stow_data.specs.Profile.{IsShip, IsCover, IsInHold, IsOnDeck}
 use Rattle.stow_data.proofs.OneCover.{one_over, one_under}
@@ -12,7 +10,7 @@ use Rattle.voyage_meaning.specs.declared.moves.Move.TheVariants.{OffCover, OnCov
 use Rattle.crane_lists.specs.declared.tasks.Task.{Task}
 use Rattle.crane_lists.specs.declared.pairs.Reach.{Reach}
 use Rattle.crane_lists.specs.declared.pairs.Reach.TheVariants.{OneStack, AllOf}
-use Rattle.crane_lists.specs.Tasks.{AreIndependent, IsCoverOf, Touches, cover_of, stack_of}
+use Rattle.crane_lists.specs.Tasks.{AreIndependent, IsCoverOf, Touches, cover_of}
 use Rattle.crane_lists.specs.Reaches.{AreApart, SharesContainer, reach_of}
 
 all_at : {X : Type 0} (P : X → Type 0) (xs : List X) (k : ℕ) (x : X) → All P xs → slice_get xs k ≡ Some x → P x

@@ -1,5 +1,5 @@
 -- Single steps of the sharing.
-use Rattle.std.specs.Prelude.{◌≡◌, ◌≢◌, ◌⊎◌, ◌↔◌, ℕ, zero, suc, ◌+◌, ◌≤◌, ◌<◌, Bool, true, false, nat_le, List, [], ◌∷◌, ◌++◌, Option, Some, None, All, Contains, MatchBool, length, replicate, slice_get, slice_set, slice_index_or}
+use Rattle.std.specs.Prelude.{◌≡◌, ◌≢◌, ◌⊎◌, ◌↔◌, ℕ, zero, suc, ◌+◌, ◌≤◌, ◌<◌, Bool, true, false, nat_le, List, [], ◌∷◌, ◌++◌, Option, Some, All, Contains, MatchBool, length, replicate, slice_get, slice_set, slice_index_or}
 use Rattle.std.specs.List.Sorted.{IsPermutation}
 use Rattle.std.proofs.Common.{refl, sym, ◌∙◌, ap, arith, subst, inl, inr, ⊎_elim, take, get_or-set_other, get_or-set_same}
 use Rattle.std.proofs.lemmas.Bool.{cases_lt, cases_eq, leb-true, leb-false}
@@ -12,7 +12,7 @@ use Rattle.crane_lists.specs.declared.tasks.Task.{Task}
 use Rattle.crane_lists.specs.declared.rounds.Board.{Board}
 use Rattle.crane_lists.specs.Tasks.{tasks_with}
 use Rattle.crane_lists.specs.Rounds.{Every, EachPair, In, joined, IsRound, KeepOrder}
-use Rattle.crane_lists.specs.Sharing.{HasAll, Holds, HoldsFrom, IsBoard, IsSettled, IsShared, LeftOut, MayGo, MayNotGo, is_set}
+use Rattle.crane_lists.specs.Sharing.{HasAll, Holds, IsBoard, IsSettled, IsShared, LeftOut, MayGo, MayNotGo, is_set}
 use Rattle.crane_lists.proofs.Orders.{in_cases, in_left, in_right}
 use Rattle.crane_lists.proofs.Making.{in_at}
 use Rattle.crane_lists.proofs.Further.{clash}
@@ -53,9 +53,10 @@ mark_more start flags new xs k x low is inside marks e i =
     ⊎_elim
     (λ (same : i ≡ x). let set : is_set new i ≡ true = ap (λ (fs : List Bool). is_set fs i) e ∙ (ap (is_set (slice_set flags x true)) same ∙ get_or-set_same flags x true false inside) in
     (λ h. inr (subst (In i) (sym more) (in_right (take k xs) (x ∷ []) i (inl same))), λ h. set))
-    (λ (ne : i ≡ x → ⊥). let kept : is_set new i ≡ is_set flags i = ap (λ (fs : List Bool). is_set fs i) e ∙ get_or-set_other flags x i true false ne in
-    (λ h. ⊎_elim (λ s. inl s) (λ n. inr (subst (In i) (sym more) (in_left (take k xs) (x ∷ []) i n))) ((marks i).0 (sym kept ∙ h)),
-        λ h. kept ∙ (marks i).1 (⊎_elim (λ s. inl s) (λ n. inr (⊎_elim (λ a. a) (λ b. ⊎_elim (λ (same : i ≡ x). absurd (ne same)) (λ (never : ⊥). absurd never) b) (in_cases (take k xs) (x ∷ []) i (subst (In i) more n)))) h)))
+    (λ (ne : i ≡ x → ⊥). let kept : is_set new i ≡ is_set flags i = ap (λ (fs : List Bool). is_set fs i) e ∙ get_or-set_other flags x i true false ne in (
+      λ h. ⊎_elim (λ s. inl s) (λ n. inr (subst (In i) (sym more) (in_left (take k xs) (x ∷ []) i n))) ((marks i).0 (sym kept ∙ h)),
+      λ h. kept ∙ (marks i).1 (⊎_elim (λ s. inl s) (λ n. inr (⊎_elim (λ a. a) (λ b. ⊎_elim (λ (same : i ≡ x). absurd (ne same)) (λ (never : ⊥). absurd never) b) (in_cases (take k xs) (x ∷ []) i (subst (In i) more n)))) h),
+    ))
     (cases_eq i x)
 
 -- whether a task may go, by the first that holds it up

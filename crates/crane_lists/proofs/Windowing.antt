@@ -1,6 +1,6 @@
 -- No bay is above 998.
-use Rattle.std.specs.Prelude.{◌≡◌, ◌⊎◌, ℕ, ◌+◌, ◌≤◌, ◌<◌, Bool, true, false, ◌&&◌, cond, nat_le, min, List, [], ◌∷◌, ◌++◌, Option, Some, None, MatchOption, length, fold, slice_get, slice_index_or}
-use Rattle.std.proofs.Common.{refl, sym, ◌∙◌, ap, arith, subst, ⊎_elim}
+use Rattle.std.specs.Prelude.{◌≡◌, ℕ, ◌+◌, ◌≤◌, ◌<◌, Bool, true, false, ◌&&◌, cond, nat_le, List, [], ◌∷◌, ◌++◌, Option, Some, None, length, fold, slice_get}
+use Rattle.std.proofs.Common.{refl, ap, arith, ⊎_elim}
 use Rattle.std.proofs.lemmas.List.{get_or_past}
 use Rattle.std.proofs.lemmas.Bool.{leb-true, cases_lt}
 use Rattle.stow_data.specs.declared.geometry.Cover.{Cover}

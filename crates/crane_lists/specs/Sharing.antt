@@ -1,5 +1,5 @@
 -- How rounds are made, one after the other, and what is kept between them.
-use Rattle.std.specs.Prelude.{◌≡◌, ◌≢◌, ◌⊎◌, ◌↔◌, ℕ, suc, ◌+◌, ◌≤◌, ◌<◌, Bool, true, false, cond, nat_lt, List, [], ◌∷◌, ◌++◌, All, Any, length, slice_get, slice_index_or, Some}
+use Rattle.std.specs.Prelude.{◌≡◌, ◌≢◌, ◌⊎◌, ◌↔◌, ℕ, suc, ◌+◌, ◌≤◌, ◌<◌, Bool, true, false, cond, nat_lt, List, [], ◌∷◌, ◌++◌, All, length, slice_get, slice_index_or, Some}
 use Rattle.stow_data.specs.Ship.{Ship}
 use Rattle.crane_lists.specs.declared.tasks.Task.{Task}
 use Rattle.crane_lists.specs.declared.rounds.Board.{Board}

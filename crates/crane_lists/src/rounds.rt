@@ -39,13 +39,7 @@ fn holds(ship: &Ship, tasks: &[Task], done: &FlagList, i: usize, j: usize) -> bo
 }
 
 /// The first task from one on that holds another one up, or that other one.
-fn first_holding(
-    ship: &Ship,
-    tasks: &[Task],
-    done: &FlagList,
-    from: usize,
-    j: usize,
-) -> usize
+fn first_holding(ship: &Ship, tasks: &[Task], done: &FlagList, from: usize, j: usize) -> usize
     requires order { from ≤ j }
     requires inside { j < length tasks.now }
     requires each { length done.now ≡ length tasks.now }

@@ -12,11 +12,7 @@ use stow_data::{FlagList, NoMemory, Seq, Ship};
 use voyage_meaning::MoveList;
 
 /// Moves with what each lifts or puts.
-fn pair_up(
-    alloc: Global,
-    moves: &MoveList,
-    lifted: &ContainerList2,
-) -> Result<Seq<Task>, NoMemory>
+fn pair_up(alloc: Global, moves: &MoveList, lifted: &ContainerList2) -> Result<Seq<Task>, NoMemory>
     requires { length lifted.now ≡ length moves.now }
     ensures { IfOk result (λ tasks. tasks ≡ tasks_with moves.now lifted.now) }
 {

@@ -23,7 +23,13 @@ fn named(plan: &Plan, m: &Move) -> Option<ContainerNo>
     ensures { result ≡ named_in plan.now m.now }
 {
     match *m {
-        Move::Lift(p) => { if (p.0 as usize) < plan.len() { plan.at(p) } else { None } }
+        Move::Lift(p) => {
+            if (p.0 as usize) < plan.len() {
+                plan.at(p)
+            } else {
+                None
+            }
+        }
         Move::Put(c, _) => Some(c),
         Move::OffCover(_) | Move::OnCover(_) => None,
     }

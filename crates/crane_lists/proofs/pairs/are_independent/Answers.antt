@@ -1,7 +1,7 @@
-use Rattle.std.proofs.Common.{◌≡◌, ap, subst, sym, rules}
+use Rattle.std.proofs.Common.{subst, sym, rules}
 use Rattle.crane_lists.specs.declared.pairs.Reach.{Reach}
-use Rattle.crane_lists.specs.Reaches.{AreApart, SharesContainer, reach_of}
-use Rattle.crane_lists.proofs.Reaching.{independent_from, independent_apart, independent_other}
+use Rattle.crane_lists.specs.Reaches.{AreApart, reach_of}
+use Rattle.crane_lists.proofs.Reaching.{independent_from, independent_apart}
 use Rattle.crane_lists.proofs.pairs.are_independent.Goals as goal
 
 pub returns : goal.returns

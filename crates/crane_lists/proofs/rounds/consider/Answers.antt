@@ -1,4 +1,4 @@
-use Rattle.std.proofs.Common.{◌≡◌, ◌<◌, ◌++◌, ◌∷◌, [], List, ap, arith, inr, length, subst, sym, ℕ}
+use Rattle.std.proofs.Common.{◌≡◌, ◌<◌, ◌++◌, ◌∷◌, [], ap, arith, inr, length, subst, sym}
 use Rattle.std.specs.Prelude.{All, Any}
 use Rattle.crane_lists.specs.Sharing.{IsFar, IsMaking, IsNear}
 use Rattle.crane_lists.proofs.Making.{making_with, making_without, near_in}

@@ -1,4 +1,4 @@
-use Rattle.std.proofs.Common.{◌≤◌, ◌∙◌, ℕ, ap, arith, length}
+use Rattle.std.proofs.Common.{◌∙◌, ℕ, ap, arith}
 use Rattle.std.specs.List.{insert}
 use Rattle.crane_lists.specs.Sharing.{place_for}
 use Rattle.crane_lists.proofs.Making.{inserted, place_low}

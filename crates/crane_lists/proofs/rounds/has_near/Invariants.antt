@@ -1,4 +1,3 @@
-use Rattle.std.proofs.Common.{ℕ, ◌<◌}
 use Rattle.std.specs.List.{AllWithin}
 use Rattle.crane_lists.specs.Sharing.{IsFar}
 use Rattle.crane_lists.proofs.rounds.has_near.Given as goal

@@ -1,4 +1,4 @@
-use Rattle.std.proofs.Common.{◌∙◌, false, sym}
+use Rattle.std.proofs.Common.{◌∙◌, false}
 use Rattle.std.proofs.lemmas.Option.{get_or_from_slice_get}
 use Rattle.crane_lists.proofs.Steps.{board_set, go_answer}
 use Rattle.crane_lists.proofs.rounds.may_go.Goals as goal

@@ -1,4 +1,4 @@
-use Rattle.std.proofs.Common.{◌≡◌, ◌↔◌, ◌⊎◌, ◌∙◌, ◌++◌, ◌∷◌, [], List, Bool, ap, subst, sym, true, length, ℕ}
+use Rattle.std.proofs.Common.{◌≡◌, ◌↔◌, ◌⊎◌, ◌∙◌, ◌++◌, ◌∷◌, [], List, Bool, ap, subst, true, length, ℕ}
 use Rattle.crane_lists.specs.Rounds.{In}
 use Rattle.crane_lists.specs.Sharing.{IsBoard, is_set}
 use Rattle.crane_lists.proofs.Further.{further}

@@ -1,4 +1,4 @@
-use Rattle.std.proofs.Common.{◌≡◌, ◌<◌, ◌∙◌, ap, arith, get_or, length, length-set, refl, true}
+use Rattle.std.proofs.Common.{◌<◌, ◌∙◌, ap, arith, get_or, length, length-set, refl, true}
 use Rattle.crane_lists.proofs.Steps.{mark_more}
 use Rattle.crane_lists.proofs.sharing.mark.Goals as goal
 

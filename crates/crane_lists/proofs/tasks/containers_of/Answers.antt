@@ -1,6 +1,6 @@
-use Rattle.std.proofs.Common.{◌≡◌, ◌∙◌, ap, ◌≤◌, subst, length, List, Option, ℕ, Some}
+use Rattle.std.proofs.Common.{◌∙◌, ap, ◌≤◌, subst, length, List}
 use Rattle.voyage_meaning.specs.declared.moves.Move.{Move}
-use Rattle.crane_lists.specs.Tasks.{named_from, tasks_with}
+use Rattle.crane_lists.specs.Tasks.{tasks_with}
 use Rattle.crane_lists.proofs.Naming.{named_all, named_each, tasks_named}
 use Rattle.crane_lists.proofs.tasks.containers_of.Goals as goal
 

@@ -1,4 +1,4 @@
-use Rattle.std.proofs.Common.{◌≤◌, ◌<◌, ℕ, arith, below_more}
+use Rattle.std.proofs.Common.{◌≤◌, ℕ, arith, below_more}
 use Rattle.crane_lists.specs.Least.{window_count}
 use Rattle.crane_lists.proofs.Windowing.{fullest}
 use Rattle.crane_lists.proofs.windows.fullest_window.Goals as goal
