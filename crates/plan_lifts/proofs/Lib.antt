@@ -14,3 +14,4 @@ pub mod LiftsHold
 pub mod Picked
 pub mod Sailing
 pub mod Naming
+pub mod Exactly

@@ -17,12 +17,12 @@ use Rattle.voyage_meaning.specs.Moves.{lift_count, rehandles}
 use Rattle.voyage_meaning.specs.Voyage.{start, LeadsTo, IsVoyage, IsLegalVoyage, HasCount, count, voyage_count}
 use Rattle.plan_lifts.specs.Least.{IsClosed, IsLeastClosed, IsFilled, IsDivided, AreLeast, counted}
 use Rattle.plan_lifts.specs.Spread.{IsHeldIn, IsOpened}
-use Rattle.plan_lifts.specs.Lifted.{AreLifted, AreListed, IsListed, SailsLeast}
+use Rattle.plan_lifts.specs.Lifted.{AreLifted, AreListed, IsListed, SailsLeast, lifts_weight}
 use Rattle.plan_lifts.specs.Passes.{IsCallMoves, IsOnCover, Sets, IsListedAt, put_of, puts_from}
 use Rattle.plan_lifts.proofs.Order.{over_is_later}
 use Rattle.plan_lifts.proofs.Closed.{same_cell, same_cell_true, same_cell_itself, is_held, held_by}
 use Rattle.plan_lifts.proofs.Upper.{Facts, moves, moves_reach}
-use Rattle.plan_lifts.proofs.Exact.{moves_count}
+use Rattle.plan_lifts.proofs.Exact.{moves_count, moves_weigh}
 use Rattle.plan_lifts.proofs.Voyages.{call_counts}
 use Rattle.plan_lifts.proofs.Whole.{InOrder, ship_is_divided, cargo_in_order}
 
@@ -92,6 +92,16 @@ passes_lead ship cargo earlier old new lifted moved deck opened due ms divided i
       record { allowed = reach.0; plan = reach.1.plan; quay_empty = reach.1.quay_empty; covers_on = reach.1.covers_on; departure = departs },
       moves_count ship cargo (suc earlier) old new lifted moved deck opened due facts,
     )
+
+-- and weigh the set, by any weight
+pub passes_weigh : (w : Option ℕ → ℕ) (ship : Ship) (cargo : Cargo) (earlier : ℕ) (old new : Plan) (lifted moved deck opened due : ℕ → Bool) (ms : List Move)
+    → IsDivided ship → InOrder cargo → IsStowed ship cargo earlier old → IsDeparture ship cargo (suc earlier) new
+    → IsClosed ship old new lifted → IsFilled old lifted → Sets ship old new lifted moved deck opened due
+    → ((facts : Facts ship cargo (suc earlier) old new lifted moved deck opened due) → ms ≡ moves ship cargo (suc earlier) old new lifted moved deck opened due facts)
+    → lifts_weight w cargo (suc earlier) (start ship cargo (suc earlier) old) ms ≡ counted w lifted old
+passes_weigh w ship cargo earlier old new lifted moved deck opened due ms divided in_order before departs closed filled sets made =
+    let facts = facts_of ship cargo earlier old new lifted moved deck opened due divided in_order before departs closed filled sets in
+    ap (λ (x : List Move). lifts_weight w cargo (suc earlier) (start ship cargo (suc earlier) old) x) (made facts) ∙ moves_weigh w ship cargo (suc earlier) old new lifted moved deck opened due facts
 
 -- a least closed set is filled
 pub least_filled : (ship : Ship) (before after : Plan) (set : ℕ → Bool) → IsLeastClosed ship before after set → IsFilled before set

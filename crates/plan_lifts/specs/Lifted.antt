@@ -1,14 +1,14 @@
 -- What is lifted over a voyage, and the first departure that breaks a rule.
-use Rattle.std.specs.Prelude.{◌≡◌, ◌↔◌, ◌⊎◌, ℕ, ◌*◌, ◌<◌, ◌≤◌, ◌++◌, length, suc, Bool, true, List, [], ◌∷◌, AllPairs, Contains}
+use Rattle.std.specs.Prelude.{◌≡◌, ◌↔◌, ◌⊎◌, ℕ, ◌+◌, ◌*◌, ◌<◌, ◌≤◌, ◌++◌, length, suc, Bool, true, List, [], ◌∷◌, Option, Some, None, AllPairs, Contains}
 use Rattle.stow_data.specs.Ship.{Ship}
 use Rattle.stow_data.specs.Shipment.{Cargo}
-use Rattle.stow_data.specs.Plans.{Plan}
+use Rattle.stow_data.specs.Plans.{Plan, held}
 use Rattle.stowage_rules.specs.declared.faults.RuleBroken.{RuleBroken}
 use Rattle.stowage_rules.specs.Plan.{Holds, IsWellFormed}
 use Rattle.stowage_rules.specs.Departure.{HoldsAboard, AreDepartures}
 use Rattle.stowage_rules.specs.Faults.{MeetsRules, IsFirstFault}
 use Rattle.voyage_meaning.specs.declared.moves.Move.{Move}
-use Rattle.voyage_meaning.specs.declared.moves.Move.TheVariants.{Lift}
+use Rattle.voyage_meaning.specs.declared.moves.Move.TheVariants.{OffCover, OnCover, Lift, Put}
 use Rattle.voyage_meaning.specs.Moves.{State, after}
 use Rattle.voyage_meaning.specs.Voyage.{start, IsVoyage, count}
 use Rattle.plan_lifts.specs.Least.{AreClosed, AreLeast, counted_all}
@@ -67,6 +67,41 @@ LiftAll ship cargo call before [] (after ∷ plans) lists = ⊥
 LiftAll ship cargo call before (moves ∷ voyage) [] lists = ⊥
 LiftAll ship cargo call before (moves ∷ voyage) (after ∷ plans) [] = ⊥
 
+-- what a move weighs by the container that it lifts
+abbrev pub lift_weight : (Option ℕ → ℕ) → State → Move → ℕ
+lift_weight w s (Lift p) = w (held s.plan p)
+lift_weight w s (Put c p) = 0
+lift_weight w s (OffCover k) = 0
+lift_weight w s (OnCover k) = 0
+
+-- what moves weigh by the containers that they lift
+abbrev pub lifts_weight : (Option ℕ → ℕ) → Cargo → ℕ → State → List Move → ℕ
+lifts_weight w cargo call s [] = 0
+lifts_weight w cargo call s (m ∷ ms) = lift_weight w s m + lifts_weight w cargo call (after cargo call s m) ms
+
+-- a weight of containers, 0 for none
+abbrev pub or_none : (ℕ → ℕ) → Option ℕ → ℕ
+or_none h None = 0
+or_none h (Some c) = h c
+
+-- what the containers of a list weigh
+abbrev pub list_weight : (ℕ → ℕ) → List ℕ → ℕ
+list_weight h [] = 0
+list_weight h (c ∷ cs) = h c + list_weight h cs
+
+-- moves lift exactly the containers of a list, each once, and no other: by each weight they weigh what the list does
+abbrev pub LiftsExactly : Cargo → ℕ → State → List Move → List ℕ → Type 0
+LiftsExactly cargo call s moves list = (h : ℕ → ℕ) → lifts_weight (or_none h) cargo call s moves ≡ list_weight h list
+
+-- the same at each call
+abbrev pub LiftEachExactly : Ship → Cargo → ℕ → Plan → List (List Move) → List Plan → List (List ℕ) → Type 0
+LiftEachExactly ship cargo call before (moves ∷ voyage) (after ∷ plans) (list ∷ lists) = LiftsExactly cargo call (start ship cargo call before) moves list × LiftEachExactly ship cargo (suc call) after voyage plans lists
+LiftEachExactly ship cargo call before [] [] [] = Unit {0}
+LiftEachExactly ship cargo call before [] [] (list ∷ lists) = ⊥
+LiftEachExactly ship cargo call before [] (after ∷ plans) lists = ⊥
+LiftEachExactly ship cargo call before (moves ∷ voyage) [] lists = ⊥
+LiftEachExactly ship cargo call before (moves ∷ voyage) (after ∷ plans) [] = ⊥
+
 -- of the plans of the calls from one on, that of call `at` is the first that breaks a rule, and this is its first fault
 abbrev pub IsFirstIllegal : Ship → Cargo → ℕ → List Plan → ℕ → RuleBroken → Type 0
 IsFirstIllegal ship cargo call [] at rule = ⊥
@@ -95,3 +130,9 @@ pub record SailsLeast (ship : Ship) (cargo : Cargo) (call : ℕ) (before : Plan)
   pub appended : new ≡ old ++ voyage
   pub legal : IsVoyage ship cargo call before voyage plans
   pub least : (other : List (List Move)) → IsVoyage ship cargo call before other plans → count ship cargo call before voyage plans ≤ count ship cargo call before other plans
+
+-- moves for each call from one on are appended, which lift exactly what the lists have
+pub record LiftsAppended (ship : Ship) (cargo : Cargo) (call : ℕ) (before : Plan) (plans : List Plan) (lists : List (List ℕ)) (old new : List (List Move)) : Type 0 where
+  pub voyage : List (List Move)
+  pub appended : new ≡ old ++ voyage
+  pub exact : LiftEachExactly ship cargo call before voyage plans lists

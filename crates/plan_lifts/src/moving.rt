@@ -7,7 +7,7 @@ ghost use Rattle.stowage_rules.specs.Departure.{AreDepartures, HasArrival, IsSto
 ghost use Rattle.voyage_meaning.specs.declared.moves.Move.TheVariants.{OffCover, OnCover};
 ghost use Rattle.voyage_meaning.specs.Voyage.{HasCount, IsLegalVoyage, voyage_count};
 ghost use Rattle.plan_lifts.specs.Spread.{has};
-ghost use Rattle.plan_lifts.specs.Lifted.{AreLifted, IsLifted, SailsLeast};
+ghost use Rattle.plan_lifts.specs.Lifted.{AreLifted, IsLifted, LiftEachExactly, LiftsAppended, SailsLeast};
 ghost use Rattle.plan_lifts.specs.Passes.{IsCallMoves, IsFlaggedAt, IsListedAt, IsOnCover, Sets, covers_down, lifts_down, passes, put_of, puts_from};
 
 use crate::lifting::{Lifted, changes, held_of};
@@ -315,7 +315,8 @@ fn move_from(
     requires legal { AreDepartures ship.now cargo.now (suc earlier) plans.now }
     requires lifted { AreLifted ship.now before.now plans.now lists.now }
     requires few { earlier + length plans.now ≤ 12 }
-    ensures { IfOk result (λ _. SailsLeast ship.now cargo.now (suc earlier) before.now plans.now voyage.old voyage.new) }
+    ensures least { IfOk result (λ _. SailsLeast ship.now cargo.now (suc earlier) before.now plans.now voyage.old voyage.new) }
+    ensures exact { IfOk result (λ _. LiftsAppended ship.now cargo.now (suc earlier) before.now plans.now lists.now voyage.old voyage.new) }
 {
     let (Some((after, others)), Some((list, rest))) = (plans.split_first(), lists.split_first())
     else {
@@ -337,7 +338,7 @@ fn move_from(
     )
 }
 
-/// A legal voyage with these departures and the rehandle count that `lifts` gives, in one pass for each call: lifts on deck, covers off, lifts in the hold, puts in the hold, covers on, puts on deck.
+/// A legal voyage with these departures and the rehandle count that `lifts` gives, which at each call lifts exactly the listed containers, each once, in one pass for each call: lifts on deck, covers off, lifts in the hold, puts in the hold, covers on, puts on deck.
 pub fn moves_of(
     alloc: Global,
     ship: &Ship,
@@ -351,6 +352,7 @@ pub fn moves_of(
     requires count { HasCount ship.now cargo.now plans.now lifted.now.count }
     ensures legal { IfOk result (λ voyage. IsLegalVoyage ship.now cargo.now voyage plans.now) }
     ensures count { IfOk result (λ voyage. voyage_count ship.now cargo.now voyage plans.now ≡ lifted.now.count) }
+    ensures exact { IfOk result (λ voyage. LiftEachExactly ship.now cargo.now 1 cargo.now.arrival voyage plans.now lifted.now.lists) }
 {
     let mut voyage = Seq::new(alloc);
     cargo.obeys_rules();
