@@ -1,7 +1,7 @@
 -- The moves of a call lift exactly what is listed.
-use Rattle.std.specs.Prelude.{◌≡◌, ◌↔◌, ◌⊎◌, ℕ, zero, suc, ◌+◌, ◌<◌, Bool, true, false, cond, List, [], ◌∷◌, ◌++◌, Option, Some, None, AllPairs, Contains, length, slice_get, slice_set, slice_index_or}
+use Rattle.std.specs.Prelude.{◌≡◌, ◌↔◌, ℕ, zero, suc, ◌+◌, ◌<◌, Bool, true, false, cond, List, [], ◌∷◌, ◌++◌, Option, Some, None, AllPairs, length, slice_get, slice_set, slice_index_or}
 use Rattle.std.proofs.Common.{refl, sym, ◌∙◌, ap, arith, subst, inl, inr, ⊎_elim, append_assoc}
-use Rattle.std.proofs.lemmas.Option.{get_or_from_slice_get, same_Some, slice_get_within}
+use Rattle.std.proofs.lemmas.Option.{get_or_from_slice_get, slice_get_within}
 use Rattle.stow_data.specs.Ship.{Ship}
 use Rattle.stow_data.specs.Shipment.{Cargo, IsCargo}
 use Rattle.stow_data.specs.Profile.{IsShip}
@@ -15,7 +15,7 @@ use Rattle.stowage_rules.proofs.Items.{slice_get-set_other}
 use Rattle.voyage_meaning.specs.declared.moves.Move.{Move}
 use Rattle.voyage_meaning.specs.Voyage.{start}
 use Rattle.plan_lifts.specs.Least.{AreLeast, IsClosed, IsDivided, IsFilled, counted}
-use Rattle.plan_lifts.specs.Lifted.{AreLifted, AreListed, LiftsAppended, LiftsExactly, StandsIn, list_weight, lifts_weight, or_none}
+use Rattle.plan_lifts.specs.Lifted.{AreLifted, AreListed, LiftsAppended, LiftsExactly, StandsIn, list_weight, or_none}
 use Rattle.plan_lifts.specs.Passes.{IsCallMoves}
 use Rattle.plan_lifts.proofs.Sailing.{least_filled, legal_parts, lifted_parts, listed_places, passes_weigh}
 use Rattle.plan_lifts.proofs.Whole.{InOrder, cargo_in_order, ship_is_divided}
