@@ -213,12 +213,12 @@ def table(deps, rows):
     """Returns the lines of the table, its sums and its longest chain."""
     marked = lambda row, part: f"{row[part]:.1f}{' (over)' if row[part] > BUDGET[part] else ''}"
     whole = lambda row: sum(row[it] for it in BUDGET)
-    lines = [" | ".join(HEAD), "---" + "|---:" * (len(HEAD) - 1)]
+    lines = ["|".join(HEAD), "---" + "|---:" * (len(HEAD) - 1)]
     for name, row in sorted(rows.items(), key=lambda it: -whole(it[1])):
-        lines.append(f"`{name}` | {' | '.join(marked(row, it) for it in BUDGET)} | {whole(row):.1f} | {row['edits tried']}")
+        lines.append(f"`{name}`|{'|'.join(marked(row, it) for it in BUDGET)}|{whole(row):.1f}|{row['edits tried']}")
     sums = {it: sum(row[it] for row in rows.values()) for it in [*BUDGET, "edits tried"]}
     total = sum(sums[it] for it in BUDGET)
-    lines.append(f"{len(rows)} crates | {' | '.join(f'{sums[it]:.1f}' for it in BUDGET)} | {total:.1f} | {sums['edits tried']}")
+    lines.append(f"{len(rows)} crates|{'|'.join(f'{sums[it]:.1f}' for it in BUDGET)}|{total:.1f}|{sums['edits tried']}")
     minutes, chain = chain_of(deps, rows)
     lines += ["", f"Sum: {total:.0f} processor minutes (budget {WHOLE:.0f}). Longest chain: {minutes:.1f} (budget {CHAIN:.0f}), {len(chain)} crates: {', '.join(chain)}."]
     return lines
