@@ -13,3 +13,4 @@ pub mod Making
 pub mod Further
 pub mod Finishing
 pub mod Steps
+pub mod Lifting

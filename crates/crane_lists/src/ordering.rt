@@ -2,26 +2,33 @@
 ghost use Rattle.std.specs.Prelude.{◌≡◌, ◌<◌, IfOk, length};
 ghost use Rattle.crane_lists.specs.Sharing.{HasAll};
 
+use crate::bays::bay_of_move;
 use crate::pairs::are_independent;
 use crate::tasks::Task;
 use std::alloc::Global;
 use stow_data::{NoMemory, NumberList, Seq, Ship};
 
-/// The greatest length of a chain that begins at a later task which hangs on this one.
+/// Whether a later task comes after this one in a chain: it hangs on it, or is of its bay, where one crane does one at a time.
+fn follows(ship: &Ship, task: &Task, later: &Task) -> bool {
+    bay_of_move(ship, task.step) == bay_of_move(ship, later.step)
+        || !are_independent(ship, task, later)
+}
+
+/// The greatest length of a chain that begins at a later task which comes after this one.
 fn longest_behind(ship: &Ship, tasks: &[Task], chains: &NumberList, i: usize) -> u32
     requires inside { i < length tasks.now }
     requires each { length chains.now ≡ length tasks.now }
 {
     let mut longest = 0;
     for j in i + 1..tasks.len() {
-        if !are_independent(ship, &tasks[i], &tasks[j]) {
+        if follows(ship, &tasks[i], &tasks[j]) {
             longest = longest.max(*chains.at(j));
         }
     }
     longest
 }
 
-/// For each task the length of the longest chain of tasks from it on, each of which hangs on the one before it.
+/// For each task the length of the longest chain of tasks from it on, each of which hangs on the one before it or is of its bay.
 fn chains_of(alloc: Global, ship: &Ship, tasks: &[Task]) -> Result<NumberList, NoMemory>
     ensures { IfOk result (λ chains. length chains ≡ length tasks.now) }
 {

@@ -89,7 +89,7 @@ fn share_out(
     Ok(board.rounds)
 }
 
-/// A crane list of moves for so many cranes: rounds, each of places in the list of moves by rising bay. Each move stands in exactly one round; those of a round are for different cranes, their bays at least 8 apart, and none hinders another; what depends on one another keeps the order of the list. Of the moves that may go in a round it takes those with the longest chain of moves behind them, and leaves none out that could go.
+/// A crane list of moves for so many cranes: rounds, each of places in the list of moves by rising bay. Each move stands in exactly one round; those of a round are for different cranes, their bays at least 8 apart, and none hinders another; what depends on one another keeps the order of the list. Of the moves that may go in a round it takes first those with the longest chain of moves behind them, each of which hangs on the one before it or is of its bay, and it leaves none out that could go.
 pub fn share(
     alloc: Global,
     ship: &Ship,
