@@ -1,6 +1,6 @@
 -- A crane list lifts exactly what its moves do.
-use Rattle.std.specs.Prelude.{◌≡◌, ℕ, ◌+◌, List, [], ◌∷◌, Option, Some, None}
-use Rattle.std.proofs.Common.{refl, sym, ◌∙◌, ap, arith, subst}
+use Rattle.std.specs.Prelude.{◌≡◌, ℕ, List, [], ◌∷◌, Option, Some, None}
+use Rattle.std.proofs.Common.{refl, sym, ◌∙◌, ap, arith}
 use Rattle.stow_data.specs.Ship.{Ship}
 use Rattle.stow_data.specs.Shipment.{Cargo}
 use Rattle.stow_data.specs.Plans.{Plan}
@@ -11,7 +11,7 @@ use Rattle.voyage_meaning.specs.Voyage.{start, LeadsTo}
 use Rattle.plan_lifts.specs.Lifted.{LiftsExactly, lifts_weight, or_none}
 use Rattle.plan_lifts.specs.Lifted as lists
 use Rattle.crane_lists.specs.declared.tasks.Task.{Task}
-use Rattle.crane_lists.specs.Tasks.{CanDo, CanDoAll, moves_in, named, tasks_of}
+use Rattle.crane_lists.specs.Tasks.{CanDoAll, moves_in, named, tasks_of}
 use Rattle.crane_lists.specs.Rounds.{IsCraneList, IsOrderOf, lift_weight, lifted_weight, picked}
 use Rattle.crane_lists.proofs.Berthed.{tasks_can}
 use Rattle.crane_lists.proofs.Shared.{shared_out}
