@@ -9,27 +9,32 @@ use Rattle.bay_views.specs.declared.frames.Frame.{Frame}
 use Rattle.bay_views.specs.declared.sheets.Sheet.{Sheet}
 use Rattle.bay_views.specs.Escapes.{escaped}
 use Rattle.bay_views.specs.Upto.{upto}
-use Rattle.bay_views.specs.Frames.{columns, deck_height, hold_height, hold_begin, top_of, row_of}
+use Rattle.bay_views.specs.Frames.{bay_width, bay_height, columns, deck_height, hold_height, hold_begin, top_of, row_of}
 use Rattle.bay_views.specs.Sheets.{sheet_of, bay_left, bay_top, sheet_width, sheet_height}
 use Rattle.bay_views.specs.Ports.{is_for, kg_for}
 use Rattle.bay_views.specs.Cells.{shape_of}
-use Rattle.bay_views.specs.Marks.{raw, label, rect, swatch, shape_text}
+use Rattle.bay_views.specs.PortMarks.{marks_of, mark_at}
+use Rattle.bay_views.specs.Marks.{raw, label, letters, rect, swatch, whole, short, tonnes, shape_text}
+use Rattle.bay_views.specs.Heads.{heading}
+use Rattle.bay_views.specs.Changes.{changes_since, all_changes}
+use Rattle.bay_views.specs.Stacks.{stacks}
+use Rattle.baplie.specs.declared.parts.Message.{Message}
 
 -- ## The legend
-
-unfoldable pub totals : ℕ → ℕ → List ℕ
-totals containers kg = label 14 24 (codes "h") ++ decimal containers ++ raw (codes " containers, ") ++ decimal kg ++ raw (codes " kg</text>\n")
 
 abbrev pub entry_left : ℕ → ℕ
 entry_left i = 14 + 206 * (i % 6)
 
 abbrev pub entry_top : ℕ → ℕ
-entry_top i = 40 + 22 * (min i (2 ^ 32) / 6)
+entry_top i = 72 + 22 * (min i (2 ^ 32) / 6)
+
+unfoldable pub port_name : List ℕ → List ℕ
+port_name port = whole 12 port ++ short 12 port
 
 abbrev pub counts : List ℕ → ℕ → ℕ → List ℕ
-counts port containers kg = escaped port ++ raw (codes ": ") ++ decimal containers ++ raw (codes ", ") ++ decimal kg ++ raw (codes " kg</text>\n")
+counts port containers kg = port_name port ++ raw (codes ": ") ++ decimal containers ++ raw (codes ", ") ++ tonnes kg ++ raw (codes " t</text>\n")
 
--- a port with its colour, its containers and their kilograms
+-- a port with its colour, its containers and their tonnes; its mark stands in the colour
 abbrev pub entry_at : ℕ → ℕ → ℕ → List ℕ → ℕ → ℕ → List ℕ
 entry_at left top i port containers kg = swatch left top 26 16 i ++ label (left + 32) (top + 13) (codes "l") ++ counts port containers kg
 
@@ -40,11 +45,11 @@ abbrev pub entry_in : List CellGroup → ℕ → Option (List ℕ) → List ℕ
 entry_in groups i None = []
 entry_in groups i (Some port) = entry i port (count_by (is_for port) groups) (sum_by (kg_for port) groups)
 
-unfoldable pub entry_of : List (List ℕ) → List CellGroup → ℕ → List ℕ
-entry_of ports groups i = entry_in groups i (slice_get ports i)
+unfoldable pub entry_of : List (List ℕ) → List (List ℕ) → List CellGroup → ℕ → List ℕ
+entry_of ports marks groups i = entry_in groups i (slice_get ports i) ++ letters (entry_left i + 13) (entry_top i + 12) (mark_at marks i)
 
-abbrev pub legend : List (List ℕ) → List CellGroup → List ℕ
-legend ports groups = totals (count_by holds groups) (sum_by kilograms groups) ++ upto (entry_of ports groups) (length ports)
+abbrev pub legend : List (List ℕ) → List (List ℕ) → List CellGroup → List ℕ
+legend ports marks groups = upto (entry_of ports marks groups) (length ports)
 
 -- ## What each bay is drawn on
 
@@ -68,13 +73,13 @@ unfoldable pub area : ℕ → ℕ → ℕ → List ℕ → List ℕ
 area top width height class = rect 34 top width height ++ raw class
 
 abbrev pub areas : ℕ → ℕ → ℕ → ℕ → List ℕ
-areas width deck begin hold = area 40 width deck (codes "k'/>") ++ area (deck + 42) width 4 (codes "x'/>") ++ area begin width hold (codes "w'/>")
+areas width deck begin hold = area 54 width deck (codes "k'/>") ++ area (deck + 56) width 4 (codes "x'/>") ++ area begin width hold (codes "w'/>")
 
 unfoldable pub ground : Frame → List ℕ
 ground f = areas (56 * columns f) (deck_height f) (hold_begin f) (hold_height f)
 
 unfoldable pub low_rows : Frame → List ℕ
-low_rows f = row_labels f (hold_begin f + hold_height f + 14)
+low_rows f = row_labels f (hold_begin f + hold_height f + 26)
 
 unfoldable pub deck_tiers : Frame → List ℕ
 deck_tiers f = tier_labels f f.deck_low (deck_height f)
@@ -110,10 +115,10 @@ opening width height =
     raw (codes "<svg xmlns='http://www.w3.org/2000/svg' width='") ++ decimal width ++ raw (codes "' height='") ++ decimal height ++ raw (codes "' viewBox='0 0 ") ++ decimal width ++ raw (codes " ") ++ decimal height ++ raw (codes "'>\n")
 
 abbrev pub texts : List ℕ
-texts = codes "<style>text{font:12px sans-serif}.h{font-weight:bold;font-size:15px}.n{font-size:11px;text-anchor:middle;fill:#444}.t{font-size:10.5px;font-weight:bold;text-anchor:middle}.m{font-size:8.5px}.t,.m{paint-order:stroke;stroke:#fff;stroke-width:2.6px;stroke-linejoin:round}\n"
+texts = codes "<style>text{font:12px sans-serif}.h{font-weight:bold;font-size:15px}.n{font-size:11px;text-anchor:middle;fill:#444}.s{font-size:9.5px;text-anchor:middle}.t{font-size:10.5px;font-weight:bold;text-anchor:middle}.m,.g{font-size:8.5px}.g,.o{text-anchor:end}.c,.o{font-size:8px}.t,.m,.g,.c,.o{paint-order:stroke;stroke:#fff;stroke-width:2.6px;stroke-linejoin:round}\n"
 
 abbrev pub boxes : List ℕ
-boxes = codes "rect{stroke:#444;stroke-width:.7}.v{fill:none;stroke:#999;stroke-dasharray:3 2}.k{fill:#eef4f8;stroke:none}.w{fill:#f2efe8;stroke:none}.x{fill:#000;stroke:none}.z{fill:url(#z)}.e rect{fill-opacity:.4}.r rect{stroke:#0033aa;stroke-width:2.4}.d rect{stroke:#c00000;stroke-width:2.4}\n"
+boxes = codes "rect{stroke:#444;stroke-width:.7}.v{fill:none;stroke:#999;stroke-dasharray:3 2}.k{fill:#eef4f8;stroke:none}.w{fill:#f2efe8;stroke:none}.x{fill:#000;stroke:none}.z{fill:url(#z)}.e rect{fill-opacity:.4}.r rect{stroke:#0033aa;stroke-width:2.4}.d rect{stroke:#a00000;stroke-width:2.4;stroke-dasharray:5 2}\n"
 
 -- seven colours that differ for colour-blind readers too (Okabe and Ito 2008)
 abbrev pub colours : List ℕ
@@ -123,20 +128,41 @@ abbrev pub pattern : List ℕ
 pattern = codes "<defs><pattern id='z' width='9' height='9' patternUnits='userSpaceOnUse' patternTransform='rotate(45)'><path d='M0 0H3.5V9H0Z' fill='#222'/></pattern></defs>\n"
 
 abbrev pub key : List ℕ
-key = codes "<text x='420' y='24' class='l'>R: reefer (blue outline). E: empty (pale). Class of dangerous goods (red outline). A pair of bays: fore half left, aft half right.</text>\n"
+key = codes "<text x='14' y='60' class='l'>Seen from aft; 20 foot: half a cell, fore left, aft right. Letters: port of discharge. Number: tonnes. R: reefer (blue outline). E: empty (pale). Class of dangerous goods (dashed). &#9660;: discharged next. Beside a stack: its tonnes.</text>\n"
 
-abbrev pub front : ℕ → ℕ → List ℕ
+unfoldable pub front : ℕ → ℕ → List ℕ
 front width height = opening width height ++ raw texts ++ raw boxes ++ raw colours ++ raw pattern ++ raw key
 
 -- the shape of each cell group, in their order
-unfoldable pub drawn : Sheet → List (List ℕ) → CellGroup → List ℕ
-drawn s ports g = shape_text (shape_of s ports g)
+unfoldable pub drawn : Sheet → List (List ℕ) → List (List ℕ) → CellGroup → List ℕ
+drawn s ports marks g = shape_text marks (shape_of s ports g)
 
-abbrev pub body : Sheet → List (List ℕ) → List CellGroup → List ℕ
-body s ports groups = flat_map (λ g. drawn s ports g) groups
+abbrev pub body : Sheet → List (List ℕ) → List (List ℕ) → List CellGroup → List ℕ
+body s ports marks groups = flat_map (λ g. drawn s ports marks g) groups
 
-abbrev pub drawing : Sheet → List (List ℕ) → List CellGroup → List ℕ
-drawing s ports groups = front (sheet_width s) (sheet_height s) ++ legend ports groups ++ template s.frame ++ bays s ++ body s ports groups ++ raw (codes "</svg>\n")
+-- where a bay stands, by its number from 0, for a page that shows it alone
+unfoldable pub view : ℕ → ℕ → ℕ → ℕ → ℕ → List ℕ
+view i left top width height =
+    raw (codes "<view id='v") ++ decimal i ++ raw (codes "' viewBox='") ++ decimal left ++ raw (codes " ") ++ decimal top ++ raw (codes " ") ++ decimal width ++ raw (codes " ") ++ decimal height ++ raw (codes "'/>\n")
 
-unfoldable pub picture : List (List ℕ) → List CellGroup → List ℕ
-picture ports groups = drawing (sheet_of (length ports) groups) ports groups
+abbrev pub view_of : Sheet → ℕ → List ℕ
+view_of s i = view i (bay_left s i) (bay_top s i) (bay_width s.frame) (bay_height s.frame)
+
+abbrev pub views : Sheet → List ℕ
+views s = upto (view_of s) (length s.bays)
+
+-- over the bays, but for the legend
+unfoldable pub over : Sheet → Message → Option (List CellGroup) → List ℕ
+over s m before = front (sheet_width s) (sheet_height s) ++ heading m.head m.groups ++ changes_since before m.groups
+
+-- the bays without their cells
+unfoldable pub base : Sheet → List CellGroup → List ℕ
+base s groups = template s.frame ++ bays s ++ stacks s groups ++ views s
+
+abbrev pub drawing : Sheet → List (List ℕ) → List (List ℕ) → Message → Option (List CellGroup) → Option (List CellGroup) → List ℕ
+drawing s ports marks m before after =
+    over s m before ++ legend ports marks m.groups ++ base s m.groups ++ body s ports marks m.groups ++ all_changes s before after m.groups ++ raw (codes "</svg>\n")
+
+-- the picture of a message, beside the groups of the bay plan before it and of the one behind it, where there are such
+unfoldable pub picture : List (List ℕ) → Message → Option (List CellGroup) → Option (List CellGroup) → List ℕ
+picture ports m before after = drawing (sheet_of (length ports) m.groups) ports (marks_of ports) m before after

@@ -59,7 +59,7 @@ abbrev pub bay_width : Frame → ℕ
 bay_width f = 56 * columns f + 60
 
 abbrev pub bay_height : Frame → ℕ
-bay_height f = deck_height f + hold_height f + 84
+bay_height f = deck_height f + hold_height f + 110
 
 -- even rows lead from the middle to the left, odd ones to the right
 abbrev pub column : Frame → ℕ → ℕ
@@ -70,11 +70,11 @@ left_of f row = 34 + 56 * column f row
 
 -- where the hold begins: below the deck and the hatch line
 abbrev pub hold_begin : Frame → ℕ
-hold_begin f = deck_height f + 48
+hold_begin f = deck_height f + 62
 
 -- deck tiers rise from the hatch line, hold tiers fall from it
 abbrev pub top_of : Frame → ℕ → ℕ
-top_of f tier = if is_deck tier then 40 + 12 * (f.deck_top - tier) else hold_begin f + 12 * (f.hold_top - tier)
+top_of f tier = if is_deck tier then 54 + 12 * (f.deck_top - tier) else hold_begin f + 12 * (f.hold_top - tier)
 
 -- the row that a column is of
 abbrev pub row_of : Frame → ℕ → ℕ

@@ -4,7 +4,11 @@ pub mod Frames
 pub mod Bays
 pub mod Sheets
 pub mod Ports
+pub mod PortMarks
 pub mod Cells
 pub mod Marks
+pub mod Heads
+pub mod Stacks
+pub mod Changes
 pub mod Drawings
 pub mod Pages

@@ -1,10 +1,12 @@
 -- The text of a cell (SVG 1.1).
-use Rattle.std.specs.Prelude.{ℕ, ◌+◌, ◌-◌, ◌/◌, ◌%◌, nat_le, Bool, is_some, codes, List, [], ◌++◌, length, drop, Option, Some, None, if◌then◌else◌}
+use Rattle.std.specs.Prelude.{ℕ, ◌+◌, ◌-◌, ◌/◌, ◌%◌, nat_le, nat_lt, Bool, is_some, codes, List, [], ◌∷◌, ◌++◌, length, drop, take, slice_index_or, Option, Some, None, if◌then◌else◌}
 use Rattle.std.specs.Fmt.{decimal}
 use Rattle.baplie.specs.declared.parts.Facts.{Facts}
+use Rattle.stow_data.specs.Digits.{digit}
 use Rattle.stow_report.specs.Listings.{length_text}
 use Rattle.bay_views.specs.declared.cells.Cell.{Cell}
 use Rattle.bay_views.specs.Escapes.{escaped}
+use Rattle.bay_views.specs.PortMarks.{mark_at}
 use Rattle.bay_views.specs.Cells.{Shape, Vacant, Filled}
 
 -- markup and words of the document's own, as they are
@@ -16,6 +18,22 @@ when on text = if on then text else []
 
 abbrev pub only_if : Bool → List ℕ → List ℕ
 only_if on text = when on (raw text)
+
+-- a text of more than so many bytes as the title of what it stands in
+unfoldable pub whole : ℕ → List ℕ → List ℕ
+whole most text = when (nat_lt most (length text)) (raw (codes "<title>") ++ escaped text ++ raw (codes "</title>"))
+
+-- such a text is cut
+unfoldable pub short : ℕ → List ℕ → List ℕ
+short most text = if nat_lt most (length text) then escaped (take most text) ++ raw (codes "&#8230;") else escaped text
+
+-- tenths of a tonne, rounded
+abbrev pub tenths : ℕ → ℕ
+tenths kg = kg / 100 + kg % 100 / 50
+
+-- tonnes with one decimal
+unfoldable pub tonnes : ℕ → List ℕ
+tonnes kg = decimal (tenths kg / 10) ++ raw (codes ".") ++ digit (tenths kg) ∷ []
 
 -- a rectangle up to its class
 abbrev pub rect : ℕ → ℕ → ℕ → ℕ → List ℕ
@@ -50,21 +68,38 @@ told f = only_if f.reefer (codes ", reefer") ++ only_if f.empty (codes ", empty"
 unfoldable pub title : Cell → Facts → List ℕ
 title cell f = cell.number ++ raw (codes " ") ++ escaped f.id ++ length_text f.long ++ escaped f.dest ++ weight f ++ told f
 
--- the last three characters of the port, in the middle of the cell
-unfoldable pub letters : Cell → List ℕ → List ℕ
-letters cell dest = label (cell.left + cell.width / 2) (cell.top + 20) (codes "t") ++ escaped (drop (length dest - 3) dest) ++ raw (codes "</text>")
+-- the mark of the port, in the middle of its field
+unfoldable pub letters : ℕ → ℕ → List ℕ → List ℕ
+letters middle base mark = label middle base (codes "t") ++ escaped mark ++ raw (codes "</text>")
+
+-- the class of dangerous goods, cut where it is long
+abbrev pub short_class : Option (List ℕ) → List ℕ
+short_class None = []
+short_class (Some class) = short 4 class
 
 -- R for a reefer, E for an empty container, and the class of dangerous goods
 unfoldable pub marks : Cell → Facts → List ℕ
-marks cell f = label (cell.left + 2) (cell.top + 9) (codes "m") ++ only_if f.reefer (codes "R ") ++ only_if f.empty (codes "E ") ++ class_text f.class ++ raw (codes "</text>")
+marks cell f = label (cell.left + 2) (cell.top + 9) (codes "m") ++ only_if f.reefer (codes "R ") ++ only_if f.empty (codes "E ") ++ short_class f.class ++ raw (codes "</text>")
 
-abbrev pub filled_text : Cell → ℕ → Facts → List ℕ
-filled_text cell port f =
-    raw (codes "<g class='") ++ classes f ++ raw (codes "'><title>") ++ title cell f ++ raw (codes "</title>") ++ swatch cell.left cell.top cell.width 24 port ++ letters cell f.dest ++ marks cell f ++ raw (codes "</g>\n")
+-- the weight class: whole tonnes, rounded
+abbrev pub weight_class : ℕ → ℕ
+weight_class kg = (kg + 500) / 1000
+
+unfoldable pub weight_mark : Cell → ℕ → List ℕ
+weight_mark cell kg = label (cell.left + cell.width - 2) (cell.top + 9) (codes "g") ++ decimal (weight_class kg) ++ raw (codes "</text>")
+
+-- what is drawn in a cell: the colour and the mark of the port, what is marked of the container, and its weight class
+unfoldable pub inside : Cell → ℕ → List ℕ → Facts → List ℕ
+inside cell port mark f =
+    swatch cell.left cell.top cell.width 24 port ++ letters (cell.left + cell.width / 2) (cell.top + 20) mark ++ marks cell f ++ weight_mark cell f.kg
+
+abbrev pub filled_text : Cell → ℕ → List ℕ → Facts → List ℕ
+filled_text cell port mark f =
+    raw (codes "<g class='") ++ classes f ++ raw (codes "'><title>") ++ title cell f ++ raw (codes "</title>") ++ inside cell port mark f ++ raw (codes "</g>\n")
 
 abbrev pub vacant_text : Cell → List ℕ
 vacant_text cell = rect cell.left cell.top cell.width 24 ++ raw (codes "v'><title>") ++ cell.number ++ raw (codes " empty</title></rect>\n")
 
-abbrev pub shape_text : Shape → List ℕ
-shape_text (Vacant cell) = vacant_text cell
-shape_text (Filled cell port f) = filled_text cell port f
+abbrev pub shape_text : List (List ℕ) → Shape → List ℕ
+shape_text marks (Vacant cell) = vacant_text cell
+shape_text marks (Filled cell port f) = filled_text cell port (mark_at marks port) f

@@ -12,7 +12,7 @@ legend_lines ports = (min ports (2 ^ 32) + 5) / 6
 
 -- the sheet of a message, under a legend of so many ports
 abbrev pub sheet_of : ℕ → List CellGroup → Sheet
-sheet_of ports groups = record { frame = frame_of groups; long_bays = long_bays groups; bays = drawn_bays groups; top = 66 + 22 * legend_lines ports }
+sheet_of ports groups = record { frame = frame_of groups; long_bays = long_bays groups; bays = drawn_bays groups; top = 98 + 22 * legend_lines ports }
 
 pub record IsSheet (s : Sheet) : Type 0 where
   pub frame : IsFrame s.frame

@@ -81,6 +81,16 @@ fn evens_among(alloc: Global, numbers: &NumberList) -> Result<NumberList, NoMemo
     Ok(bays)
 }
 
+/// How many bays are drawn.
+pub fn bay_count(alloc: Global, groups: &[CellGroup]) -> Result<u32, NoMemory>
+    requires { All IsCell groups.now }
+    ensures { IfOk result (λ n. n ≡ length (drawn_bays groups.now)) }
+{
+    let longs = long_bays(alloc, groups)?;
+    let bays = drawn_bays(alloc, &longs, groups)?;
+    Ok(bays.len() as u32)
+}
+
 /// The bays that are drawn, from fore to aft.
 pub(crate) fn drawn_bays(
     alloc: Global,

@@ -26,6 +26,7 @@ pub(crate) fn cell_of(sheet: &Sheet, group: &CellGroup) -> Cell
     ensures left { result.left < 2 ^ 33 }
     ensures top { result.top < 2 ^ 42 }
     ensures width { result.width ≤ 56 }
+    ensures some { 28 ≤ result.width }
 {
     let home = home_of(&sheet.long_bays, group.bay);
     let place = sheet.place_of(home);
@@ -42,6 +43,7 @@ pub(crate) fn cell_of(sheet: &Sheet, group: &CellGroup) -> Cell
 fn width_of(bay: u32) -> u64
     ensures value { result ≡ width_of bay }
     ensures small { result ≤ 56 }
+    ensures some { 28 ≤ result }
 {
     if bay.is_multiple_of(2) { 56 } else { 28 }
 }

@@ -1,38 +1,122 @@
 //! The text of a picture.
-ghost use Rattle.std.specs.Prelude.{◌≡◌, ◌<◌, ◌≤◌, ◌^◌, ◌+◌, ◌-◌, ◌*◌, ◌/◌, ◌++◌, ◌∷◌, [], All, length, IfOk, OnOk};
+ghost use Rattle.std.specs.Prelude.{◌≡◌, ◌<◌, ◌≤◌, ◌^◌, ◌+◌, ◌-◌, ◌*◌, ◌/◌, ◌++◌, ◌∷◌, [], All, length, option_copied, IfOk, IfSome, OnOk};
 ghost use Rattle.stow_report.specs.Listings.{IsCell, AreListable};
 ghost use Rattle.bay_views.specs.Frames.{IsFrame, columns};
 ghost use Rattle.bay_views.specs.Sheets.{IsSheet, sheet_width, sheet_height};
-ghost use Rattle.bay_views.specs.Drawings.{two_digits, row_label, row_labels, tier_label, tier_labels, low_rows, deck_tiers, hold_tiers, area, areas, ground, template, bay_digits, use_at, bay, bay_of, bays, opening, texts, boxes, colours, pattern, key, front, drawn, body, drawing, picture};
+ghost use Rattle.bay_views.specs.Drawings.{two_digits, row_label, row_labels, tier_label, tier_labels, low_rows, deck_tiers, hold_tiers, area, areas, ground, template, bay_digits, use_at, bay, bay_of, bays, opening, texts, boxes, colours, pattern, key, front, view, view_of, views, over, base, drawn, body, drawing, picture};
 
 use crate::cells::cell_of;
+use crate::changes::{write_changes, write_changes_since};
 use crate::frames::Frame;
+use crate::heading::write_heading;
 use crate::legend::{number_of, write_legend};
 use crate::marks::{
     put, write_filled, write_label, write_number, write_raw, write_rect, write_vacant,
 };
+use crate::port_marks::{PortMarkList, mark_at, marks_of};
 use crate::sheets::{Sheet, sheet_of};
-use baplie::CellGroup;
+use crate::stacks::write_stacks;
+use baplie::{CellGroup, GroupList, Message};
 use std::alloc::Global;
 use stow_data::{Bytes, NameList, NoMemory};
 
-/// The picture of these cell groups: a legend of the ports with their counts, and the bays from fore to
-/// aft, with a shape for each cell. A port has the colour of its number among the ports; that of a
-/// container which goes to none of them is one of no port.
+/// The picture of a message: its head with the totals, a legend of the ports with their counts, and the
+/// bays from fore to aft, with the tonnes of each stack and a shape for each cell. A port has the colour of
+/// its number among the ports; that of a container which goes to none of them is one of no port. Beside the
+/// groups of the bay plan before it counts and marks what was loaded, discharged and rehandled since, and
+/// beside those of the one behind it marks what is discharged until then.
 #[tactic(auto, unfolding(crate::specs::Drawings::picture))]
-pub fn picture(alloc: Global, ports: &NameList, groups: &[CellGroup]) -> Result<Bytes, NoMemory>
-    requires { AreListable groups.now }
-    ensures { IfOk result (λ text. text ≡ picture ports.now groups.now) }
+pub fn picture(
+    alloc: Global,
+    ports: &NameList,
+    message: &Message,
+    before: Option<&GroupList>,
+    after: Option<&GroupList>,
+) -> Result<Bytes, NoMemory>
+    requires { AreListable message.now.groups }
+    ensures { IfOk result (λ text. text ≡ picture ports.now message.now (option_copied before.entry) (option_copied after.entry)) }
 {
+    let groups = message.groups.as_slice();
+    let marks = marks_of(alloc, ports)?;
     let sheet = sheet_of(alloc, ports.len(), groups)?;
     let mut out = Bytes::new(alloc);
-    write_front(&mut out, sheet.width(), sheet.height())?;
-    write_legend(&mut out, ports, groups)?;
-    write_template(&mut out, &sheet.frame)?;
-    write_bays(&mut out, &sheet)?;
-    write_body(&mut out, &sheet, ports, groups)?;
+    write_over(&mut out, &sheet, message, before)?;
+    write_legend(&mut out, ports, &marks, groups)?;
+    write_base(&mut out, &sheet, groups)?;
+    write_body(&mut out, &sheet, ports, &marks, groups)?;
+    write_changes(&mut out, &sheet, before, after, groups)?;
     write_raw(&mut out, b"</svg>\n")?;
     Ok(out)
+}
+
+/// Appends what stands over the bays, but for the legend.
+#[tactic(auto, unfolding(crate::specs::Drawings::over))]
+fn write_over(
+    out: &mut Bytes,
+    sheet: &Sheet,
+    message: &Message,
+    before: Option<&GroupList>,
+) -> Result<(), NoMemory>
+    requires sheet { IsSheet sheet.now }
+    requires few { length message.now.groups < 2 ^ 32 }
+    ensures { OnOk result (out.new ≡ out.old ++ over sheet.now message.now (option_copied before.entry)) }
+{
+    let groups = message.groups.as_slice();
+    write_front(out, sheet.width(), sheet.height())?;
+    write_heading(out, message.head.as_slice(), groups)?;
+    write_changes_since(out, before, groups)
+}
+
+/// Appends the bays without their cells.
+#[tactic(auto, unfolding(crate::specs::Drawings::base))]
+fn write_base(out: &mut Bytes, sheet: &Sheet, groups: &[CellGroup]) -> Result<(), NoMemory>
+    requires sheet { IsSheet sheet.now }
+    requires groups { AreListable groups.now }
+    ensures { OnOk result (out.new ≡ out.old ++ base sheet.now groups.now) }
+{
+    write_template(out, &sheet.frame)?;
+    write_bays(out, sheet)?;
+    write_stacks(out, sheet, groups)?;
+    write_views(out, sheet)
+}
+
+fn write_view(
+    out: &mut Bytes,
+    i: u64,
+    left: u64,
+    top: u64,
+    width: u64,
+    height: u64,
+) -> Result<(), NoMemory>
+    ensures { OnOk result (out.new ≡ out.old ++ view i left top width height) }
+{
+    put(out, b"<view id='v", i)?;
+    put(out, b"' viewBox='", left)?;
+    put(out, b" ", top)?;
+    put(out, b" ", width)?;
+    put(out, b" ", height)?;
+    write_raw(out, b"'/>\n")
+}
+
+/// Appends where each bay stands, for a page that shows it alone.
+#[tactic(auto, using(crate::proofs::Uptos::upto_more))]
+fn write_views(out: &mut Bytes, sheet: &Sheet) -> Result<(), NoMemory>
+    requires { IsSheet sheet.now }
+    ensures { OnOk result (out.new ≡ out.old ++ views sheet.now) }
+{
+    let width = u64::from(sheet.frame.bay_width());
+    let height = u64::from(sheet.frame.bay_height());
+    for i in 0..sheet.bays.len() {
+        write_view(
+            out,
+            i as u64,
+            sheet.bay_left(i),
+            sheet.bay_top(i),
+            width,
+            height,
+        )?;
+    }
+    Ok(())
 }
 
 /// Appends the shape of each group.
@@ -40,14 +124,15 @@ fn write_body(
     out: &mut Bytes,
     sheet: &Sheet,
     ports: &NameList,
+    marks: &PortMarkList,
     groups: &[CellGroup],
 ) -> Result<(), NoMemory>
     requires sheet { IsSheet sheet.now }
     requires cells { All IsCell groups.now }
-    ensures { OnOk result (out.new ≡ out.old ++ body sheet.now ports.now groups.now) }
+    ensures { OnOk result (out.new ≡ out.old ++ body sheet.now ports.now marks.now groups.now) }
 {
     for group in groups {
-        write_shape(out, sheet, ports, group)?;
+        write_shape(out, sheet, ports, marks, group)?;
     }
     Ok(())
 }
@@ -57,15 +142,19 @@ fn write_shape(
     out: &mut Bytes,
     sheet: &Sheet,
     ports: &NameList,
+    marks: &PortMarkList,
     group: &CellGroup,
 ) -> Result<(), NoMemory>
     requires sheet { IsSheet sheet.now }
     requires cell { IsCell group.now }
-    ensures { OnOk result (out.new ≡ out.old ++ drawn sheet.now ports.now group.now) }
+    ensures { OnOk result (out.new ≡ out.old ++ drawn sheet.now ports.now marks.now group.now) }
 {
     let cell = cell_of(sheet, group);
     match &group.facts {
-        Some(facts) => write_filled(out, &cell, number_of(ports, &facts.dest), facts),
+        Some(facts) => {
+            let port = number_of(ports, &facts.dest);
+            write_filled(out, &cell, port, mark_at(marks, port), facts)
+        }
         None => write_vacant(out, &cell),
     }
 }
@@ -84,6 +173,7 @@ fn write_opening(out: &mut Bytes, width: u64, height: u64) -> Result<(), NoMemor
     write_raw(out, b"'>\n")
 }
 
+#[tactic(auto, unfolding(crate::specs::Drawings::front))]
 fn write_front(out: &mut Bytes, width: u64, height: u64) -> Result<(), NoMemory>
     ensures { OnOk result (out.new ≡ out.old ++ front width height) }
 {
@@ -98,13 +188,13 @@ fn write_front(out: &mut Bytes, width: u64, height: u64) -> Result<(), NoMemory>
 fn texts() -> &'static [u8]
     ensures { result.now ≡ texts }
 {
-    b"<style>text{font:12px sans-serif}.h{font-weight:bold;font-size:15px}.n{font-size:11px;text-anchor:middle;fill:#444}.t{font-size:10.5px;font-weight:bold;text-anchor:middle}.m{font-size:8.5px}.t,.m{paint-order:stroke;stroke:#fff;stroke-width:2.6px;stroke-linejoin:round}\n"
+    b"<style>text{font:12px sans-serif}.h{font-weight:bold;font-size:15px}.n{font-size:11px;text-anchor:middle;fill:#444}.s{font-size:9.5px;text-anchor:middle}.t{font-size:10.5px;font-weight:bold;text-anchor:middle}.m,.g{font-size:8.5px}.g,.o{text-anchor:end}.c,.o{font-size:8px}.t,.m,.g,.c,.o{paint-order:stroke;stroke:#fff;stroke-width:2.6px;stroke-linejoin:round}\n"
 }
 
 fn boxes() -> &'static [u8]
     ensures { result.now ≡ boxes }
 {
-    b"rect{stroke:#444;stroke-width:.7}.v{fill:none;stroke:#999;stroke-dasharray:3 2}.k{fill:#eef4f8;stroke:none}.w{fill:#f2efe8;stroke:none}.x{fill:#000;stroke:none}.z{fill:url(#z)}.e rect{fill-opacity:.4}.r rect{stroke:#0033aa;stroke-width:2.4}.d rect{stroke:#c00000;stroke-width:2.4}\n"
+    b"rect{stroke:#444;stroke-width:.7}.v{fill:none;stroke:#999;stroke-dasharray:3 2}.k{fill:#eef4f8;stroke:none}.w{fill:#f2efe8;stroke:none}.x{fill:#000;stroke:none}.z{fill:url(#z)}.e rect{fill-opacity:.4}.r rect{stroke:#0033aa;stroke-width:2.4}.d rect{stroke:#a00000;stroke-width:2.4;stroke-dasharray:5 2}\n"
 }
 
 /// Seven colours that differ for colour-blind readers too (Okabe and Ito 2008).
@@ -123,7 +213,7 @@ fn pattern() -> &'static [u8]
 fn key() -> &'static [u8]
     ensures { result.now ≡ key }
 {
-    b"<text x='420' y='24' class='l'>R: reefer (blue outline). E: empty (pale). Class of dangerous goods (red outline). A pair of bays: fore half left, aft half right.</text>\n"
+    b"<text x='14' y='60' class='l'>Seen from aft; 20 foot: half a cell, fore left, aft right. Letters: port of discharge. Number: tonnes. R: reefer (blue outline). E: empty (pale). Class of dangerous goods (dashed). &#9660;: discharged next. Beside a stack: its tonnes.</text>\n"
 }
 
 fn two_digits(n: u64) -> [u8; 2]
@@ -200,8 +290,8 @@ fn write_areas(
     requires { deck ≤ 264 }
     ensures { OnOk result (out.new ≡ out.old ++ areas width deck begin hold) }
 {
-    write_area(out, 40, width, deck, b"k'/>")?;
-    write_area(out, deck + 42, width, 4, b"x'/>")?;
+    write_area(out, 54, width, deck, b"k'/>")?;
+    write_area(out, deck + 56, width, 4, b"x'/>")?;
     write_area(out, begin, width, hold, b"w'/>")
 }
 
@@ -239,7 +329,7 @@ fn write_low_rows(out: &mut Bytes, frame: &Frame) -> Result<(), NoMemory>
     requires { IsFrame frame.now }
     ensures { OnOk result (out.new ≡ out.old ++ low_rows frame.now) }
 {
-    let end = frame.hold_begin() + frame.hold_height() + 14;
+    let end = frame.hold_begin() + frame.hold_height() + 26;
     write_rows(out, frame, u64::from(end))
 }
 

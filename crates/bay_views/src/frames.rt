@@ -160,9 +160,9 @@ impl Frame {
     pub(crate) fn bay_height(&self) -> u32
         requires { IsFrame self.now }
         ensures value { result ≡ bay_height self.now }
-        ensures small { result ≤ 1332 }
+        ensures small { result ≤ 1358 }
     {
-        self.deck_height() + self.hold_height() + 84
+        self.deck_height() + self.hold_height() + 110
     }
 
     fn column(&self, row: u32) -> u32
@@ -192,9 +192,9 @@ impl Frame {
     pub(crate) fn hold_begin(&self) -> u32
         requires { IsFrame self.now }
         ensures value { result ≡ hold_begin self.now }
-        ensures small { result ≤ 312 }
+        ensures small { result ≤ 326 }
     {
-        self.deck_height() + 48
+        self.deck_height() + 62
     }
 
     /// Where a tier begins, from the upper edge of its bay.
@@ -204,7 +204,7 @@ impl Frame {
         ensures small { result ≤ 1300 }
     {
         if is_deck(tier) {
-            40 + 12 * self.deck_top.saturating_sub(tier)
+            54 + 12 * self.deck_top.saturating_sub(tier)
         } else {
             self.hold_begin() + 12 * self.hold_top.saturating_sub(tier)
         }

@@ -2,12 +2,15 @@
 ghost use Rattle.std.specs.Prelude.{◌≡◌, ◌<◌, ◌≤◌, ◌^◌, ◌++◌, ◌*◌, length, count_by, OnOk};
 ghost use Rattle.std.specs.List.{sum_by};
 ghost use Rattle.bay_views.specs.Ports.{same_text, is_port, with_port, with_facts, with_ports, number_of, goes_to, is_for, kg_to, kg_for};
-ghost use Rattle.bay_views.specs.Drawings.{totals, counts, entry_left, entry_top, entry_at, entry, entry_of, legend};
+ghost use Rattle.bay_views.specs.Drawings.{port_name, counts, entry_left, entry_top, entry_at, entry, entry_of, legend};
 
-use crate::marks::{put, write_label, write_name, write_number, write_raw, write_swatch};
+use crate::marks::{
+    put, write_label, write_letters, write_raw, write_short, write_swatch, write_tonnes,
+    write_whole,
+};
+use crate::port_marks::{PortMarkList, mark_at};
 use baplie::{CellGroup, Facts};
 use stow_data::{Bytes, Name, NameList, NoMemory};
-use stow_report::{containers_in, kilograms_in};
 
 fn same_text(a: &[u8], b: &[u8]) -> bool
     ensures { result ≡ same_text a.now b.now }
@@ -97,15 +100,6 @@ fn kilograms_for(name: &Name, groups: &[CellGroup]) -> u64
     sum
 }
 
-fn write_totals(out: &mut Bytes, containers: u64, kilograms: u64) -> Result<(), NoMemory>
-    ensures { OnOk result (out.new ≡ out.old ++ totals containers kilograms) }
-{
-    write_label(out, 14, 24, b"h")?;
-    write_number(out, containers)?;
-    put(out, b" containers, ", kilograms)?;
-    write_raw(out, b" kg</text>\n")
-}
-
 fn write_entry(
     out: &mut Bytes,
     i: usize,
@@ -137,7 +131,7 @@ fn entry_top(i: usize) -> u64
     ensures value { result ≡ entry_top i }
     ensures small { result < 2 ^ 40 }
 {
-    40 + 22 * ((i as u64).min(4_294_967_296) / 6)
+    72 + 22 * ((i as u64).min(4_294_967_296) / 6)
 }
 
 fn write_entry_at(
@@ -161,17 +155,33 @@ fn write_entry_at(
 fn write_entry_of(
     out: &mut Bytes,
     ports: &NameList,
+    marks: &PortMarkList,
     groups: &[CellGroup],
     i: usize,
 ) -> Result<(), NoMemory>
     requires port { i < length ports.now }
     requires groups { length groups.now < 2 ^ 32 }
-    ensures { OnOk result (out.new ≡ out.old ++ entry_of ports.now groups.now i) }
+    ensures { OnOk result (out.new ≡ out.old ++ entry_of ports.now marks.now groups.now i) }
 {
     let port = ports.at(i);
     let containers = containers_for(port, groups);
     let kilograms = kilograms_for(port, groups);
-    write_entry(out, i, port, containers, kilograms)
+    write_entry(out, i, port, containers, kilograms)?;
+    write_letters(
+        out,
+        entry_left(i) + 13,
+        entry_top(i) + 12,
+        mark_at(marks, i),
+    )
+}
+
+/// Appends the name of a port.
+#[tactic(auto, unfolding(crate::specs::Drawings::port_name))]
+fn write_port(out: &mut Bytes, port: &[u8]) -> Result<(), NoMemory>
+    ensures { OnOk result (out.new ≡ out.old ++ port_name port.now) }
+{
+    write_whole(out, 12, port)?;
+    write_short(out, 12, port)
 }
 
 fn write_counts(
@@ -182,25 +192,26 @@ fn write_counts(
 ) -> Result<(), NoMemory>
     ensures { OnOk result (out.new ≡ out.old ++ counts port.now containers kilograms) }
 {
-    write_name(out, port)?;
+    write_port(out, port.bytes())?;
     put(out, b": ", containers)?;
-    put(out, b", ", kilograms)?;
-    write_raw(out, b" kg</text>\n")
+    write_raw(out, b", ")?;
+    write_tonnes(out, kilograms)?;
+    write_raw(out, b" t</text>\n")
 }
 
-/// Appends the totals, and then each port with its counts.
+/// Appends each port with its counts.
 #[tactic(auto, using(crate::proofs::Uptos::upto_more))]
 pub(crate) fn write_legend(
     out: &mut Bytes,
     ports: &NameList,
+    marks: &PortMarkList,
     groups: &[CellGroup],
 ) -> Result<(), NoMemory>
     requires { length groups.now < 2 ^ 32 }
-    ensures { OnOk result (out.new ≡ out.old ++ legend ports.now groups.now) }
+    ensures { OnOk result (out.new ≡ out.old ++ legend ports.now marks.now groups.now) }
 {
-    write_totals(out, containers_in(groups), kilograms_in(groups))?;
     for i in 0..ports.len() {
-        write_entry_of(out, ports, groups, i)?;
+        write_entry_of(out, ports, marks, groups, i)?;
     }
     Ok(())
 }

@@ -3,20 +3,26 @@
 
 mod bays;
 mod cells;
+mod changes;
 mod drawing;
 mod escaping;
 mod frames;
+mod heading;
 mod law;
 mod legend;
 mod marks;
 mod page;
+mod port_marks;
 mod sheets;
+mod stacks;
 
+pub use bays::bay_count;
 pub use cells::Cell;
 pub use drawing::picture;
 pub use escaping::{escape, escape_text};
 pub use frames::Frame;
+pub use heading::same_voyage;
 pub use law::{drawn_once, nothing_breaks_out};
 pub use legend::add_ports;
-pub use page::index_page;
+pub use page::{index_page, is_own_page};
 pub use sheets::Sheet;

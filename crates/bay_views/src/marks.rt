@@ -1,12 +1,13 @@
 //! The text of a cell.
-ghost use Rattle.std.specs.Prelude.{◌≡◌, ◌<◌, ◌≤◌, ◌^◌, ◌+◌, ◌++◌, ◌%◌, nat_le, codes, OnOk};
+ghost use Rattle.std.specs.Prelude.{◌≡◌, ◌<◌, ◌≤◌, ◌^◌, ◌+◌, ◌++◌, ◌∷◌, ◌%◌, [], nat_le, codes, length, OnOk};
 ghost use Rattle.std.specs.Fmt.{decimal};
 ghost use Rattle.stow_report.specs.Listings.{length_text};
 ghost use Rattle.bay_views.specs.Escapes.{escaped};
-ghost use Rattle.bay_views.specs.Marks.{raw, when, only_if, rect, swatch, label, classes, class_text, weight, told, title, letters, marks, filled_text, vacant_text};
+ghost use Rattle.bay_views.specs.Marks.{raw, when, only_if, whole, short, tenths, tonnes, rect, swatch, label, classes, class_text, weight, told, title, letters, short_class, marks, weight_mark, inside, filled_text, vacant_text};
 
 use crate::cells::Cell;
 use crate::escaping::escape;
+use crate::port_marks::PortMark;
 use baplie::Facts;
 use itoa::Buffer;
 use stow_data::{Bytes, Length, Name, NoMemory};
@@ -46,6 +47,42 @@ pub(crate) fn put_if(out: &mut Bytes, on: bool, text: &[u8]) -> Result<(), NoMem
     ensures { OnOk result (out.new ≡ out.old ++ only_if on text.now) }
 {
     if on { write_raw(out, text) } else { Ok(()) }
+}
+
+/// Appends a text of more than so many bytes as the title of what it stands in.
+#[tactic(auto, unfolding(crate::specs::Marks::whole))]
+pub(crate) fn write_whole(out: &mut Bytes, most: usize, text: &[u8]) -> Result<(), NoMemory>
+    ensures { OnOk result (out.new ≡ out.old ++ whole most text.now) }
+{
+    if text.len() <= most {
+        return Ok(());
+    }
+    write_raw(out, b"<title>")?;
+    escape(out, text)?;
+    write_raw(out, b"</title>")
+}
+
+/// Appends a text, cut where it has more than so many bytes.
+#[tactic(auto, unfolding(crate::specs::Marks::short))]
+pub(crate) fn write_short(out: &mut Bytes, most: usize, text: &[u8]) -> Result<(), NoMemory>
+    ensures { OnOk result (out.new ≡ out.old ++ short most text.now) }
+{
+    if text.len() <= most {
+        return escape(out, text);
+    }
+    escape(out, &text[..most])?;
+    write_raw(out, b"&#8230;")
+}
+
+/// Appends kilograms as tonnes with one decimal, rounded.
+#[tactic(auto, unfolding(crate::specs::Marks::tonnes))]
+pub(crate) fn write_tonnes(out: &mut Bytes, kg: u64) -> Result<(), NoMemory>
+    ensures { OnOk result (out.new ≡ out.old ++ tonnes kg) }
+{
+    let tenths = kg / 100 + kg % 100 / 50;
+    write_number(out, tenths / 10)?;
+    write_raw(out, b".")?;
+    out.push(b'0' + (tenths % 10) as u8)
 }
 
 pub(crate) fn write_rect(
@@ -183,17 +220,61 @@ fn write_title(out: &mut Bytes, cell: &Cell, facts: &Facts) -> Result<(), NoMemo
     write_told(out, facts)
 }
 
+/// Appends the mark of a port.
 #[tactic(auto, unfolding(crate::specs::Marks::letters))]
-fn write_letters(out: &mut Bytes, cell: &Cell, dest: &Name) -> Result<(), NoMemory>
+pub(crate) fn write_letters(
+    out: &mut Bytes,
+    middle: u64,
+    base: u64,
+    mark: PortMark,
+) -> Result<(), NoMemory>
+    ensures { OnOk result (out.new ≡ out.old ++ letters middle base mark) }
+{
+    write_label(out, middle, base, b"t")?;
+    escape(out, mark.as_slice())?;
+    write_raw(out, b"</text>")
+}
+
+fn write_short_class(out: &mut Bytes, class: &Option<Name>) -> Result<(), NoMemory>
+    ensures { OnOk result (out.new ≡ out.old ++ short_class class.now) }
+{
+    match class {
+        Some(class) => write_short(out, 4, class.bytes()),
+        None => Ok(()),
+    }
+}
+
+#[tactic(auto, unfolding(crate::specs::Marks::weight_mark))]
+fn write_weight_mark(out: &mut Bytes, cell: &Cell, kg: u32) -> Result<(), NoMemory>
     requires left { cell.now.left < 2 ^ 33 }
     requires top { cell.now.top < 2 ^ 42 }
     requires width { cell.now.width ≤ 56 }
-    ensures { OnOk result (out.new ≡ out.old ++ letters cell.now dest.now) }
+    requires some { 28 ≤ cell.now.width }
+    ensures { OnOk result (out.new ≡ out.old ++ weight_mark cell.now kg) }
 {
-    write_label(out, cell.left + cell.width / 2, cell.top + 20, b"t")?;
-    let bytes = dest.bytes();
-    escape(out, &bytes[bytes.len().saturating_sub(3)..])?;
+    write_label(out, cell.left + cell.width - 2, cell.top + 9, b"g")?;
+    write_number(out, (u64::from(kg) + 500) / 1000)?;
     write_raw(out, b"</text>")
+}
+
+#[tactic(auto, unfolding(crate::specs::Marks::inside))]
+fn write_inside(
+    out: &mut Bytes,
+    cell: &Cell,
+    port: usize,
+    mark: PortMark,
+    facts: &Facts,
+) -> Result<(), NoMemory>
+    requires left { cell.now.left < 2 ^ 33 }
+    requires top { cell.now.top < 2 ^ 42 }
+    requires width { cell.now.width ≤ 56 }
+    requires some { 28 ≤ cell.now.width }
+    ensures { OnOk result (out.new ≡ out.old ++ inside cell.now port mark facts.now) }
+{
+    write_swatch(out, cell.left, cell.top, cell.width, 24, port)?;
+    write_letters(out, cell.left + cell.width / 2, cell.top + 20, mark)?;
+    write_marks(out, cell, facts)?;
+    write_weight_mark(out, cell, facts.kg)
 }
 
 #[tactic(auto, unfolding(crate::specs::Marks::marks))]
@@ -205,30 +286,30 @@ fn write_marks(out: &mut Bytes, cell: &Cell, facts: &Facts) -> Result<(), NoMemo
     write_label(out, cell.left + 2, cell.top + 9, b"m")?;
     put_if(out, facts.reefer, b"R ")?;
     put_if(out, facts.empty, b"E ")?;
-    write_class(out, &facts.class)?;
+    write_short_class(out, &facts.class)?;
     write_raw(out, b"</text>")
 }
 
-/// Appends a container with the number of its port.
+/// Appends a container with the number and the mark of its port.
 pub(crate) fn write_filled(
     out: &mut Bytes,
     cell: &Cell,
     port: usize,
+    mark: PortMark,
     facts: &Facts,
 ) -> Result<(), NoMemory>
     requires left { cell.now.left < 2 ^ 33 }
     requires top { cell.now.top < 2 ^ 42 }
     requires width { cell.now.width ≤ 56 }
-    ensures { OnOk result (out.new ≡ out.old ++ filled_text cell.now port facts.now) }
+    requires some { 28 ≤ cell.now.width }
+    ensures { OnOk result (out.new ≡ out.old ++ filled_text cell.now port mark facts.now) }
 {
     write_raw(out, b"<g class='")?;
     write_classes(out, facts)?;
     write_raw(out, b"'><title>")?;
     write_title(out, cell, facts)?;
     write_raw(out, b"</title>")?;
-    write_swatch(out, cell.left, cell.top, cell.width, 24, port)?;
-    write_letters(out, cell, &facts.dest)?;
-    write_marks(out, cell, facts)?;
+    write_inside(out, cell, port, mark, facts)?;
     write_raw(out, b"</g>\n")
 }
 

@@ -1,12 +1,12 @@
 //! The page that steps through several pictures.
-ghost use Rattle.std.specs.Prelude.{◌≡◌, ◌<◌, ◌≤◌, ◌+◌, ◌++◌, length, IfOk, OnOk};
-ghost use Rattle.bay_views.specs.Pages.{is_unreserved, hex_digit, percent, reference, step, section_front, previous, counted, next, links, section, section_of, page_front, index_page};
+ghost use Rattle.std.specs.Prelude.{◌≡◌, ◌<◌, ◌≤◌, ◌+◌, ◌++◌, length, slice_index_or, IfOk, OnOk};
+ghost use Rattle.bay_views.specs.Pages.{is_unreserved, hex_digit, percent, reference, step, section_front, previous, counted, next, links, printed, prints, section, section_of, page_mark, is_own_page, page_head, page_keys, page_front, index_page};
 
 use crate::escaping::escape_text;
 use crate::marks::{put, write_raw};
 use itoa::Buffer;
 use std::alloc::Global;
-use stow_data::{Bytes, NoMemory, WordList};
+use stow_data::{Bytes, NoMemory, NumberList, WordList};
 
 fn is_unreserved(byte: u8) -> bool
     ensures { result ≡ is_unreserved byte }
@@ -102,13 +102,50 @@ fn write_counted(out: &mut Bytes, i: u64, many: u64) -> Result<(), NoMemory>
     write_raw(out, b"</b> ")
 }
 
-fn write_section_of(out: &mut Bytes, names: &WordList, i: usize) -> Result<(), NoMemory>
+fn bays_at(bays: &NumberList, i: usize) -> u32
+    ensures { result ≡ slice_index_or bays.now i 0 }
+{
+    if i < bays.len() {
+        bays.as_slice()[i]
+    } else {
+        0
+    }
+}
+
+fn write_section_of(
+    out: &mut Bytes,
+    names: &WordList,
+    bays: &NumberList,
+    i: usize,
+) -> Result<(), NoMemory>
     requires { i < length names.now }
-    ensures { OnOk result (out.new ≡ out.old ++ section_of names.now i) }
+    ensures { OnOk result (out.new ≡ out.old ++ section_of names.now bays.now i) }
 {
     let name = names.at(i).as_str();
     let many = names.len() as u64;
-    write_section(out, i as u64, many, name)
+    write_section(out, i as u64, many, name)?;
+    write_prints(out, name, bays_at(bays, i))?;
+    write_raw(out, b"</section>\n")
+}
+
+#[tactic(auto, unfolding(crate::specs::Pages::printed))]
+fn write_printed(out: &mut Bytes, name: &str, i: u64) -> Result<(), NoMemory>
+    ensures { OnOk result (out.new ≡ out.old ++ printed name.now i) }
+{
+    write_raw(out, b"<img class='b' alt='' src='")?;
+    write_reference(out, name)?;
+    put(out, b".svg#v", i)?;
+    write_raw(out, b"'>\n")
+}
+
+#[tactic(auto, using(crate::proofs::Uptos::upto_more), unfolding(crate::specs::Pages::prints))]
+fn write_prints(out: &mut Bytes, name: &str, bays: u32) -> Result<(), NoMemory>
+    ensures { OnOk result (out.new ≡ out.old ++ prints name.now bays) }
+{
+    for i in 0..bays {
+        write_printed(out, name, u64::from(i))?;
+    }
+    Ok(())
 }
 
 fn write_links(out: &mut Bytes, name: &str) -> Result<(), NoMemory>
@@ -120,25 +157,55 @@ fn write_links(out: &mut Bytes, name: &str) -> Result<(), NoMemory>
     escape_text(out, name)?;
     write_raw(out, b"</a></p>\n<object type='image/svg+xml' data='")?;
     write_reference(out, name)?;
-    write_raw(out, b".svg'></object></section>\n")
+    write_raw(out, b".svg'></object>\n")
 }
 
-fn page_front() -> &'static [u8]
-    ensures { result.now ≡ page_front }
+fn page_mark() -> &'static [u8]
+    ensures { result.now ≡ page_mark }
 {
-    b"<!DOCTYPE html>\n<html lang='en'><head><meta charset='utf-8'><title>Bay views</title>\n<style>body{font:14px sans-serif;margin:0 12px}section{min-height:100vh}p{margin:0;padding:8px 0}</style></head><body>\n"
+    b"<!DOCTYPE html>\n<!-- Written by stow-view, which writes it anew. -->\n"
 }
 
-/// The page of these files, of which each has its picture beside it under its name and `.svg`: a section
-/// for each with its picture, and plain links to the one before and the one behind.
+/// Whether a text is a page of this program, or empty.
+pub fn is_own_page(text: &[u8]) -> bool
+    ensures { result ≡ is_own_page text.now }
+{
+    text.is_empty() || text.starts_with(page_mark())
+}
+
+fn page_head() -> &'static [u8]
+    ensures { result.now ≡ page_head }
+{
+    b"<html lang='en'><head><meta charset='utf-8'><title>Bay views</title>\n<style>body{font:14px sans-serif;margin:0 12px}section{min-height:100vh}p{margin:0;padding:8px 0}.b{display:none}@media print{p,object{display:none}.b{display:block;max-width:100%;max-height:95vh;page-break-after:always}}</style>\n"
+}
+
+/// The script of the arrow keys.
+fn page_keys() -> &'static [u8]
+    ensures { result.now ≡ page_keys }
+{
+    b"<script>document.onkeydown=function(e){var d=e.key=='ArrowRight'?1:e.key=='ArrowLeft'?-1:0,i=(parseInt(location.hash.slice(2))||0)+d;if(d&&document.getElementById('c'+i)){location.hash='c'+i;e.preventDefault()}}</script></head><body>\n"
+}
+
+#[tactic(auto, unfolding(crate::specs::Pages::page_front))]
+fn write_page_front(out: &mut Bytes) -> Result<(), NoMemory>
+    ensures { OnOk result (out.new ≡ out.old ++ page_front) }
+{
+    write_raw(out, page_mark())?;
+    write_raw(out, page_head())?;
+    write_raw(out, page_keys())
+}
+
+/// The page of these files, of which each has its picture beside it under its name and `.svg`, with so many
+/// bays: a section for each with its picture, links to the one before and the one behind, to which the arrow
+/// keys step too, and the bays, of which each is printed on a page of its own.
 #[tactic(auto, using(crate::proofs::Uptos::upto_more))]
-pub fn index_page(alloc: Global, names: &WordList) -> Result<Bytes, NoMemory>
-    ensures { IfOk result (λ text. text ≡ index_page names.now) }
+pub fn index_page(alloc: Global, names: &WordList, bays: &NumberList) -> Result<Bytes, NoMemory>
+    ensures { IfOk result (λ text. text ≡ index_page names.now bays.now) }
 {
     let mut out = Bytes::new(alloc);
-    write_raw(&mut out, page_front())?;
+    write_page_front(&mut out)?;
     for i in 0..names.len() {
-        write_section_of(&mut out, names, i)?;
+        write_section_of(&mut out, names, bays, i)?;
     }
     write_raw(&mut out, b"</body></html>\n")?;
     Ok(out)

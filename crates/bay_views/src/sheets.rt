@@ -39,7 +39,7 @@ pub(crate) fn sheet_of(alloc: Global, ports: usize, groups: &[CellGroup]) -> Res
         frame: frame_of(groups),
         long_bays,
         bays,
-        top: 66 + 22 * lines,
+        top: 98 + 22 * lines,
     })
 }
 

@@ -8,7 +8,5 @@ returns c =
     let e2 = c.in_ok-write_raw-2.ensures in
     let e3 = c.in_ok-write_title.ensures in
     let e4 = c.in_ok-write_raw-3.ensures in
-    let e5 = c.in_ok-write_swatch.ensures in
-    let e6 = c.in_ok-write_letters.ensures in
-    let e7 = c.in_ok-write_marks.ensures in
-    simp append_assoc (simp append_assoc at (rw (e7, e6, e5, e4, e3, e2, e1, e0) at c.write_raw-4.ensures))
+    let e5 = c.in_ok-write_inside.ensures in
+    simp append_assoc (simp append_assoc at (rw (e5, e4, e3, e2, e1, e0) at c.write_raw-4.ensures))

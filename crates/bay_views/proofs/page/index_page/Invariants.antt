@@ -1,8 +1,7 @@
 use Rattle.std.proofs.Common.{◌≡◌, ◌++◌}
-use Rattle.bay_views.specs.Marks.{raw}
 use Rattle.bay_views.specs.Upto.{upto}
 use Rattle.bay_views.specs.Pages.{page_front, section_of}
 use Rattle.bay_views.proofs.page.index_page.Given as goal
 
 abbrev pub invariant-loop-i : goal.invariant-loop-i
-invariant-loop-i l = l.out ≡ raw page_front ++ upto (section_of l.names) l.i
+invariant-loop-i l = l.out ≡ page_front ++ upto (section_of l.names l.bays) l.i

@@ -1,0 +1,11 @@
+use Rattle.std.proofs.Common.{append_assoc}
+use Rattle.bay_views.specs.Pages.{printed}
+use Rattle.bay_views.proofs.page.write_printed.Goals as goal
+
+pub returns : goal.returns
+unfolding printed
+returns c =
+    let e0 = c.in_ok-write_raw.ensures in
+    let e1 = c.in_ok-write_reference.ensures in
+    let e2 = c.in_ok-put.ensures in
+    simp append_assoc (simp append_assoc at (rw (e2, e1, e0) at c.write_raw-2.ensures))
