@@ -1,33 +1,28 @@
--- The pictures, and the page behind several of them.
-use Rattle.std.proofs.Common.{◌≡◌, ℕ, ◌+◌, ◌<◌, ◌≤◌, List, [], ◌∷◌, ◌++◌, length, get_or, take, map, refl, ap, sym, ◌∙◌, arith}
-use Rattle.std.proofs.lemmas.Bool.Decides.{nat_tests}
-use Rattle.std.proofs.lemmas.List.{append-nil, map_more}
-use Rattle.picture_files.specs.declared.reading.View.{View}
+-- The pictures, and the page behind them.
+use Rattle.std.proofs.Common.{◌≡◌, ℕ, ◌+◌, List, [], ◌∷◌, ◌++◌, Some, None, refl, ap, sym, ◌∙◌}
+use Rattle.std.proofs.lemmas.List.{append-nil}
 use Rattle.stow_io.specs.declared.files.NamedFile.{NamedFile}
-use Rattle.picture_files.specs.Work.{file_of, pages_for, HasPages}
+use Rattle.bay_views.specs.Upto.{upto}
+use Rattle.bay_views.proofs.Uptos.{upto_more}
+use Rattle.picture_files.specs.declared.reading.View.{View}
+use Rattle.picture_files.specs.Work.{file_at, HasPages}
 
-pub files_more : (ports : List (List ℕ)) (views : List View) (files : List NamedFile) (file : NamedFile) (i : ℕ) (v : View) → i < length views → v ≡ get_or views i v → file ≡ file_of ports v → files ≡ map (file_of ports) (take i views) → files ++ file ∷ [] ≡ map (file_of ports) (take (i + 1) views)
-files_more ports views files file i v lt at is so =
+pub files_more : (ports : List (List ℕ)) (views : List View) (files : List NamedFile) (file : NamedFile) (i : ℕ) → file ∷ [] ≡ file_at ports views i → files ≡ upto (file_at ports views) i → files ++ file ∷ [] ≡ upto (file_at ports views) (i + 1)
+files_more ports views files file i is so =
     ap (λ (fs : List NamedFile). fs ++ file ∷ []) so
-    ∙ ap (λ (f : NamedFile). map (file_of ports) (take i views) ++ f ∷ []) (is ∙ ap (file_of ports) at)
-    ∙ sym (map_more (file_of ports) views i v lt)
+    ∙ ap (λ (fs : List NamedFile). upto (file_at ports views) i ++ fs) is
+    ∙ sym (upto_more (file_at ports views) i)
 
-several : (n : ℕ) → 2 ≤ n → pages_for n ≡ 1
-several n le = grind (arith, nat_tests)
-
-few : (n : ℕ) → n < 2 → pages_for n ≡ 0
-few n lt = grind (arith, nat_tests)
-
-pub with_page : (views : List View) (files : List NamedFile) (page : NamedFile) → 2 ≤ length views → HasPages views files (files ++ page ∷ [])
-with_page views files page le = record {
-  pages = page ∷ [];
+pub with_page : (page : List ℕ) (files : List NamedFile) (file : NamedFile) → file.name ≡ page → HasPages (Some page) files (files ++ file ∷ [])
+with_page page files file is = record {
+  pages = file ∷ [];
   files = refl;
-  one_page = sym (several (length views) le);
+  named = ap (λ (name : List ℕ). name ∷ []) is;
 }
 
-pub without_page : (views : List View) (files : List NamedFile) → length views < 2 → HasPages views files files
-without_page views files lt = record {
+pub without_page : (files : List NamedFile) → HasPages None files files
+without_page files = record {
   pages = [];
   files = sym (append-nil files);
-  one_page = sym (few (length views) lt);
+  named = refl;
 }

@@ -1,5 +1,5 @@
 -- What the files are read as.
-use Rattle.std.specs.Prelude.{◌≡◌, ◌≢◌, ℕ, List, Option, IfSome}
+use Rattle.std.specs.Prelude.{◌≡◌, ◌≢◌, ◌⊎◌, ℕ, true, false, List, Option, IfSome}
 use Rattle.stow_io.specs.Files.{Files, bytes_at}
 use Rattle.baplie.specs.declared.parts.Message.{Message}
 use Rattle.baplie.specs.Messages.{IsMessageOf}
@@ -11,6 +11,7 @@ use Rattle.stow_report.specs.declared.lines.Line.{Line}
 use Rattle.stow_report.specs.Refusals.{refusal_text}
 use Rattle.stow_report.specs.Faults.{interchange_line, message_line}
 use Rattle.stow_report.specs.Listings.{AreListable}
+use Rattle.bay_views.specs.Pages.{is_own_page}
 use Rattle.picture_files.specs.declared.reading.View.{View}
 use Rattle.picture_files.specs.declared.reading.Told.{Told}
 use Rattle.picture_files.specs.declared.reading.Told.TheVariants as told
@@ -56,8 +57,25 @@ pub record RefusesOne (files : Option Files) (names : List ℕ → Type 0) (line
   pub content : IsContent files name bytes
   pub says : IsLineOf bytes line
 
+-- a page of this program's stands there, or no bytes; or the folder failed on it
+abbrev pub IsFree : Option Files → Type 0 → List ℕ → Type 0
+IsFree files cause page = cause ⊎ ((bytes : List ℕ) × IsContent files page bytes × (is_own_page bytes ≡ true))
+
+-- other bytes stand there
+pub record IsForeign (files : Option Files) (page : List ℕ) : Type 0 where
+  pub bytes : List ℕ
+  pub content : IsContent files page bytes
+  pub foreign : is_own_page bytes ≡ false
+
+-- why no page may be written
+abbrev pub IsGuarded : Option Files → Stop → Type 0
+IsGuarded files (stop.Kept page) = IsForeign files page
+IsGuarded files stop.NoMemory = Unit {0}
+IsGuarded _ _ = ⊥
+
 -- why there are no pictures
 abbrev pub IsStop : Option Files → Type 0 → (List ℕ → Type 0) → Stop → Type 0
 IsStop files cause names (stop.Refused line) = RefusesOne files names line
 IsStop files cause names (stop.Failed name) = cause × names name.now
+IsStop files cause names (stop.Kept page) = IsForeign files page
 IsStop files cause names stop.NoMemory = Unit {0}

@@ -1,7 +1,10 @@
 -- What is written and printed for the bay plans.
-use Rattle.std.specs.Prelude.{◌≡◌, ℕ, nat_lt, codes, List, [], ◌∷◌, ◌++◌, length, map, fold, flat_map, All, if◌then◌else◌}
+use Rattle.std.specs.Prelude.{◌≡◌, ℕ, ◌+◌, ◌-◌, ◌==◌, codes, List, [], ◌∷◌, ◌++◌, length, map, fold, flat_map, slice_get, option_to_list, All, Option, Some, None, if◌then◌else◌}
 use Rattle.stow_report.specs.Listings.{AreListable}
+use Rattle.baplie.specs.declared.parts.CellGroup.{CellGroup}
+use Rattle.bay_views.specs.Heads.{same_voyage}
 use Rattle.bay_views.specs.Ports.{with_ports}
+use Rattle.bay_views.specs.Upto.{upto}
 use Rattle.bay_views.specs.Drawings.{picture}
 use Rattle.picture_files.specs.Asked.{picture_name}
 use Rattle.picture_files.specs.declared.reading.View.{View}
@@ -15,12 +18,28 @@ AreDrawable views = All (λ v. AreListable v.message.groups) views
 abbrev pub ports_of : List View → List (List ℕ)
 ports_of views = fold (λ ports v. with_ports ports v.message.groups) [] views
 
-abbrev pub file_of : List (List ℕ) → View → NamedFile
-file_of ports v = record { name = picture_name v.name; bytes = picture ports v.message.groups }
+-- the groups of the bay plan beside another one, where both are of one voyage
+abbrev pub groups_beside : View → Option View → Option (List CellGroup)
+groups_beside v None = None
+groups_beside v (Some other) = if same_voyage v.message other.message then Some other.message.groups else None
+
+abbrev pub view_before : List View → ℕ → Option View
+view_before views i = if i == 0 then None else slice_get views (i - 1)
+
+-- the picture of a bay plan, beside the one before it and the one behind it
+abbrev pub file_of : List (List ℕ) → View → Option View → Option View → NamedFile
+file_of ports v before after = record { name = picture_name v.name; bytes = picture ports v.message (groups_beside v before) (groups_beside v after) }
+
+abbrev pub file_in : List (List ℕ) → Option View → Option View → Option View → List NamedFile
+file_in ports None before after = []
+file_in ports (Some v) before after = file_of ports v before after ∷ []
+
+unfoldable pub file_at : List (List ℕ) → List View → ℕ → List NamedFile
+file_at ports views i = file_in ports (slice_get views i) (view_before views i) (slice_get views (i + 1))
 
 -- a picture for each bay plan
 abbrev pub files_of : List (List ℕ) → List View → List NamedFile
-files_of ports views = map (file_of ports) views
+files_of ports views = upto (file_at ports views) (length views)
 
 abbrev pub line_of : NamedFile → List ℕ
 line_of file = codes "written " ++ file.name ++ 10 ∷ []
@@ -28,17 +47,13 @@ line_of file = codes "written " ++ file.name ++ 10 ∷ []
 abbrev pub report_of : List NamedFile → List ℕ
 report_of files = flat_map line_of files
 
--- how many pages step through so many pictures
-abbrev pub pages_for : ℕ → ℕ
-pages_for pictures = if nat_lt 1 pictures then 1 else 0
-
--- these files, then the page where there are several pictures
-pub record HasPages (views : List View) (before now : List NamedFile) : Type 0 where
+-- these files, then the page of this name, where there is one
+pub record HasPages (page : Option (List ℕ)) (before now : List NamedFile) : Type 0 where
   pub pages : List NamedFile
   pub files : now ≡ before ++ pages
-  pub one_page : length pages ≡ pages_for (length views)
+  pub named : map (λ file. file.name) pages ≡ option_to_list page
 
 -- the pictures, then the page, and a line for each of them
-pub record IsWorkOf (views : List View) (work : Work) : Type 0 where
-  pub files : HasPages views (files_of (ports_of views) views) work.files
+pub record IsWorkOf (views : List View) (page : Option (List ℕ)) (work : Work) : Type 0 where
+  pub files : HasPages page (files_of (ports_of views) views) work.files
   pub report : work.report ≡ report_of work.files

@@ -1,5 +1,5 @@
 //! The words of the command line, and the names of the files that are written.
-ghost use Rattle.std.specs.Prelude.{◌≡◌, ◌++◌, ◌||◌, ◌&&◌, not, nat_eq, codes, option_map, IfOk};
+ghost use Rattle.std.specs.Prelude.{◌≡◌, ◌++◌, ◌||◌, ◌&&◌, not, nat_eq, nat_lt, codes, length, is_some, option_map, IfOk};
 ghost use Rattle.std.specs.List.{list_all, starts_with, ends_with};
 ghost use Rattle.picture_files.specs.Asked.{is_name, asked, picture_name};
 
@@ -75,8 +75,18 @@ pub fn are_together(names: &[Word]) -> bool {
     }
 }
 
-/// The name of the page that steps through the pictures, in the folder of this file.
-pub fn page_name(alloc: Global, first: &str) -> Result<Word, NoMemory> {
+/// The name of the page that steps through the pictures of these files, where there are several: it stands in
+/// the folder of the first.
+pub fn page_for(alloc: Global, names: &[Word]) -> Result<Option<Word>, NoMemory>
+    ensures { IfOk result (λ page. is_some page ≡ nat_lt 1 (length names.now)) }
+{
+    match names {
+        [first, _, ..] => Ok(Some(page_name(alloc, first.as_str())?)),
+        _ => Ok(None),
+    }
+}
+
+fn page_name(alloc: Global, first: &str) -> Result<Word, NoMemory> {
     let text = match folder_of(first) {
         Some(folder) => format!(in alloc; "{folder}/index.html")?,
         None => format!(in alloc; "index.html")?,

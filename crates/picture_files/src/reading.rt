@@ -1,10 +1,11 @@
 //! The reads of the bay plans.
-ghost use Rattle.std.specs.Prelude.{◌≡◌, ◌≤◌, ◌^◌, length, map, All, Contains, IfOk, IfErr};
+ghost use Rattle.std.specs.Prelude.{◌≡◌, ◌≤◌, ◌^◌, length, map, All, Contains, IfOk, IfErr, IfSome, OnOk};
 ghost use Rattle.stow_io.specs.Causes.{Rose};
 ghost use Rattle.stow_report.specs.Refusals.{refusal_text};
-ghost use Rattle.picture_files.specs.Reading.{file_line, IsViewOf, TellsOf, IsStop};
+ghost use Rattle.picture_files.specs.Reading.{file_line, IsViewOf, TellsOf, IsFree, IsGuarded, IsStop};
 
 use baplie::{BaplieFault, Message, read_baplie};
+use bay_views::is_own_page;
 use edifact_segments::SegFault;
 use std::alloc::Global;
 use stow_data::{Bytes, NoMemory, Seq, Word};
@@ -28,6 +29,8 @@ pub enum Stop<'a> {
     Refused(Bytes),
     /// A file that was not read.
     Failed(&'a str),
+    /// A page of another maker stands under the name of the page.
+    Kept(Word),
     NoMemory,
 }
 
@@ -102,6 +105,46 @@ fn read_view<'a, F: Folder>(alloc: Global, folder: &mut F, name: &'a str) -> Res
         },
         Ok(Told::Line(line)) => Err(Stop::Refused(line)),
         Err(NoMemory) => Err(Stop::NoMemory),
+    }
+}
+
+/// That a page may be written: no page of another maker stands there. One that isn't read counts as none.
+fn guard_page<'a, F: Folder>(alloc: Global, folder: &mut F, page: &Word) -> Result<(), Stop<'a>>
+    ensures stays { F.files folder.new ≡ F.files folder.old }
+    ensures free { OnOk result (IsFree (F.files folder.old) (Rose (F.faults folder.old) (F.faults folder.new)) page.now) }
+    ensures later { F.faults folder.old ≤ F.faults folder.new }
+    ensures failed { IfErr result (IsGuarded (F.files folder.old)) }
+{
+    let bytes = match folder.read(page.as_str()) {
+        Ok(bytes) => bytes,
+        Err(FolderNo::Failed) => return Ok(()),
+        Err(FolderNo::NoMemory) => return Err(Stop::NoMemory),
+    };
+    let own = is_own_page(bytes.as_slice());
+    drop(bytes);
+    if own {
+        return Ok(());
+    }
+    match Word::of(alloc, page.as_str()) {
+        Ok(page) => Err(Stop::Kept(page)),
+        Err(NoMemory) => Err(Stop::NoMemory),
+    }
+}
+
+/// The same of the page, where there is one.
+pub fn guard<'a, F: Folder>(
+    alloc: Global,
+    folder: &mut F,
+    page: &Option<Word>,
+) -> Result<(), Stop<'a>>
+    ensures stays { F.files folder.new ≡ F.files folder.old }
+    ensures free { OnOk result (IfSome page.now (IsFree (F.files folder.old) (Rose (F.faults folder.old) (F.faults folder.new)))) }
+    ensures later { F.faults folder.old ≤ F.faults folder.new }
+    ensures failed { IfErr result (IsGuarded (F.files folder.old)) }
+{
+    match page {
+        Some(page) => guard_page(alloc, folder, page),
+        None => Ok(()),
     }
 }
 

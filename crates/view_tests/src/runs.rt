@@ -76,6 +76,26 @@ fn draws_two_calls(rt: HostRuntime) -> Result<(), Fail> {
 }
 
 #[test]
+fn keeps_another_page(rt: HostRuntime) -> Result<(), Fail> {
+    let mut folder = folder_of(rt.alloc())?;
+    folder.lay("a/index.html", b"<p>mine")?;
+    let ran = run_in(rt.alloc(), "a/one.edi", "a/two.edi", &mut folder)?;
+    assert!(rt; ran.status == Status::Input && !ran.has_picture);
+    assert!(rt; ran.report.as_slice() == b"refused page a/index.html\n".as_slice());
+    Ok(())
+}
+
+#[test]
+fn writes_its_own_page_anew(rt: HostRuntime) -> Result<(), Fail> {
+    let mut folder = folder_of(rt.alloc())?;
+    let first = run_in(rt.alloc(), "a/one.edi", "a/two.edi", &mut folder)?;
+    assert!(rt; first.status == Status::Fine);
+    let again = run_in(rt.alloc(), "a/one.edi", "a/two.edi", &mut folder)?;
+    assert!(rt; again.status == Status::Fine);
+    Ok(())
+}
+
+#[test]
 fn writes_nothing_for_a_cut_file(rt: HostRuntime) -> Result<(), Fail> {
     let ran = run(rt.alloc(), "a/one.edi", "a/cut.edi")?;
     assert!(rt; ran.status == Status::Input);
