@@ -1,6 +1,9 @@
 //! What of a voyage is the same in every run: stacks, kinds, and which variables belong together.
+ghost use Rattle.std.specs.Prelude.{ℕ, ◌<◌, All, IfSome, IsTrue};
 
 use crate::bonds::Bonds;
+use crate::sizes::Sizes;
+use std::marker::Model;
 use stow_data::{Length, Lengths, Place, Span};
 
 /// Tiers that a stack has at most.
@@ -30,10 +33,36 @@ pub struct StackFacts {
     pub under: Option<u32>,
 }
 
+/// Whether a cover, if any, is below this number.
+fn is_cover_below(cover: Option<u32>, covers: u32) -> bool
+    ensures { IsTrue result → IfSome cover (λ c. c < covers) }
+{
+    match cover {
+        None => true,
+        Some(cover) => cover < covers,
+    }
+}
+
 impl StackFacts {
+    ghost use Rattle.voyage_guess.specs.Ranges.{IsStack};
+
+    /// Whether it has at most 40 tiers, and its covers are among so many.
+    pub fn is_stack(&self, covers: u32) -> bool
+        ensures { IsTrue result → IsStack covers self.now }
+    {
+        self.tiers <= TIERS
+            && is_cover_below(self.over, covers)
+            && is_cover_below(self.under, covers)
+    }
+
     /// The hatch cover that it lies under or stands on.
-    pub fn cover(&self) -> Option<u32> {
-        self.over.or(self.under)
+    pub fn cover(&self) -> Option<u32>
+        ensures { (covers : ℕ) → IsStack covers self.now → IfSome result (λ c. c < covers) }
+    {
+        match self.over {
+            None => self.under,
+            Some(over) => Some(over),
+        }
     }
 
     /// The place of a tier that takes these half-cells, where the stack offers it.
@@ -113,16 +142,13 @@ pub struct Arrived {
     pub rank: u32,
 }
 
-/// What is the same in every run.
+/// What is the same in every run. Contracts see how much there is.
 #[derive(Drop)]
 pub struct Facts {
-    /// The last call.
-    pub calls: u32,
+    pub sizes: Sizes,
     pub stacks: Vec<StackFacts>,
     /// Which stacks are bound together.
     pub bonds: Bonds,
-    /// The number of hatch covers.
-    pub covers: u32,
     pub places: Vec<Place>,
     pub kinds: Vec<KindFacts>,
     /// For each call and kind how many containers load.
@@ -133,14 +159,23 @@ pub struct Facts {
     pub ranks: Vec<u32>,
     /// For each variable what it belongs to.
     pub marks: Vec<Mark>,
-    /// How many places all lots have.
-    pub stays: u32,
     /// By their places, so stack by stack and from the lowest tier up.
     pub arrived: Vec<Arrived>,
     /// For two classes the level of their separation, or 0.
     pub levels: Vec<u32>,
     /// The number of classes that the cargo has.
     pub classes: u32,
+}
+
+impl Model for Facts {
+    ghost use Rattle.voyage_guess.specs.declared.sizes.Sizes.{Sizes};
+    ghost use Rattle.voyage_guess.specs.Facts.{AreFacts};
+
+    ghost Value = { Sizes };
+
+    ghost view = { λ f. f.sizes };
+
+    ghost invariant = { AreFacts };
 }
 
 /// How many entries a list has: the limits of a voyage keep it far below the greatest number.
@@ -156,6 +191,64 @@ pub fn index_of(row: u32, width: usize, column: u32) -> usize {
 }
 
 impl Facts {
+    ghost use Rattle.voyage_guess.specs.Ranges.{IsArrived, IsMark, IsStack};
+
+    /// A stack.
+    pub fn stack(&self, stack: u32) -> &StackFacts
+        requires { stack < self.now.stacks }
+        ensures { IsStack self.now.covers result.now }
+    {
+        &self.stacks[stack as usize]
+    }
+
+    /// A stack, where there is one of this number.
+    pub fn find_stack(&self, stack: u32) -> Option<&StackFacts>
+        ensures there { IfSome result (λ s. stack < self.now.stacks) }
+        ensures is { IfSome result (λ s. IsStack self.now.covers s.now) }
+    {
+        if stack < self.sizes.stacks {
+            Some(self.stack(stack))
+        } else {
+            None
+        }
+    }
+
+    /// A kind.
+    pub fn kind(&self, kind: u32) -> &KindFacts
+        requires { kind < self.now.kinds }
+    {
+        &self.kinds[kind as usize]
+    }
+
+    /// A kind, where there is one of this number.
+    pub fn find_kind(&self, kind: u32) -> Option<&KindFacts>
+        ensures { IfSome result (λ _. kind < self.now.kinds) }
+    {
+        if kind < self.sizes.kinds {
+            Some(self.kind(kind))
+        } else {
+            None
+        }
+    }
+
+    /// What a variable belongs to, where there is one of this number.
+    pub fn mark(&self, x: u32) -> Option<&Mark>
+        ensures { IfSome result (λ m. IsMark self.now m.now) }
+    {
+        self.marks.get(x as usize)
+    }
+
+    /// A place, where there is one of this number.
+    pub fn find_place(&self, place: u32) -> Option<Place>
+        ensures { IfSome result (λ _. place < self.now.places) }
+    {
+        if place < self.sizes.places {
+            Some(self.places[place as usize])
+        } else {
+            None
+        }
+    }
+
     /// The lot of a kind at a call.
     pub fn lot(&self, put: u32, kind: u32) -> Option<&Lot> {
         self.lots.get(index_of(put, self.kinds.len(), kind))
@@ -192,25 +285,40 @@ impl Facts {
         }
     }
 
-    /// How many containers of each kind load at a call.
-    pub fn loads_at(&self, call: u32) -> &[u32] {
-        let first = index_of(call, self.kinds.len(), 0);
-        let past = first.wrapping_add(self.kinds.len());
-        self.loads.get(first..past).unwrap_or(&[])
+    /// How many containers of a kind load at a call.
+    pub fn load(&self, call: u32, kind: u32) -> u32 {
+        self.loads
+            .get(index_of(call, self.kinds.len(), kind))
+            .copied()
+            .unwrap_or(0)
     }
 
     /// What arrives in a stack, from the lowest tier up.
-    pub fn arrived_in(&self, stack: u32) -> &[Arrived] {
+    pub fn arrived_in(&self, stack: u32) -> &[Arrived]
+        ensures { All (IsArrived self.now) result.now }
+    {
         let first = self.arrived.partition_point(|a| a.spot.stack < stack);
         let past = self.arrived.partition_point(|a| a.spot.stack <= stack);
         self.arrived.get(first..past).unwrap_or(&[])
     }
 
-    /// The place of a stack, tier and half-cells.
-    pub fn place_of(&self, spot: Spot) -> Option<u32> {
-        self.stacks
-            .get(spot.stack as usize)?
-            .place(spot.tier, spot.span)
+    /// One of those that arrive in a stack, counted from the lowest tier up.
+    pub fn arrived_at(&self, stack: u32, number: usize) -> Option<Arrived>
+        ensures { IfSome result (IsArrived self.now) }
+    {
+        self.arrived_in(stack).get(number).copied()
+    }
+
+    /// The place of a stack, tier and half-cells, where the ship has it.
+    pub fn place_of(&self, spot: Spot) -> Option<u32>
+        ensures { IfSome result (λ p. p < self.now.places) }
+    {
+        let place = self.find_stack(spot.stack)?.place(spot.tier, spot.span)?;
+        if place < self.sizes.places {
+            Some(place)
+        } else {
+            None
+        }
     }
 
     /// The width of the table of levels: the classes have numbers from 1.

@@ -1,17 +1,22 @@
 //! Stays of an earlier voyage that a run takes over.
+ghost use Rattle.std.specs.Prelude.{◌≡◌, ◌<◌, All, IfOk, length};
 
 use crate::chance::Chance;
 use crate::facts::{Facts, bit_of};
 use crate::kept::Kept;
 use crate::rule::FREE_RUNS;
 use crate::scope::Scope;
+use crate::sizes::Sizes;
 use crate::yard::Planned;
 use std::alloc::Global;
+use std::marker::Model;
 use stow_data::NoMemory;
 
-/// Stays of an earlier voyage that a run takes over: those in some stacks, and those that begin before a call.
+/// Stays of an earlier voyage that a run takes over: those in some stacks, and those that begin before a call. Contracts see
+/// how much there is.
 #[derive(Drop)]
 pub struct Guide {
+    sizes: Sizes,
     /// By the calls at which they begin.
     stays: Vec<Planned>,
     /// For each place the calls at which such stays begin there, as bits.
@@ -20,13 +25,30 @@ pub struct Guide {
     is_freed: Vec<bool>,
 }
 
+impl Model for Guide {
+    ghost use Rattle.std.specs.Prelude.{◌≡◌, length};
+    ghost use Rattle.voyage_guess.specs.declared.sizes.Sizes.{Sizes};
+
+    ghost Value = { Sizes };
+
+    ghost view = { λ g. g.sizes };
+
+    ghost invariant = { λ g. length g.pledged.items ≡ g.sizes.places };
+}
+
 impl Guide {
+    ghost use Rattle.voyage_guess.specs.Ranges.{IsPlanned};
+
     /// No stays.
-    pub fn new(alloc: Global, facts: &Facts) -> Result<Guide, NoMemory> {
+    pub fn new(alloc: Global, facts: &Facts) -> Result<Guide, NoMemory>
+        ensures { IfOk result (λ g. g ≡ facts.now) }
+    {
+        let sizes = facts.sizes;
         Ok(Guide {
+            sizes,
             stays: Vec::new(alloc),
-            pledged: Vec::from_elem(alloc, 0, facts.places.len())?,
-            is_freed: Vec::from_elem(alloc, false, facts.stacks.len())?,
+            pledged: Vec::from_elem(alloc, 0, facts.sizes.places as usize)?,
+            is_freed: Vec::from_elem(alloc, false, facts.sizes.stacks as usize)?,
         })
     }
 
@@ -41,17 +63,20 @@ impl Guide {
     }
 
     /// Takes nothing over.
-    pub fn clear(&mut self) {
-        for stay in self.stays.iter() {
-            if let Some(calls) = self.pledged.get_mut(stay.place as usize) {
-                *calls = 0;
-            }
+    pub fn clear(&mut self)
+        ensures { self.new ≡ self.old }
+    {
+        if self.stays.is_empty() {
+            return;
         }
+        self.pledged.fill(0);
         self.stays.clear();
     }
 
     /// Draws the stacks whose stays are planned anew.
-    fn draw_freed(&mut self, chance: &mut Chance) {
+    fn draw_freed(&mut self, chance: &mut Chance)
+        ensures { self.new ≡ self.old }
+    {
         let times = chance.below(30_000);
         for freed in self.is_freed.iter_mut() {
             *freed = chance.comes_true(times);
@@ -59,17 +84,21 @@ impl Guide {
     }
 
     /// Takes a stay over.
-    fn take(&mut self, stay: Planned) -> Result<(), NoMemory> {
-        if let Some(calls) = self.pledged.get_mut(stay.place as usize) {
-            *calls |= bit_of(stay.put);
-        }
+    fn take(&mut self, stay: Planned) -> Result<(), NoMemory>
+        requires { stay.place < self.old.places }
+        ensures { self.new ≡ self.old }
+    {
+        self.pledged[stay.place as usize] |= bit_of(stay.put);
         self.stays.push(stay)?;
         Ok(())
     }
 
     /// Takes a stay over where its stack isn't freed, or it begins before a call: up to which call it stays is then open if
     /// that is past this call.
-    fn consider(&mut self, stay: &Planned, from: u32, asked: u32) -> Result<(), NoMemory> {
+    fn consider(&mut self, stay: &Planned, from: u32, asked: u32) -> Result<(), NoMemory>
+        requires { stay.now.place < self.old.places }
+        ensures { self.new ≡ self.old }
+    {
         if stay.put == 0 || asked & bit_of(stay.put) != 0 {
             return Ok(());
         }
@@ -93,12 +122,10 @@ impl Guide {
     }
 
     /// Takes over what it may of these stays.
-    fn consider_all(
-        &mut self,
-        stays: &[Planned],
-        from: u32,
-        asked: &[u32],
-    ) -> Result<(), NoMemory> {
+    fn consider_all(&mut self, stays: &[Planned], from: u32, asked: &[u32]) -> Result<(), NoMemory>
+        requires { All (IsPlanned self.old) stays.now }
+        ensures { self.new ≡ self.old }
+    {
         for stay in stays {
             let asked = asked.get(stay.place as usize).copied().unwrap_or(0);
             self.consider(stay, from, asked)?;
@@ -113,7 +140,10 @@ impl Guide {
         scope: &Scope,
         from: u32,
         asked: &[u32],
-    ) -> Result<(), NoMemory> {
+    ) -> Result<(), NoMemory>
+        requires { kept.now ≡ self.old }
+        ensures { self.new ≡ self.old }
+    {
         for stack in scope.stacks() {
             self.consider_all(kept.stays(*stack), from, asked)?;
         }
@@ -130,10 +160,13 @@ impl Guide {
         kept: &Kept,
         scope: &Scope,
         asked: &[u32],
-    ) -> Result<(), NoMemory> {
+    ) -> Result<(), NoMemory>
+        requires { kept.now ≡ self.old }
+        ensures { self.new ≡ self.old }
+    {
         self.clear();
         self.draw_freed(chance);
-        let from = chance.below(facts.calls);
+        let from = chance.below(facts.sizes.calls);
         self.consider_stacks(kept, scope, from, asked)
     }
 
@@ -146,13 +179,16 @@ impl Guide {
         kept: &Kept,
         scope: &Scope,
         asked: &[u32],
-    ) -> Result<(), NoMemory> {
+    ) -> Result<(), NoMemory>
+        requires { kept.now ≡ self.old }
+        ensures { self.new ≡ self.old }
+    {
         self.clear();
         if chance.below(100) < FREE_RUNS {
             return Ok(());
         }
         self.is_freed.fill(true);
-        let from = chance.below(facts.calls);
+        let from = chance.below(facts.sizes.calls);
         if from > 1 {
             self.consider_stacks(kept, scope, from, asked)?;
         }

@@ -1,13 +1,17 @@
 //! The voyage that is kept, stack by stack.
+ghost use Rattle.std.specs.Prelude.{◌≡◌, ◌<◌, All, IfOk, length};
 
 use crate::chance::Chance;
+use crate::sizes::Sizes;
 use crate::yard::Planned;
 use std::alloc::Global;
+use std::marker::Model;
 use stow_data::NoMemory;
 
-/// The cheapest voyage that was found, if any.
+/// The cheapest voyage that was found, if any. Contracts see how much there is.
 #[derive(Drop)]
 pub struct Kept {
+    sizes: Sizes,
     is_found: bool,
     /// For each stack the stays in it.
     stays: Vec<Vec<Planned>>,
@@ -17,17 +21,33 @@ pub struct Kept {
     cost: u64,
 }
 
+impl Model for Kept {
+    ghost use Rattle.voyage_guess.specs.declared.sizes.Sizes.{Sizes};
+    ghost use Rattle.voyage_guess.specs.Keeping.{IsKept};
+
+    ghost Value = { Sizes };
+
+    ghost view = { λ k. k.sizes };
+
+    ghost invariant = { IsKept };
+}
+
 impl Kept {
-    /// No voyage over so many stacks.
-    pub fn new(alloc: Global, stacks: usize) -> Result<Kept, NoMemory> {
+    ghost use Rattle.voyage_guess.specs.Ranges.{IsPlanned};
+
+    /// No voyage.
+    pub fn new(alloc: Global, sizes: Sizes) -> Result<Kept, NoMemory>
+        ensures { IfOk result (λ k. k ≡ sizes) }
+    {
         let mut stays = Vec::new(alloc);
-        for _ in 0..stacks {
+        for _stack in 0..sizes.stacks {
             stays.push(Vec::new(alloc))?;
         }
         Ok(Kept {
+            sizes,
             is_found: false,
             stays,
-            rehandles: Vec::from_elem(alloc, 0, stacks)?,
+            rehandles: Vec::from_elem(alloc, 0, sizes.stacks as usize)?,
             cost: 0,
         })
     }
@@ -43,12 +63,16 @@ impl Kept {
     }
 
     /// For each stack the stays in it.
-    pub fn stacks(&self) -> &[Vec<Planned>] {
+    pub fn stacks(&self) -> &[Vec<Planned>]
+        ensures { All (λ list. All (IsPlanned self.now) list.items) result.now }
+    {
         self.stays.as_slice()
     }
 
     /// The stays in a stack.
-    pub fn stays(&self, stack: u32) -> &[Planned] {
+    pub fn stays(&self, stack: u32) -> &[Planned]
+        ensures { All (IsPlanned self.now) result.now }
+    {
         match self.stays.get(stack as usize) {
             None => &[],
             Some(stays) => stays.as_slice(),
@@ -87,37 +111,43 @@ impl Kept {
     }
 
     /// Forgets the voyage.
-    pub fn forget(&mut self) {
+    pub fn forget(&mut self)
+        ensures { self.new ≡ self.old }
+    {
         self.is_found = false;
     }
 
     /// Forgets the stays in a stack.
-    fn clear(&mut self, stack: u32) {
+    fn clear(&mut self, stack: u32)
+        requires { stack < self.old.stacks }
+        ensures { self.new ≡ self.old }
+    {
         self.cost = self.cost.saturating_sub(u64::from(self.rehandles(stack)));
-        if let Some(rehandles) = self.rehandles.get_mut(stack as usize) {
-            *rehandles = 0;
-        }
-        if let Some(stays) = self.stays.get_mut(stack as usize) {
-            stays.clear();
-        }
+        self.rehandles[stack as usize] = 0;
+        let stays = &mut self.stays[stack as usize];
+        stays.clear();
     }
 
     /// Enters a stay.
-    fn enter(&mut self, stay: &Planned) -> Result<(), NoMemory> {
+    fn enter(&mut self, stay: &Planned) -> Result<(), NoMemory>
+        requires { IsPlanned self.old stay.now }
+        ensures { self.new ≡ self.old }
+    {
+        let stack = stay.spot.stack as usize;
         if stay.is_rehandled {
             self.cost = self.cost.saturating_add(1);
-            if let Some(rehandles) = self.rehandles.get_mut(stay.spot.stack as usize) {
-                *rehandles = rehandles.saturating_add(1);
-            }
+            self.rehandles[stack] = self.rehandles[stack].saturating_add(1);
         }
-        if let Some(stays) = self.stays.get_mut(stay.spot.stack as usize) {
-            stays.push(*stay)?;
-        }
+        let stays = &mut self.stays[stack];
+        stays.push(*stay)?;
         Ok(())
     }
 
     /// Enters these stays.
-    fn enter_all(&mut self, stays: &[Planned]) -> Result<(), NoMemory> {
+    fn enter_all(&mut self, stays: &[Planned]) -> Result<(), NoMemory>
+        requires { All (IsPlanned self.old) stays.now }
+        ensures { self.new ≡ self.old }
+    {
         for stay in stays {
             self.enter(stay)?;
         }
@@ -125,7 +155,10 @@ impl Kept {
     }
 
     /// Keeps what is kept there.
-    pub fn copy_from(&mut self, other: &Kept) -> Result<(), NoMemory> {
+    pub fn copy_from(&mut self, other: &Kept) -> Result<(), NoMemory>
+        requires { other.now ≡ self.old }
+        ensures { self.new ≡ self.old }
+    {
         for stays in other.stacks() {
             self.enter_all(stays)?;
         }
@@ -134,14 +167,21 @@ impl Kept {
     }
 
     /// Forgets the stays in these stacks.
-    fn clear_all(&mut self, stacks: &[u32]) {
+    fn clear_all(&mut self, stacks: &[u32])
+        requires { All (λ s. s < self.old.stacks) stacks.now }
+        ensures { self.new ≡ self.old }
+    {
         for stack in stacks {
             self.clear(*stack);
         }
     }
 
     /// Keeps these stays in place of all that were in these stacks.
-    pub fn take(&mut self, stacks: &[u32], stays: &[Planned]) -> Result<(), NoMemory> {
+    pub fn take(&mut self, stacks: &[u32], stays: &[Planned]) -> Result<(), NoMemory>
+        requires stacks { All (λ s. s < self.old.stacks) stacks.now }
+        requires stays { All (IsPlanned self.old) stays.now }
+        ensures { self.new ≡ self.old }
+    {
         self.clear_all(stacks);
         self.enter_all(stays)?;
         self.is_found = true;

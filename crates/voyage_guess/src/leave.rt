@@ -1,17 +1,19 @@
 //! What a box allows: at which calls each stay may end, and which stays it asks for.
-ghost use Rattle.std.specs.Prelude.{◌≡◌, ◌<◌, length};
+ghost use Rattle.std.specs.Prelude.{◌≡◌, ◌<◌, IfOk, length};
 ghost use Rattle.zero_one_rows.specs.Variables.{variables};
 
-use crate::facts::{Facts, Spot, bit_of};
+use crate::facts::{Facts, Mark, Spot, bit_of};
+use crate::sizes::Sizes;
 use crate::yard::Planned;
 use std::alloc::Global;
 use stow_data::{NoMemory, VarNo};
 use zero_one_model::{Box01, Model};
 use zero_one_rows::Var;
 
-/// What a box allows.
+/// What a box allows. Contracts see how much there is.
 #[derive(Drop)]
 pub struct Leave {
+    sizes: Sizes,
     /// For each place of each lot the calls at which its stay may end, as bits.
     ends: Vec<u32>,
     /// The stays that the box asks for and that begin after the arrival, by the calls at which they begin.
@@ -22,13 +24,30 @@ pub struct Leave {
     ones: u32,
 }
 
+impl std::marker::Model for Leave {
+    ghost use Rattle.std.specs.Prelude.{◌≡◌, length};
+    ghost use Rattle.voyage_guess.specs.declared.sizes.Sizes.{Sizes};
+
+    ghost Value = { Sizes };
+
+    ghost view = { λ l. l.sizes };
+
+    ghost invariant = { λ l. (length l.ends.items ≡ l.sizes.stays) × (length l.pledged.items ≡ l.sizes.places) };
+}
+
 impl Leave {
+    ghost use Rattle.voyage_guess.specs.Ranges.{IsMark};
+
     /// What nothing was read of.
-    pub fn new(alloc: Global, facts: &Facts) -> Result<Leave, NoMemory> {
+    pub fn new(alloc: Global, facts: &Facts) -> Result<Leave, NoMemory>
+        ensures { IfOk result (λ l. l ≡ facts.now) }
+    {
+        let sizes = facts.sizes;
         Ok(Leave {
-            ends: Vec::from_elem(alloc, 0, facts.stays as usize)?,
+            sizes,
+            ends: Vec::from_elem(alloc, 0, facts.sizes.stays as usize)?,
             pledges: Vec::new(alloc),
-            pledged: Vec::from_elem(alloc, 0, facts.places.len())?,
+            pledged: Vec::from_elem(alloc, 0, facts.sizes.places as usize)?,
             ones: 0,
         })
     }
@@ -59,7 +78,9 @@ impl Leave {
     }
 
     /// Forgets what was read.
-    fn clear(&mut self) {
+    fn clear(&mut self)
+        ensures { self.new ≡ self.old }
+    {
         self.ends.fill(0);
         self.pledges.clear();
         self.pledged.fill(0);
@@ -67,74 +88,82 @@ impl Leave {
     }
 
     /// Allows a variable.
-    fn allow(&mut self, facts: &Facts, x: u32) {
-        if let Some(mark) = facts.marks.get(x as usize) {
-            if let Some(ends) = self.ends.get_mut(mark.stays as usize) {
-                *ends |= mark.lifted;
-            }
-        }
+    fn allow(&mut self, mark: &Mark)
+        requires { IsMark self.old mark.now }
+        ensures { self.new ≡ self.old }
+    {
+        self.ends[mark.stays as usize] |= mark.lifted;
     }
 
-    /// Notes a stay that the box asks for.
-    fn pledge(&mut self, facts: &Facts, x: VarNo, v: &Var) -> Result<(), NoMemory> {
+    /// Notes a stay that the box asks for. False where the ship has no such place.
+    fn pledge(&mut self, facts: &Facts, x: VarNo, v: &Var) -> Result<bool, NoMemory>
+        requires { facts.now ≡ self.old }
+        ensures { self.new ≡ self.old }
+    {
         self.ones = self.ones.wrapping_add(1);
         if v.put.0 == 0 {
-            return Ok(());
+            return Ok(true);
         }
-        if let Some(calls) = self.pledged.get_mut(v.place.0 as usize) {
-            *calls |= bit_of(v.put.0);
-        }
-        if let Some(place) = facts.places.get(v.place.0 as usize) {
-            self.pledges.push(Planned {
-                x,
-                put: v.put.0,
-                kind: v.kind.0,
-                ends: bit_of(v.lifted.0),
-                lifted: v.lifted.0,
-                place: v.place.0,
-                spot: Spot {
-                    stack: place.stack.0,
-                    tier: place.tier,
-                    span: place.span,
-                },
-                is_rehandled: false,
-            })?;
-        }
-        Ok(())
+        let Some(place) = facts.find_place(v.place.0) else {
+            return Ok(false);
+        };
+        self.pledged[v.place.0 as usize] |= bit_of(v.put.0);
+        self.pledges.push(Planned {
+            x,
+            put: v.put.0,
+            kind: v.kind.0,
+            ends: bit_of(v.lifted.0),
+            lifted: v.lifted.0,
+            place: v.place.0,
+            spot: Spot {
+                stack: place.stack.0,
+                tier: place.tier,
+                span: place.span,
+            },
+            is_rehandled: false,
+        })?;
+        Ok(true)
     }
 
-    /// Reads a variable of a box.
+    /// Reads a variable of a box. False where it isn't known.
     fn read_one(
         &mut self,
         facts: &Facts,
         model: &Model,
         b: &Box01,
         x: VarNo,
-    ) -> Result<(), NoMemory>
+    ) -> Result<bool, NoMemory>
         requires whole { length b.now ≡ length (variables model.now) }
         requires inside { x < length (variables model.now) }
+        requires facts { facts.now ≡ self.old }
+        ensures { self.new ≡ self.old }
     {
-        match b.at(x) {
-            Some(false) => Ok(()),
-            None => {
-                self.allow(facts, x.0);
-                Ok(())
-            }
-            Some(true) => {
-                self.allow(facts, x.0);
-                self.pledge(facts, x, &model.var(x))
-            }
+        let value = b.at(x);
+        if value == Some(false) {
+            return Ok(true);
         }
+        let Some(mark) = facts.mark(x.0) else {
+            return Ok(false);
+        };
+        self.allow(mark);
+        if value.is_none() {
+            return Ok(true);
+        }
+        self.pledge(facts, x, &model.var(x))
     }
 
-    /// Reads a box.
-    pub fn read(&mut self, facts: &Facts, model: &Model, b: &Box01) -> Result<(), NoMemory>
+    /// Reads a box. False where it names a variable or a place that isn't known, as none of the program's boxes does.
+    pub fn read(&mut self, facts: &Facts, model: &Model, b: &Box01) -> Result<bool, NoMemory>
         requires whole { length b.now ≡ length (variables model.now) }
+        requires facts { facts.now ≡ self.old }
+        ensures { self.new ≡ self.old }
     {
         self.clear();
         for x in 0..model.vars() {
-            self.read_one(facts, model, b, VarNo(x))?;
+            if !self.read_one(facts, model, b, VarNo(x))? {
+                return Ok(false);
+            }
         }
-        Ok(())
+        Ok(true)
     }
 }

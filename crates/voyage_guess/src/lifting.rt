@@ -1,4 +1,5 @@
 //! Which containers are lifted at a call.
+ghost use Rattle.std.specs.Prelude.{◌≡◌, ◌<◌};
 
 use crate::chance::Chance;
 use crate::facts::{Facts, StackFacts, TIERS, bit_of};
@@ -109,8 +110,12 @@ fn lower(
     aft: bool,
     to: u32,
     call: u32,
-) -> Result<bool, NoMemory> {
-    for _ in 0..TIERS {
+) -> Result<bool, NoMemory>
+    requires facts { facts.now ≡ yard.old }
+    requires stack { stack < yard.old.stacks }
+    ensures { yard.new ≡ yard.old }
+{
+    'tops: for _ in 0..TIERS {
         let height = yard.height(stack, aft);
         if height <= to {
             return Ok(true);
@@ -129,13 +134,13 @@ fn lift_from(
     chance: &mut Chance,
     stack: u32,
     lifting: Lifting,
-) -> Result<bool, NoMemory> {
-    let Some(stack_facts) = facts.stacks.get(stack as usize) else {
-        return Ok(false);
-    };
-    let Some(pile) = yard.piles.get(stack as usize).copied() else {
-        return Ok(false);
-    };
+) -> Result<bool, NoMemory>
+    requires facts { facts.now ≡ yard.old }
+    requires stack { stack < yard.old.stacks }
+    ensures { yard.new ≡ yard.old }
+{
+    let stack_facts = facts.stack(stack);
+    let pile = yard.piles[stack as usize];
     let (fore, aft) = if yard.is_opened(stack_facts.under) {
         (0, 0)
     } else {
@@ -159,7 +164,11 @@ fn lift_all_from(
     chance: &mut Chance,
     is_on_cover: bool,
     lifting: Lifting,
-) -> Result<bool, NoMemory> {
+) -> Result<bool, NoMemory>
+    requires facts { facts.now ≡ yard.old }
+    requires scope { scope.now ≡ yard.old.stacks }
+    ensures { yard.new ≡ yard.old }
+{
     for stack in scope.stacks() {
         if facts.is_on_cover(*stack) == is_on_cover
             && !lift_from(yard, facts, chance, *stack, lifting)?
@@ -171,7 +180,11 @@ fn lift_all_from(
 }
 
 /// Notes at the hatch covers what stays on and under them.
-fn survey(yard: &mut Yard, facts: &Facts, scope: &Scope) {
+fn survey(yard: &mut Yard, facts: &Facts, scope: &Scope)
+    requires facts { facts.now ≡ yard.old }
+    requires scope { scope.now ≡ yard.old.stacks }
+    ensures { yard.new ≡ yard.old }
+{
     if yard.hatches.is_empty() {
         return;
     }
@@ -188,7 +201,11 @@ pub fn lift_all(
     scope: &Scope,
     chance: &mut Chance,
     lifting: Lifting,
-) -> Result<bool, NoMemory> {
+) -> Result<bool, NoMemory>
+    requires facts { facts.now ≡ yard.old }
+    requires scope { scope.now ≡ yard.old.stacks }
+    ensures { yard.new ≡ yard.old }
+{
     yard.clear_hatches(facts, scope);
     if !lift_all_from(yard, facts, scope, chance, false, lifting)?
         || !yard.hatches.is_empty() && !lift_all_from(yard, facts, scope, chance, true, lifting)?

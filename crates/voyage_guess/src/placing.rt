@@ -1,4 +1,5 @@
 //! Where a container goes: the open place with the least score.
+ghost use Rattle.std.specs.Prelude.{◌≡◌, ◌<◌, IfSome};
 
 use crate::chance::Chance;
 use crate::facts::{Facts, Spot, StackFacts, bit_of};
@@ -54,9 +55,11 @@ pub struct Offer {
 
 impl Wish {
     /// A container of this kind, at this call.
-    pub fn of(facts: &Facts, kind: u32, call: u32) -> Option<Wish> {
+    pub fn of(facts: &Facts, kind: u32, call: u32) -> Option<Wish>
+        ensures { IfSome result (λ w. w.kind < facts.now.kinds) }
+    {
         let lot = facts.lot(call, kind)?;
-        let facts = facts.kinds.get(kind as usize)?;
+        let facts = facts.find_kind(kind)?;
         Some(Wish {
             kind,
             call,
@@ -148,15 +151,21 @@ pub struct Scene<'a> {
 }
 
 impl<'a> Scene<'a> {
+    ghost use Rattle.voyage_guess.specs.Ranges.{IsOffer, IsSpot};
+
     /// The hatch cover of a number.
     fn hatch(&self, cover: Option<u32>) -> Option<&'a Hatch> {
-        self.yard.hatches.get(cover? as usize)
+        let yard: &'a Yard = self.yard;
+        yard.hatches.get(cover? as usize)
     }
 
     /// Where a container would stand in a stack, if it fits there and the stack bears it.
-    fn spot(&self, wish: &Wish, stack: u32, span: Span) -> Option<Spot> {
-        let facts = self.facts.stacks.get(stack as usize)?;
-        let pile = self.yard.piles.get(stack as usize)?;
+    fn spot(&self, wish: &Wish, stack: u32, span: Span) -> Option<Spot>
+        ensures { IfSome result (IsSpot self.now.facts.now.stacks) }
+    {
+        let facts = self.facts.find_stack(stack)?;
+        let yard: &Yard = self.yard;
+        let pile = yard.piles.get(stack as usize)?;
         let tier = Yard::open_tier(pile, span)?;
         if tier >= facts.tiers || pile.kg.wrapping_add(wish.kg) > facts.limit_kg {
             return None;
@@ -187,7 +196,9 @@ impl<'a> Scene<'a> {
     }
 
     /// The stay at a place, where one is allowed.
-    fn stay(&self, wish: &Wish, place: u32) -> Option<Stay> {
+    fn stay(&self, wish: &Wish, place: u32) -> Option<Stay>
+        ensures { IfSome result (λ s. s.kind ≡ wish.now.kind) }
+    {
         let rank = self.facts.rank(wish.fit, place)?;
         if rank == u32::MAX {
             return None;
@@ -208,8 +219,11 @@ impl<'a> Scene<'a> {
     }
 
     /// What a stack offers to a container.
-    pub fn offer(&self, wish: &Wish, stack: u32, span: Span) -> Option<Offer> {
-        let facts: &StackFacts = self.facts.stacks.get(stack as usize)?;
+    pub fn offer(&self, wish: &Wish, stack: u32, span: Span) -> Option<Offer>
+        requires { wish.now.kind < self.now.facts.now.kinds }
+        ensures { IfSome result (IsOffer self.now.facts.now) }
+    {
+        let facts: &StackFacts = self.facts.find_stack(stack)?;
         let spot = self.spot(wish, stack, span)?;
         let place = facts.place(spot.tier, span)?;
         let mut stay = self.stay(wish, place)?;
@@ -240,7 +254,11 @@ impl<'a> Scene<'a> {
         stack: u32,
         span: Span,
         chance: &mut Chance,
-    ) -> Option<Offer> {
+    ) -> Option<Offer>
+        requires wish { wish.now.kind < self.now.facts.now.kinds }
+        requires best { IfSome best (IsOffer self.now.facts.now) }
+        ensures { IfSome result (IsOffer self.now.facts.now) }
+    {
         let Some(mut offer) = self.offer(wish, stack, span) else {
             return best;
         };
@@ -252,7 +270,10 @@ impl<'a> Scene<'a> {
     }
 
     /// The offer with the least score, if any.
-    pub fn best(&self, wish: &Wish, chance: &mut Chance) -> Option<Offer> {
+    pub fn best(&self, wish: &Wish, chance: &mut Chance) -> Option<Offer>
+        requires { wish.now.kind < self.now.facts.now.kinds }
+        ensures { IfSome result (IsOffer self.now.facts.now) }
+    {
         let mut best = None;
         for stack in self.scope.stacks() {
             best = match wish.long {

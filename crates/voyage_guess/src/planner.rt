@@ -1,5 +1,6 @@
 //! The planner of one worker.
 ghost use Rattle.std.specs.Prelude.{◌≡◌, ◌<◌, All, IfOk, IfSome, IsSome, None, Some, length, slice_get};
+ghost use Rattle.std.specs.Arc.{arc_value};
 ghost use Rattle.zero_one_rows.specs.Variables.{variables};
 
 use crate::facts::Facts;
@@ -33,6 +34,7 @@ pub struct Planner {
     kept: Kept,
     /// Only voyages that rehandle less often than this are taken.
     cut: u64,
+    ghost same_voyages: { kept ≡ sailor },
 }
 
 /// How early a stay comes as a branch: by put, tier, the latest lifting and place.
@@ -66,8 +68,10 @@ impl Planner {
     }
 
     /// A planner that knows these facts.
-    fn over(alloc: Global, facts: Arc<Facts, Global>) -> Result<Planner, NoMemory> {
-        let kept = Kept::new(alloc, facts.stacks.len())?;
+    fn over(alloc: Global, facts: Arc<Facts, Global>) -> Result<Planner, NoMemory>
+        ensures { IfOk result (λ p. p.sailor ≡ arc_value facts) }
+    {
+        let kept = Kept::new(alloc, facts.sizes)?;
         Ok(Planner {
             sailor: Sailor::new(alloc, facts, 1)?,
             kept,
@@ -77,14 +81,21 @@ impl Planner {
 
     /// A fresh planner for the same voyages: what is the same in every voyage is known once for all.
     pub fn beside(&self, alloc: Global) -> Result<Planner, NoMemory> {
-        Planner::over(alloc, Arc::try_clone(&self.sailor.facts)?)
+        self.fresh(alloc)
+    }
+
+    /// A fresh planner for the same voyages.
+    fn fresh(&self, alloc: Global) -> Result<Planner, NoMemory>
+        ensures { IfOk result (λ p. p.sailor ≡ self.now.sailor) }
+    {
+        Planner::over(alloc, self.sailor.facts()?)
     }
 
     /// A planner that goes on where this one stands, with a work space that the caller takes anew. Two planners that one thread
     /// made may lie in one cache line, and then each of two threads that write there waits for the other: so each thread makes
     /// its own.
     pub fn moved(&self, alloc: Global) -> Result<Planner, NoMemory> {
-        let mut planner = self.beside(alloc)?;
+        let mut planner = self.fresh(alloc)?;
         planner.sailor.take_chance(&self.sailor);
         planner.kept.copy_from(&self.kept)?;
         planner.cut = self.cut;
@@ -135,7 +146,7 @@ impl Planner {
     {
         self.cut = cut;
         let asked = self.asked(model, b);
-        let is_fresh = asked == Some(self.sailor.leave.ones());
+        let is_fresh = asked == Some(self.sailor.asked());
         if self.kept.cost() >= cut || !is_fresh {
             self.kept.forget();
         }
@@ -169,9 +180,9 @@ impl Planner {
 
     /// Looks for a voyage.
     fn look(&mut self, wanted: Wanted) -> Result<(), NoMemory> {
-        self.sailor.looks = 0;
+        self.sailor.begin();
         for _ in 0..wanted.runs {
-            if self.has_enough(wanted.enough) || self.sailor.looks >= wanted.looks {
+            if self.has_enough(wanted.enough) || self.sailor.looks() >= wanted.looks {
                 return Ok(());
             }
             self.try_once()?;
@@ -285,7 +296,10 @@ impl Planner {
         ensures free { IfOk result (λ chosen. IfSome chosen (λ x. slice_get b.now x ≡ Some None)) }
         ensures inside { IfOk result (λ chosen. IfSome chosen (λ x. x < length (variables model.now))) }
     {
-        self.sailor.leave.read(&self.sailor.facts, model, b)?;
+        if !self.sailor.read(model, b)? {
+            self.kept.forget();
+            return Ok(None);
+        }
         self.forget(model, b, wanted.cut);
         self.look(wanted)?;
         Ok(self.branch(model, b))

@@ -1,4 +1,7 @@
 //! One voyage by chance, from the arrival to the last call.
+ghost use Rattle.std.specs.Prelude.{◌≡◌, ◌<◌, All, IfOk, IfSome, length};
+ghost use Rattle.std.specs.Arc.{arc_value};
+ghost use Rattle.zero_one_rows.specs.Variables.{variables};
 
 use crate::chance::Chance;
 use crate::facts::{Arrived, Facts, TIERS};
@@ -12,9 +15,11 @@ use crate::scope::Scope;
 use crate::trade::Trade;
 use crate::yard::{Planned, Stay, Yard};
 use std::alloc::Global;
+use std::marker::Model;
 use std::ops::Range;
 use std::sync::Arc;
 use stow_data::NoMemory;
+use zero_one_model::{Box01, Model as Program};
 
 /// What a run likes, by chance.
 fn draw_taste(chance: &mut Chance) -> Taste {
@@ -46,30 +51,37 @@ fn draw_weights(chance: &mut Chance) -> (u32, u32) {
     }
 }
 
-/// Draws the order in which these kinds are put: the latest destination first, or a mixture of that and chance. Each kind's
-/// entry has its number in the lower half.
-fn draw_order(facts: &Facts, chance: &mut Chance, kinds: &[u32], order: &mut Vec<u64>) {
+/// A kind's turn as containers are put: the kind with the least key comes first, and of these the one with the least number.
+#[derive(Clone, Copy, PartialEq, Eq, PartialOrd, Ord)]
+struct Turn {
+    key: u32,
+    kind: u32,
+}
+
+/// Draws the order in which these kinds are put: the latest destination first, or a mixture of that and chance.
+fn draw_order(facts: &Facts, chance: &mut Chance, kinds: &[u32], order: &mut Vec<Turn>)
+    requires { All (λ g. g < length order.old.items) kinds.now }
+    ensures { length order.new.items ≡ length order.old.items }
+{
     let (weight, spread) = draw_weights(chance);
     for kind in kinds {
         let drawn = chance.below(65_536);
         let key = weight
             .wrapping_mul(32_u32.saturating_sub(facts.dest(*kind)))
             .wrapping_add(drawn.wrapping_mul(spread));
-        if let Some(entry) = order.get_mut(*kind as usize) {
-            *entry = u64::from(key)
-                .wrapping_mul(4_294_967_296)
-                .wrapping_add(u64::from(*kind));
-        }
+        order[*kind as usize] = Turn { key, kind: *kind };
     }
 }
 
 /// Lines up those of these kinds that wait on the quay, in the order in which they are put. They are few, and a voyage often
 /// fails early: so this takes less time than an order of all kinds.
-fn line_up(yard: &Yard, kinds: &[u32], order: &[u64], line: &mut Vec<u64>) -> Result<(), NoMemory> {
+fn line_up(yard: &Yard, kinds: &[u32], order: &[Turn], line: &mut Vec<Turn>) -> Result<(), NoMemory>
+    requires { All (λ g. g < length order.now) kinds.now }
+{
     line.clear();
     for kind in kinds {
         if yard.on_quay(*kind) > 0 {
-            line.push(order.get(*kind as usize).copied().unwrap_or(0))?;
+            line.push(order[*kind as usize])?;
         }
     }
     line.sort_unstable();
@@ -85,39 +97,62 @@ fn beginning_at(stays: &[Planned], call: u32) -> Range<usize> {
 
 /// Takes the containers from the quay for which these stays ask at a call, as far as their stacks are sailed. False where one
 /// isn't there.
-fn reserve_from(stays: &[Planned], scope: &Scope, yard: &mut Yard, call: u32) -> bool {
+fn reserve_from(stays: &[Planned], scope: &Scope, yard: &mut Yard, call: u32) -> bool
+    ensures { yard.new ≡ yard.old }
+{
     let asked = stays.get(beginning_at(stays, call)).unwrap_or(&[]);
-    asked.iter().all(|pledge| !scope.has(pledge.spot.stack) || yard.take(pledge.kind))
+    for pledge in asked {
+        if scope.has(pledge.spot.stack) && !yard.take(pledge.kind) {
+            return false;
+        }
+    }
+    true
 }
 
-/// Sails voyages by chance.
+/// Sails voyages by chance. Contracts see how much there is.
 #[derive(Drop)]
 pub struct Sailor {
-    pub facts: Arc<Facts, Global>,
-    pub leave: Leave,
-    pub scope: Scope,
+    facts: Arc<Facts, Global>,
+    leave: Leave,
+    scope: Scope,
     trade: Trade,
     guide: Guide,
-    pub yard: Yard,
+    yard: Yard,
     chance: Chance,
     taste: Taste,
     /// For each kind its entry in the order of a run.
-    order: Vec<u64>,
+    order: Vec<Turn>,
     /// The entries of the kinds that wait, in order.
-    line: Vec<u64>,
+    line: Vec<Turn>,
     /// How many places were looked at.
-    pub looks: u64,
+    looks: u64,
+}
+
+impl Model for Sailor {
+    ghost use Rattle.voyage_guess.specs.declared.sizes.Sizes.{Sizes};
+    ghost use Rattle.voyage_guess.specs.Sailors.{IsSailor};
+
+    ghost Value = { Sizes };
+
+    ghost view = { λ s. s.yard };
+
+    ghost invariant = { IsSailor };
 }
 
 impl Sailor {
+    ghost use Rattle.voyage_guess.specs.Ranges.{IsArrived, IsOffer, IsPlanned};
+
     /// A sailor who knows these facts.
-    pub fn new(alloc: Global, facts: Arc<Facts, Global>, seed: u64) -> Result<Sailor, NoMemory> {
+    pub fn new(alloc: Global, facts: Arc<Facts, Global>, seed: u64) -> Result<Sailor, NoMemory>
+        ensures { IfOk result (λ s. s ≡ arc_value facts) }
+    {
         let leave = Leave::new(alloc, &facts)?;
         let scope = Scope::new(alloc, &facts)?;
         let trade = Trade::new(alloc, &facts)?;
         let guide = Guide::new(alloc, &facts)?;
         let yard = Yard::new(alloc, &facts)?;
-        let order = Vec::from_elem(alloc, 0, facts.kinds.len())?;
+        let first = Turn { key: 0, kind: 0 };
+        let order = Vec::from_elem(alloc, first, facts.sizes.kinds as usize)?;
         let mut chance = Chance::new(seed);
         let taste = draw_taste(&mut chance);
         Ok(Sailor {
@@ -135,13 +170,50 @@ impl Sailor {
         })
     }
 
+    /// What the sailor knows, once more.
+    pub fn facts(&self) -> Result<Arc<Facts, Global>, NoMemory>
+        ensures { IfOk result (λ facts. arc_value facts ≡ self.now) }
+    {
+        Ok(Arc::try_clone(&self.facts)?)
+    }
+
+    /// Reads what a box allows. False where it names what isn't known, as none of the program's boxes does.
+    pub fn read(&mut self, model: &Program, b: &Box01) -> Result<bool, NoMemory>
+        requires { length b.now ≡ length (variables model.now) }
+        ensures { self.new ≡ self.old }
+    {
+        self.leave.read(&self.facts, model, b)
+    }
+
+    /// How many stays the box asks for.
+    pub fn asked(&self) -> u32 {
+        self.leave.ones()
+    }
+
+    /// How many places were looked at.
+    pub fn looks(&self) -> u64 {
+        self.looks
+    }
+
+    /// Counts looks from 0 again.
+    pub fn begin(&mut self)
+        ensures { self.new ≡ self.old }
+    {
+        self.looks = 0;
+    }
+
     /// Goes on with the numbers by chance where another sailor stands.
-    pub fn take_chance(&mut self, other: &Sailor) {
+    pub fn take_chance(&mut self, other: &Sailor)
+        ensures { self.new ≡ self.old }
+    {
         self.chance = other.chance;
     }
 
     /// Puts a container that stands aboard as the ship comes in.
-    fn settle(&mut self, arrived: Arrived) -> Result<(), NoMemory> {
+    fn settle(&mut self, arrived: Arrived) -> Result<(), NoMemory>
+        requires { IsArrived self.old arrived }
+        ensures { self.new ≡ self.old }
+    {
         let Some(lot) = self.facts.lot(0, arrived.kind).copied() else {
             return Ok(());
         };
@@ -160,9 +232,11 @@ impl Sailor {
     }
 
     /// Puts what stands in a stack as the ship comes in.
-    fn settle_stack(&mut self, stack: u32) -> Result<(), NoMemory> {
+    fn settle_stack(&mut self, stack: u32) -> Result<(), NoMemory>
+        ensures { self.new ≡ self.old }
+    {
         for number in 0..self.facts.arrived_in(stack).len() {
-            if let Some(arrived) = self.facts.arrived_in(stack).get(number).copied() {
+            if let Some(arrived) = self.facts.arrived_at(stack, number) {
                 self.settle(arrived)?;
             }
         }
@@ -170,7 +244,9 @@ impl Sailor {
     }
 
     /// Puts what stands aboard as the ship comes in.
-    fn come_in(&mut self) -> Result<(), NoMemory> {
+    fn come_in(&mut self) -> Result<(), NoMemory>
+        ensures { self.new ≡ self.old }
+    {
         self.yard.clear(&self.scope);
         self.yard.clear_hatches(&self.facts, &self.scope);
         if self.facts.arrived.is_empty() {
@@ -185,28 +261,37 @@ impl Sailor {
     }
 
     /// What loads at a call comes to the quay, or the net cargo of the stacks that are sailed. False where that can't be.
-    fn load(&mut self, call: u32) -> bool {
+    fn load(&mut self, call: u32) -> bool
+        ensures { self.new ≡ self.old }
+    {
         if self.scope.is_whole() {
-            self.yard.load_all(self.facts.loads_at(call));
+            self.yard.load_all(&self.facts, call);
             return true;
         }
         self.trade.exchange(&mut self.yard, call)
     }
 
     /// Takes the containers from the quay for which a stay is asked for at this call. False where one isn't there.
-    fn reserve(&mut self, call: u32) -> bool {
+    fn reserve(&mut self, call: u32) -> bool
+        ensures { self.new ≡ self.old }
+    {
         reserve_from(self.leave.pledges(), &self.scope, &mut self.yard, call)
             && reserve_from(self.guide.stays(), &self.scope, &mut self.yard, call)
     }
 
     /// Puts a container at the place that was offered.
-    fn accept(&mut self, offer: &Offer) -> Result<(), NoMemory> {
-        self.yard.waiting = self.yard.waiting.wrapping_sub(1);
+    fn accept(&mut self, offer: &Offer) -> Result<(), NoMemory>
+        requires { IsOffer self.old offer.now }
+        ensures { self.new ≡ self.old }
+    {
+        self.yard.leave_quay();
         self.yard.put(&self.facts, offer.spot, offer.stay)
     }
 
     /// What is asked as a container is put.
-    fn scene(&self) -> Scene<'_> {
+    fn scene(&self) -> Scene<'_>
+        ensures { result.facts.now ≡ self.now }
+    {
         Scene {
             yard: &self.yard,
             facts: &self.facts,
@@ -218,7 +303,9 @@ impl Sailor {
     }
 
     /// What the place offers at which a stay is asked for.
-    fn pledged_offer(&self, pledge: &Planned) -> Option<Offer> {
+    fn pledged_offer(&self, pledge: &Planned) -> Option<Offer>
+        ensures { IfSome result (IsOffer self.now) }
+    {
         let mut wish = Wish::of(&self.facts, pledge.kind, pledge.put)?;
         wish.is_pledged = true;
         wish.ends = pledge.ends;
@@ -233,7 +320,9 @@ impl Sailor {
     }
 
     /// Begins a stay that is asked for, where it is open.
-    fn redeem_one(&mut self, pledge: Option<Planned>) -> Result<(), NoMemory> {
+    fn redeem_one(&mut self, pledge: Option<Planned>) -> Result<(), NoMemory>
+        ensures { self.new ≡ self.old }
+    {
         let Some(pledge) = pledge else {
             return Ok(());
         };
@@ -247,7 +336,9 @@ impl Sailor {
     }
 
     /// Begins those stays that the box asks for at a call and that are open.
-    fn redeem_pledges(&mut self, call: u32) -> Result<(), NoMemory> {
+    fn redeem_pledges(&mut self, call: u32) -> Result<(), NoMemory>
+        ensures { self.new ≡ self.old }
+    {
         for number in beginning_at(self.leave.pledges(), call) {
             let pledge = self.leave.pledges().get(number).copied();
             self.redeem_one(pledge)?;
@@ -256,7 +347,9 @@ impl Sailor {
     }
 
     /// Begins those stays that are taken over at a call and that are open.
-    fn redeem_guide(&mut self, call: u32) -> Result<(), NoMemory> {
+    fn redeem_guide(&mut self, call: u32) -> Result<(), NoMemory>
+        ensures { self.new ≡ self.old }
+    {
         for number in beginning_at(self.guide.stays(), call) {
             let pledge = self.guide.stays().get(number).copied();
             self.redeem_one(pledge)?;
@@ -265,7 +358,10 @@ impl Sailor {
     }
 
     /// Puts a container of a kind at the best place. False where none is open.
-    fn put_one(&mut self, wish: &Wish) -> Result<bool, NoMemory> {
+    fn put_one(&mut self, wish: &Wish) -> Result<bool, NoMemory>
+        requires { wish.now.kind < self.old.kinds }
+        ensures { self.new ≡ self.old }
+    {
         self.looks = self.looks.wrapping_add(self.scope.stacks().len() as u64);
         let mut chance = self.chance;
         let best = self.scene().best(wish, &mut chance);
@@ -280,7 +376,9 @@ impl Sailor {
     }
 
     /// Puts the containers of a kind that wait, as far as places are open.
-    fn put_kind(&mut self, kind: u32, call: u32) -> Result<(), NoMemory> {
+    fn put_kind(&mut self, kind: u32, call: u32) -> Result<(), NoMemory>
+        ensures { self.new ≡ self.old }
+    {
         let waiting = self.yard.on_quay(kind);
         if waiting == 0 {
             return Ok(());
@@ -288,7 +386,7 @@ impl Sailor {
         let Some(wish) = Wish::of(&self.facts, kind, call) else {
             return Ok(());
         };
-        for _ in 0..waiting {
+        'containers: for _ in 0..waiting {
             if !self.put_one(&wish)? {
                 return Ok(());
             }
@@ -297,16 +395,21 @@ impl Sailor {
     }
 
     /// Puts the containers that wait, as far as places are open.
-    fn put_waiting(&mut self, call: u32) -> Result<(), NoMemory> {
+    fn put_waiting(&mut self, call: u32) -> Result<(), NoMemory>
+        ensures { self.new ≡ self.old }
+    {
         for number in 0..self.line.len() {
-            let entry = self.line.get(number).copied().unwrap_or(0);
-            self.put_kind((entry % 4_294_967_296) as u32, call)?;
+            if let Some(turn) = self.line.get(number).copied() {
+                self.put_kind(turn.kind, call)?;
+            }
         }
         Ok(())
     }
 
     /// Puts all that waits. False where something finds no place.
-    fn put_all(&mut self, call: u32) -> Result<bool, NoMemory> {
+    fn put_all(&mut self, call: u32) -> Result<bool, NoMemory>
+        ensures { self.new ≡ self.old }
+    {
         if !self.reserve(call) {
             return Ok(false);
         }
@@ -316,7 +419,7 @@ impl Sailor {
             self.order.as_slice(),
             &mut self.line,
         )?;
-        for _ in 0..TIERS {
+        'rounds: for _ in 0..TIERS {
             let before = self.yard.waiting;
             self.redeem_pledges(call)?;
             self.redeem_guide(call)?;
@@ -332,7 +435,9 @@ impl Sailor {
     }
 
     /// Lifts what leaves its place. False where the box forbids a lift.
-    fn lift(&mut self, lifting: Lifting) -> Result<bool, NoMemory> {
+    fn lift(&mut self, lifting: Lifting) -> Result<bool, NoMemory>
+        ensures { self.new ≡ self.old }
+    {
         self.looks = self.looks.wrapping_add(self.scope.stacks().len() as u64);
         lift_all(
             &mut self.yard,
@@ -344,7 +449,9 @@ impl Sailor {
     }
 
     /// What happens at a call before the last. False where the run fails, or comes to so many rehandles.
-    fn visit(&mut self, call: u32, limit: u64) -> Result<bool, NoMemory> {
+    fn visit(&mut self, call: u32, limit: u64) -> Result<bool, NoMemory>
+        ensures { self.new ≡ self.old }
+    {
         let lifting = Lifting {
             call,
             dig: self.taste.dig,
@@ -360,16 +467,21 @@ impl Sailor {
     }
 
     /// All that is aboard leaves at the last call. False where the box forbids it.
-    fn arrive(&mut self) -> Result<bool, NoMemory> {
+    fn arrive(&mut self) -> Result<bool, NoMemory>
+        ensures { self.new ≡ self.old }
+    {
         let lifting = Lifting {
-            call: self.facts.calls,
+            call: self.facts.sizes.calls,
             dig: 0,
         };
         self.lift(lifting)
     }
 
     /// Draws what of the kept voyage a run over the whole ship takes over.
-    fn follow(&mut self, kept: &Kept) -> Result<(), NoMemory> {
+    fn follow(&mut self, kept: &Kept) -> Result<(), NoMemory>
+        requires { kept.now ≡ self.old }
+        ensures { self.new ≡ self.old }
+    {
         let is_guided = self.chance.below(100) < GUIDED_RUNS;
         if !kept.is_found() || !is_guided {
             self.guide.clear();
@@ -385,14 +497,20 @@ impl Sailor {
     }
 
     /// Prepares a run over the whole ship.
-    fn take_all(&mut self, kept: &Kept) -> Result<(), NoMemory> {
-        self.scope.take_all(&self.facts)?;
-        self.trade.take_all(&self.facts)?;
+    fn take_all(&mut self, kept: &Kept) -> Result<(), NoMemory>
+        requires { kept.now ≡ self.old }
+        ensures { self.new ≡ self.old }
+    {
+        self.scope.take_all()?;
+        self.trade.take_all()?;
         self.follow(kept)
     }
 
     /// Prepares a run over few stacks.
-    fn take_few(&mut self, kept: &Kept) -> Result<(), NoMemory> {
+    fn take_few(&mut self, kept: &Kept) -> Result<(), NoMemory>
+        requires { kept.now ≡ self.old }
+        ensures { self.new ≡ self.old }
+    {
         self.scope.draw(&self.facts, &mut self.chance, kept)?;
         self.trade.gather(kept, &self.scope)?;
         self.guide.draw_from(
@@ -406,7 +524,9 @@ impl Sailor {
 
     /// Sails the stacks that were taken. False where it fails, or comes to so many rehandles. The stays and the rehandles stand in
     /// the yard.
-    fn sail(&mut self, limit: u64) -> Result<bool, NoMemory> {
+    fn sail(&mut self, limit: u64) -> Result<bool, NoMemory>
+        ensures { self.new ≡ self.old }
+    {
         self.taste = draw_taste(&mut self.chance);
         draw_order(
             &self.facts,
@@ -415,7 +535,7 @@ impl Sailor {
             &mut self.order,
         );
         self.come_in()?;
-        for call in 1..self.facts.calls {
+        for call in 1..self.facts.sizes.calls {
             if !self.visit(call, limit)? {
                 return Ok(false);
             }
@@ -424,25 +544,36 @@ impl Sailor {
     }
 
     /// Sails the whole ship. False where the run fails, or has so many rehandles.
-    pub fn sail_all(&mut self, kept: &Kept, limit: u64) -> Result<bool, NoMemory> {
+    pub fn sail_all(&mut self, kept: &Kept, limit: u64) -> Result<bool, NoMemory>
+        requires { kept.now ≡ self.old }
+        ensures { self.new ≡ self.old }
+    {
         self.take_all(kept)?;
         self.sail(limit)
     }
 
     /// Sails few stacks of the kept voyage anew. False where the run fails, or these stacks have more rehandles than they had.
-    pub fn sail_few(&mut self, kept: &Kept) -> Result<bool, NoMemory> {
+    pub fn sail_few(&mut self, kept: &Kept) -> Result<bool, NoMemory>
+        requires { kept.now ≡ self.old }
+        ensures { self.new ≡ self.old }
+    {
         self.take_few(kept)?;
         let limit = kept.rehandles_of(self.scope.stacks()).saturating_add(1);
         self.sail(limit)
     }
 
     /// Hands the voyage over: its stays stand in place of those that were kept in the stacks that were sailed.
-    pub fn hand_over(&self, kept: &mut Kept) -> Result<(), NoMemory> {
-        kept.take(self.scope.stacks(), self.yard.stays.as_slice())
+    pub fn hand_over(&self, kept: &mut Kept) -> Result<(), NoMemory>
+        requires { kept.old ≡ self.now }
+        ensures { kept.new ≡ kept.old }
+    {
+        kept.take(self.scope.stacks(), self.yard.stays())
     }
 
     /// Whether the next run sails the whole ship.
-    pub fn is_whole_next(&mut self) -> bool {
+    pub fn is_whole_next(&mut self) -> bool
+        ensures { self.new ≡ self.old }
+    {
         self.chance.below(100) < WHOLE_RUNS
     }
 }

@@ -1,15 +1,19 @@
 //! Which stacks a run sails.
+ghost use Rattle.std.specs.Prelude.{◌≡◌, ◌<◌, All, IfOk};
 
 use crate::chance::Chance;
-use crate::facts::{Facts, count_of};
+use crate::facts::Facts;
 use crate::kept::Kept;
 use crate::rule::{FEWEST_FREED, FREED_SPREAD, REHANDLED_RUNS};
 use std::alloc::Global;
+use std::marker::Model;
 use stow_data::NoMemory;
 
-/// The stacks that a run sails: all, or few, and then the others keep their stays.
+/// The stacks that a run sails: all, or few, and then the others keep their stays. Contracts see the number of stacks.
 #[derive(Drop)]
 pub struct Scope {
+    /// How many stacks there are.
+    count: u32,
     is_whole: bool,
     /// How many groups of bound stacks were drawn.
     groups: u32,
@@ -18,14 +22,27 @@ pub struct Scope {
     is_sailed: Vec<bool>,
 }
 
+impl Model for Scope {
+    ghost use Rattle.std.specs.Prelude.{ℕ, ◌≡◌, ◌<◌, All, length};
+
+    ghost Value = { ℕ };
+
+    ghost view = { λ s. s.count };
+
+    ghost invariant = { λ s. (length s.is_sailed.items ≡ s.count) × All (λ n. n < s.count) s.stacks.items };
+}
+
 impl Scope {
     /// No stacks.
-    pub fn new(alloc: Global, facts: &Facts) -> Result<Scope, NoMemory> {
+    pub fn new(alloc: Global, facts: &Facts) -> Result<Scope, NoMemory>
+        ensures { IfOk result (λ s. s ≡ facts.now.stacks) }
+    {
         Ok(Scope {
+            count: facts.sizes.stacks,
             is_whole: false,
             groups: 0,
             stacks: Vec::new(alloc),
-            is_sailed: Vec::from_elem(alloc, false, facts.stacks.len())?,
+            is_sailed: Vec::from_elem(alloc, false, facts.sizes.stacks as usize)?,
         })
     }
 
@@ -35,7 +52,9 @@ impl Scope {
     }
 
     /// The stacks that are sailed.
-    pub fn stacks(&self) -> &[u32] {
+    pub fn stacks(&self) -> &[u32]
+        ensures { All (λ s. s < self.now) result.now }
+    {
         self.stacks.as_slice()
     }
 
@@ -45,18 +64,22 @@ impl Scope {
     }
 
     /// Sails a stack too.
-    fn add(&mut self, stack: u32) -> Result<(), NoMemory> {
-        if let Some(is_sailed) = self.is_sailed.get_mut(stack as usize) {
-            if !*is_sailed {
-                *is_sailed = true;
-                self.stacks.push(stack)?;
-            }
+    fn add(&mut self, stack: u32) -> Result<(), NoMemory>
+        requires { stack < self.old }
+        ensures { self.new ≡ self.old }
+    {
+        if !self.is_sailed[stack as usize] {
+            self.is_sailed[stack as usize] = true;
+            self.stacks.push(stack)?;
         }
         Ok(())
     }
 
     /// Sails these stacks too.
-    fn add_all(&mut self, stacks: &[u32]) -> Result<(), NoMemory> {
+    fn add_all(&mut self, stacks: &[u32]) -> Result<(), NoMemory>
+        requires { All (λ s. s < self.old) stacks.now }
+        ensures { self.new ≡ self.old }
+    {
         for stack in stacks {
             self.add(*stack)?;
         }
@@ -64,7 +87,9 @@ impl Scope {
     }
 
     /// Sails no stack.
-    fn clear(&mut self) {
+    fn clear(&mut self)
+        ensures { self.new ≡ self.old }
+    {
         self.is_whole = false;
         self.groups = 0;
         self.stacks.clear();
@@ -72,20 +97,25 @@ impl Scope {
     }
 
     /// Sails the whole ship.
-    pub fn take_all(&mut self, facts: &Facts) -> Result<(), NoMemory> {
+    pub fn take_all(&mut self) -> Result<(), NoMemory>
+        ensures { self.new ≡ self.old }
+    {
         if self.is_whole {
             return Ok(());
         }
         self.clear();
         self.is_whole = true;
-        for stack in 0..count_of(facts.stacks.as_slice()) {
+        for stack in 0..self.count {
             self.add(stack)?;
         }
         Ok(())
     }
 
     /// Sails a stack too, with those that are bound to it: one group more, unless it is sailed already.
-    fn free(&mut self, facts: &Facts, stack: u32) -> Result<(), NoMemory> {
+    fn free(&mut self, facts: &Facts, stack: u32) -> Result<(), NoMemory>
+        requires { facts.now.stacks ≡ self.old }
+        ensures { self.new ≡ self.old }
+    {
         if self.has(stack) {
             return Ok(());
         }
@@ -94,24 +124,24 @@ impl Scope {
     }
 
     /// Sails so many groups, as their stacks are drawn.
-    fn fill(&mut self, facts: &Facts, chance: &mut Chance, wanted: u32) -> Result<(), NoMemory> {
-        let count = count_of(facts.stacks.as_slice());
-        for _ in 0..32 {
+    fn fill(&mut self, facts: &Facts, chance: &mut Chance, wanted: u32) -> Result<(), NoMemory>
+        requires { facts.now.stacks ≡ self.old }
+        ensures { self.new ≡ self.old }
+    {
+        'draws: for _ in 0..32 {
             if self.groups >= wanted {
                 return Ok(());
             }
-            self.free(facts, chance.below(count))?;
+            self.free(facts, chance.below(facts.sizes.stacks))?;
         }
         Ok(())
     }
 
     /// Draws few stacks, each with those that are bound to it, mostly one in which a container is rehandled among them.
-    pub fn draw(
-        &mut self,
-        facts: &Facts,
-        chance: &mut Chance,
-        kept: &Kept,
-    ) -> Result<(), NoMemory> {
+    pub fn draw(&mut self, facts: &Facts, chance: &mut Chance, kept: &Kept) -> Result<(), NoMemory>
+        requires { facts.now.stacks ≡ self.old }
+        ensures { self.new ≡ self.old }
+    {
         self.clear();
         let wanted = FEWEST_FREED.saturating_add(chance.below(FREED_SPREAD));
         if chance.below(100) < REHANDLED_RUNS {

@@ -1,8 +1,11 @@
 //! The state of a run: what stands where, what waits on the quay, and which stays have ended.
+ghost use Rattle.std.specs.Prelude.{◌≡◌, ◌+◌, ◌*◌, ◌<◌, ◌≤◌, All, IfOk, IfSome, length};
 
 use crate::facts::{Facts, KindFacts, Spot, StackFacts, TIERS, bit_of};
 use crate::scope::Scope;
+use crate::sizes::Sizes;
 use std::alloc::Global;
+use std::marker::Model;
 use stow_data::{NoMemory, Span, VarNo};
 
 /// A container that stands aboard.
@@ -96,18 +99,20 @@ pub struct Classed {
     pub spot: Spot,
 }
 
-/// The state of a run.
+/// The state of a run. Contracts see how much there is.
 #[derive(Drop)]
 pub struct Yard {
+    sizes: Sizes,
     pub piles: Vec<Pile>,
+    /// What stands in each half-cell: by stacks, fore and aft, and tiers.
     cells: Vec<Stay>,
     pub hatches: Vec<Hatch>,
     /// How many containers of each kind wait on the quay.
-    pub quay: Vec<u32>,
+    quay: Vec<u32>,
     /// How many containers wait.
     pub waiting: u32,
     /// The stays that have ended.
-    pub stays: Vec<Planned>,
+    stays: Vec<Planned>,
     pub classed: Vec<Classed>,
     /// How many rehandles there were.
     pub cost: u64,
@@ -117,18 +122,35 @@ pub struct Yard {
     pub later: u32,
 }
 
+impl Model for Yard {
+    ghost use Rattle.voyage_guess.specs.declared.sizes.Sizes.{Sizes};
+    ghost use Rattle.voyage_guess.specs.Yards.{IsYard};
+
+    ghost Value = { Sizes };
+
+    ghost view = { λ y. y.sizes };
+
+    ghost invariant = { IsYard };
+}
+
 /// The number of a half-cell among those of all columns.
-fn cell_of(stack: u32, aft: bool, tier: u32) -> usize {
-    let column = (stack as usize).wrapping_mul(2).wrapping_add(aft as usize);
-    column
-        .wrapping_mul(TIERS as usize)
-        .wrapping_add(tier as usize)
+fn cell_of(stack: u32, aft: bool, tier: u32) -> usize
+    requires { tier < 40 }
+    ensures { result < stack * 80 + 80 }
+{
+    let before = if aft { TIERS } else { 0 };
+    stack as usize * 80 + before as usize + tier as usize
 }
 
 impl Yard {
+    ghost use Rattle.voyage_guess.specs.Ranges.{IsPlanned, IsSpot, IsStack};
+
     /// A state with room for the voyages of a ship.
-    pub fn new(alloc: Global, facts: &Facts) -> Result<Yard, NoMemory> {
-        let later = facts.calls.wrapping_add(1);
+    pub fn new(alloc: Global, facts: &Facts) -> Result<Yard, NoMemory>
+        ensures { IfOk result (λ y. y ≡ facts.now) }
+    {
+        let sizes = facts.sizes;
+        let later = sizes.calls.wrapping_add(1);
         let column = Column {
             height: 0,
             short: 0,
@@ -147,13 +169,15 @@ impl Yard {
             latest: 0,
             room: 0,
         };
-        let stacks = facts.stacks.len();
-        let cells = stacks.wrapping_mul(2).wrapping_mul(TIERS as usize);
+        let stacks = facts.sizes.stacks as usize;
+        let covers = facts.sizes.covers as usize;
+        let kinds = facts.sizes.kinds as usize;
         Ok(Yard {
+            sizes,
             piles: Vec::from_elem(alloc, pile, stacks)?,
-            cells: Vec::from_elem(alloc, NO_STAY, cells)?,
-            hatches: Vec::from_elem(alloc, hatch, facts.covers as usize)?,
-            quay: Vec::from_elem(alloc, 0, facts.kinds.len())?,
+            cells: Vec::from_elem(alloc, NO_STAY, stacks * 80)?,
+            hatches: Vec::from_elem(alloc, hatch, covers)?,
+            quay: Vec::from_elem(alloc, 0, kinds)?,
             waiting: 0,
             stays: Vec::new(alloc),
             classed: Vec::new(alloc),
@@ -161,6 +185,13 @@ impl Yard {
             doomed: 0,
             later,
         })
+    }
+
+    /// The stays that have ended.
+    pub fn stays(&self) -> &[Planned]
+        ensures { All (IsPlanned self.now) result.now }
+    {
+        self.stays.as_slice()
     }
 
     /// An empty column.
@@ -172,18 +203,26 @@ impl Yard {
         }
     }
 
-    /// Empty stacks, as far as they are sailed, and an empty quay.
-    pub fn clear(&mut self, scope: &Scope) {
+    /// An empty stack.
+    fn clear_pile(&mut self, stack: u32)
+        requires { stack < self.old.stacks }
+        ensures { self.new ≡ self.old }
+    {
         let column = self.empty_column();
-        let empty = Pile {
+        self.piles[stack as usize] = Pile {
             fore: column,
             aft: column,
             kg: 0,
         };
+    }
+
+    /// Empty stacks, as far as they are sailed, and an empty quay.
+    pub fn clear(&mut self, scope: &Scope)
+        requires { scope.now ≡ self.old.stacks }
+        ensures { self.new ≡ self.old }
+    {
         for stack in scope.stacks() {
-            if let Some(pile) = self.piles.get_mut(*stack as usize) {
-                *pile = empty;
-            }
+            self.clear_pile(*stack);
         }
         self.quay.fill(0);
         self.waiting = 0;
@@ -194,32 +233,35 @@ impl Yard {
     }
 
     /// Forgets what is known of a hatch cover.
-    fn clear_hatch(&mut self, cover: Option<u32>) {
+    fn clear_hatch(&mut self, cover: Option<u32>)
+        requires { IfSome cover (λ c. c < self.old.covers) }
+        ensures { self.new ≡ self.old }
+    {
         let Some(cover) = cover else {
             return;
         };
         let least = self.later;
-        if let Some(hatch) = self.hatches.get_mut(cover as usize) {
-            *hatch = Hatch {
-                is_opened: false,
-                is_closed: false,
-                laden: 0,
-                least,
-                latest: 0,
-                room: 0,
-            };
-        }
+        self.hatches[cover as usize] = Hatch {
+            is_opened: false,
+            is_closed: false,
+            laden: 0,
+            least,
+            latest: 0,
+            room: 0,
+        };
     }
 
     /// Forgets what is known of the hatch covers over and under the stacks that are sailed.
-    pub fn clear_hatches(&mut self, facts: &Facts, scope: &Scope) {
+    pub fn clear_hatches(&mut self, facts: &Facts, scope: &Scope)
+        requires facts { facts.now ≡ self.old }
+        requires scope { scope.now ≡ self.old.stacks }
+        ensures { self.new ≡ self.old }
+    {
         if self.hatches.is_empty() {
             return;
         }
         for stack in scope.stacks() {
-            if let Some(stack) = facts.stacks.get(*stack as usize) {
-                self.clear_hatch(stack.cover());
-            }
+            self.clear_hatch(facts.stack(*stack).cover());
         }
     }
 
@@ -243,40 +285,43 @@ impl Yard {
     }
 
     /// Notes that something is lifted from under a cover.
-    pub fn open_over(&mut self, cover: Option<u32>) {
+    pub fn open_over(&mut self, cover: Option<u32>)
+        requires { IfSome cover (λ c. c < self.old.covers) }
+        ensures { self.new ≡ self.old }
+    {
         if let Some(cover) = cover {
-            if let Some(hatch) = self.hatches.get_mut(cover as usize) {
-                hatch.is_opened = true;
-            }
+            let hatch = &mut self.hatches[cover as usize];
+            hatch.is_opened = true;
         }
     }
 
     /// Notes at the hatch covers what stays in a stack.
-    pub fn survey_stack(&mut self, facts: &Facts, number: u32) {
-        let Some(stack) = facts.stacks.get(number as usize) else {
-            return;
-        };
-        let Some(pile) = self.piles.get(number as usize).copied() else {
-            return;
-        };
+    pub fn survey_stack(&mut self, facts: &Facts, number: u32)
+        requires facts { facts.now ≡ self.old }
+        requires stack { number < self.old.stacks }
+        ensures { self.new ≡ self.old }
+    {
+        let stack = facts.stack(number);
+        let pile = self.piles[number as usize];
         let filled = pile.fore.height.wrapping_add(pile.aft.height);
         if let Some(over) = stack.over {
-            if let Some(hatch) = self.hatches.get_mut(over as usize) {
-                let room = stack.tiers.wrapping_mul(2).saturating_sub(filled);
-                hatch.least = hatch.least.min(pile.fore.least).min(pile.aft.least);
-                hatch.room = hatch.room.wrapping_add(room);
-            }
+            let room = stack.tiers.wrapping_mul(2).saturating_sub(filled);
+            let hatch = &mut self.hatches[over as usize];
+            hatch.least = hatch.least.min(pile.fore.least).min(pile.aft.least);
+            hatch.room = hatch.room.wrapping_add(room);
         }
         if let Some(under) = stack.under {
-            if let Some(hatch) = self.hatches.get_mut(under as usize) {
-                hatch.laden = hatch.laden.wrapping_add(filled);
-                hatch.is_closed = hatch.laden > 0;
-            }
+            let hatch = &mut self.hatches[under as usize];
+            hatch.laden = hatch.laden.wrapping_add(filled);
+            hatch.is_closed = hatch.laden > 0;
         }
     }
 
     /// What stands in a half-cell that is filled.
     pub fn stay(&self, stack: u32, aft: bool, tier: u32) -> Option<&Stay> {
+        if tier >= TIERS {
+            return None;
+        }
         self.cells.get(cell_of(stack, aft, tier))
     }
 
@@ -299,14 +344,19 @@ impl Yard {
         }
     }
 
-    fn set_cell(&mut self, stack: u32, aft: bool, tier: u32, stay: Stay) {
-        if let Some(cell) = self.cells.get_mut(cell_of(stack, aft, tier)) {
-            *cell = stay;
-        }
+    fn set_cell(&mut self, stack: u32, aft: bool, tier: u32, stay: Stay)
+        requires stack { stack < self.old.stacks }
+        requires tier { tier < 40 }
+        ensures { self.new ≡ self.old }
+    {
+        self.cells[cell_of(stack, aft, tier)] = stay;
     }
 
     /// Puts a container on the columns that it takes.
-    fn pile_up(&mut self, spot: Spot, stay: Stay) {
+    fn pile_up(&mut self, spot: Spot, stay: Stay)
+        requires { IsSpot self.old.stacks spot }
+        ensures { self.new ≡ self.old }
+    {
         let top = spot.tier.wrapping_add(1);
         let least = stay.least;
         if spot.span != Span::Aft {
@@ -315,61 +365,61 @@ impl Yard {
         if spot.span != Span::Fore {
             self.set_cell(spot.stack, true, spot.tier, stay);
         }
-        if let Some(pile) = self.piles.get_mut(spot.stack as usize) {
-            match spot.span {
-                Span::Fore => {
-                    pile.fore = Column {
-                        height: top,
-                        short: top,
-                        least,
-                    };
-                }
-                Span::Aft => {
-                    pile.aft = Column {
-                        height: top,
-                        short: top,
-                        least,
-                    };
-                }
-                Span::Both => {
-                    pile.fore.height = top;
-                    pile.fore.least = least;
-                    pile.aft.height = top;
-                    pile.aft.least = least;
-                }
+        let pile = &mut self.piles[spot.stack as usize];
+        match spot.span {
+            Span::Fore => {
+                pile.fore = Column {
+                    height: top,
+                    short: top,
+                    least,
+                };
+            }
+            Span::Aft => {
+                pile.aft = Column {
+                    height: top,
+                    short: top,
+                    least,
+                };
+            }
+            Span::Both => {
+                pile.fore.height = top;
+                pile.fore.least = least;
+                pile.aft.height = top;
+                pile.aft.least = least;
             }
         }
     }
 
     /// Notes at the hatch covers that something was put in a stack.
-    fn note_hatches(&mut self, stack: &StackFacts, span: Span, due: u32) {
+    fn note_hatches(&mut self, stack: &StackFacts, span: Span, due: u32)
+        requires { IsStack self.old.covers stack.now }
+        ensures { self.new ≡ self.old }
+    {
         let filled = if span == Span::Both { 2 } else { 1 };
         if let Some(over) = stack.over {
-            if let Some(hatch) = self.hatches.get_mut(over as usize) {
-                hatch.least = hatch.least.min(due);
-                hatch.room = hatch.room.saturating_sub(filled);
-            }
+            let hatch = &mut self.hatches[over as usize];
+            hatch.least = hatch.least.min(due);
+            hatch.room = hatch.room.saturating_sub(filled);
         }
         if let Some(under) = stack.under {
-            if let Some(hatch) = self.hatches.get_mut(under as usize) {
-                hatch.laden = hatch.laden.wrapping_add(filled);
-                hatch.latest = hatch.latest.max(due);
-            }
+            let hatch = &mut self.hatches[under as usize];
+            hatch.laden = hatch.laden.wrapping_add(filled);
+            hatch.latest = hatch.latest.max(due);
         }
     }
 
     /// Puts a container at a place.
-    pub fn put(&mut self, facts: &Facts, spot: Spot, mut stay: Stay) -> Result<(), NoMemory> {
-        let Some(stack) = facts.stacks.get(spot.stack as usize) else {
-            return Ok(());
-        };
-        let Some(kind) = facts.kinds.get(stay.kind as usize) else {
-            return Ok(());
-        };
-        if let Some(pile) = self.piles.get_mut(spot.stack as usize) {
-            stay.least = stay.due.min(Yard::least_below(pile, spot.span));
-            pile.kg = pile.kg.wrapping_add(kind.kg);
-        }
+    pub fn put(&mut self, facts: &Facts, spot: Spot, mut stay: Stay) -> Result<(), NoMemory>
+        requires facts { facts.now ≡ self.old }
+        requires spot { IsSpot self.old.stacks spot }
+        requires kind { stay.kind < self.old.kinds }
+        ensures { self.new ≡ self.old }
+    {
+        let stack = facts.stack(spot.stack);
+        let kind = facts.kind(stay.kind);
+        let pile = &mut self.piles[spot.stack as usize];
+        stay.least = stay.due.min(Yard::least_below(pile, spot.span));
+        pile.kg = pile.kg.wrapping_add(kind.kg);
         if kind.class != 0 {
             self.classed.push(Classed {
                 class: kind.class,
@@ -403,10 +453,11 @@ impl Yard {
     }
 
     /// Takes the top of a column away: a 40-foot container from both columns.
-    fn take_off(&mut self, stack: u32, aft: bool, kg: u32) {
-        let Some(pile) = self.piles.get(stack as usize).copied() else {
-            return;
-        };
+    fn take_off(&mut self, stack: u32, aft: bool, kg: u32)
+        requires { stack < self.old.stacks }
+        ensures { self.new ≡ self.old }
+    {
+        let pile = self.piles[stack as usize];
         let column = pile.column(aft);
         let is_long = column.height != column.short;
         let fore = if is_long || !aft {
@@ -419,47 +470,65 @@ impl Yard {
         } else {
             pile.aft
         };
-        if let Some(pile) = self.piles.get_mut(stack as usize) {
-            *pile = Pile {
-                fore,
-                aft,
-                kg: pile.kg.wrapping_sub(kg),
-            };
-        }
+        self.piles[stack as usize] = Pile {
+            fore,
+            aft,
+            kg: pile.kg.wrapping_sub(kg),
+        };
     }
 
     /// Forgets a container of a class.
-    fn forget_classed(&mut self, spot: Spot) {
+    fn forget_classed(&mut self, spot: Spot)
+        ensures { self.new ≡ self.old }
+    {
         self.classed.retain(|c| c.spot.stack != spot.stack
             || c.spot.tier != spot.tier
             || c.spot.span != spot.span);
     }
 
-    /// Notes a stay that ends at a call.
-    fn note(&mut self, facts: &Facts, stay: &Stay, spot: Spot, call: u32) -> Result<(), NoMemory> {
-        let Some(lot) = facts.lot(stay.put, stay.kind) else {
-            return Ok(());
-        };
+    /// The stay that ends at a call. None where the program has no such stay.
+    fn planned(&self, facts: &Facts, stay: &Stay, spot: Spot, call: u32) -> Option<Planned>
+        requires facts { facts.now ≡ self.now }
+        requires stack { spot.stack < self.now.stacks }
+        requires kind { stay.now.kind < self.now.kinds }
+        ensures { IfSome result (IsPlanned self.now) }
+    {
+        if stay.put > call || call > facts.sizes.calls {
+            return None;
+        }
+        let lot = facts.lot(stay.put, stay.kind)?;
+        let place = facts.place_of(spot)?;
         let past = call.wrapping_sub(stay.put).wrapping_sub(1);
         let x = lot
             .first
             .wrapping_add(past.wrapping_mul(lot.width))
             .wrapping_add(stay.rank);
-        self.stays.push(Planned {
+        Some(Planned {
             x: VarNo(x),
             put: stay.put,
             kind: stay.kind,
             ends: bit_of(call),
             lifted: call,
-            place: facts.place_of(spot).unwrap_or(u32::MAX),
+            place,
             spot,
             is_rehandled: facts.dest(stay.kind) != call,
-        })?;
+        })
+    }
+
+    /// Notes a stay that has ended.
+    fn note(&mut self, planned: Planned) -> Result<(), NoMemory>
+        requires { IsPlanned self.old planned }
+        ensures { self.new ≡ self.old }
+    {
+        self.stays.push(planned)?;
         Ok(())
     }
 
     /// Ends a stay at a call: the container waits on the quay, or leaves the ship.
-    fn end(&mut self, kind: &KindFacts, stay: &Stay, call: u32) {
+    fn end(&mut self, kind: &KindFacts, stay: &Stay, call: u32)
+        requires { stay.now.kind < self.old.kinds }
+        ensures { self.new ≡ self.old }
+    {
         self.doomed = self.doomed.saturating_sub(u64::from(stay.doomed));
         if kind.dest != call {
             self.cost = self.cost.wrapping_add(1);
@@ -468,18 +537,21 @@ impl Yard {
     }
 
     /// More containers of a kind wait on the quay.
-    pub fn load(&mut self, kind: u32, count: u32) {
-        if let Some(waiting) = self.quay.get_mut(kind as usize) {
-            *waiting = waiting.wrapping_add(count);
-            self.waiting = self.waiting.wrapping_add(count);
-        }
+    pub fn load(&mut self, kind: u32, count: u32)
+        requires { kind < self.old.kinds }
+        ensures { self.new ≡ self.old }
+    {
+        self.quay[kind as usize] = self.quay[kind as usize].wrapping_add(count);
+        self.waiting = self.waiting.wrapping_add(count);
     }
 
-    /// So many more containers of each kind wait on the quay.
-    pub fn load_all(&mut self, loads: &[u32]) {
-        for (waiting, count) in self.quay.iter_mut().zip(loads) {
-            *waiting = waiting.wrapping_add(*count);
-            self.waiting = self.waiting.wrapping_add(*count);
+    /// What loads at a call waits on the quay.
+    pub fn load_all(&mut self, facts: &Facts, call: u32)
+        requires { facts.now ≡ self.old }
+        ensures { self.new ≡ self.old }
+    {
+        for kind in 0..self.sizes.kinds {
+            self.load(kind, facts.load(call, kind));
         }
     }
 
@@ -489,18 +561,28 @@ impl Yard {
     }
 
     /// Takes a container of a kind from the quay. False where none is there.
-    pub fn take(&mut self, kind: u32) -> bool {
-        match self.quay.get_mut(kind as usize) {
-            Some(count) if *count > 0 => {
-                *count = count.wrapping_sub(1);
-                true
-            }
-            _ => false,
+    pub fn take(&mut self, kind: u32) -> bool
+        ensures { self.new ≡ self.old }
+    {
+        let waiting = self.on_quay(kind);
+        if kind >= self.sizes.kinds || waiting == 0 {
+            return false;
         }
+        self.quay[kind as usize] = waiting.wrapping_sub(1);
+        true
+    }
+
+    /// One container fewer waits: what was taken from the quay is put.
+    pub fn leave_quay(&mut self)
+        ensures { self.new ≡ self.old }
+    {
+        self.waiting = self.waiting.wrapping_sub(1);
     }
 
     /// Takes a container of a kind away from the quay. False where none is there.
-    pub fn give(&mut self, kind: u32) -> bool {
+    pub fn give(&mut self, kind: u32) -> bool
+        ensures { self.new ≡ self.old }
+    {
         let is_there = self.take(kind);
         if is_there {
             self.waiting = self.waiting.wrapping_sub(1);
@@ -515,10 +597,12 @@ impl Yard {
         stack: u32,
         aft: bool,
         call: u32,
-    ) -> Result<bool, NoMemory> {
-        let Some(pile) = self.piles.get(stack as usize).copied() else {
-            return Ok(false);
-        };
+    ) -> Result<bool, NoMemory>
+        requires facts { facts.now ≡ self.old }
+        requires stack { stack < self.old.stacks }
+        ensures { self.new ≡ self.old }
+    {
+        let pile = self.piles[stack as usize];
         let column = pile.column(aft);
         let Some(tier) = column.height.checked_sub(1) else {
             return Ok(false);
@@ -529,7 +613,7 @@ impl Yard {
         if stay.ends & bit_of(call) == 0 {
             return Ok(false);
         }
-        let Some(kind) = facts.kinds.get(stay.kind as usize) else {
+        let Some(kind) = facts.find_kind(stay.kind) else {
             return Ok(false);
         };
         let span = match (column.height != column.short, aft) {
@@ -538,7 +622,10 @@ impl Yard {
             (false, true) => Span::Aft,
         };
         let spot = Spot { stack, tier, span };
-        self.note(facts, &stay, spot, call)?;
+        let Some(planned) = self.planned(facts, &stay, spot, call) else {
+            return Ok(false);
+        };
+        self.note(planned)?;
         self.end(kind, &stay, call);
         self.take_off(stack, aft, kind.kg);
         if kind.class != 0 {
