@@ -87,8 +87,7 @@ fn drawn_behind(alloc: Global) -> Result<Bytes, NoMemory> {
 #[test]
 fn counts_changes(rt: HostRuntime) -> Result<(), Fail> {
     let text = drawn_behind(rt.alloc())?;
-    let line: &[u8] =
-        b"&#9650; 0 loaded, &#9660; 1 discharged, &#9670; 1 rehandled</text>";
+    let line: &[u8] = b"&#9650; 0 loaded, &#9660; 1 discharged, &#9670; 1 rehandled</text>";
     assert_eq!(rt; has(&text, line), true);
     assert_eq!(rt; has(&text, b">&#9670;</text>"), true);
     Ok(())
