@@ -1,5 +1,5 @@
 -- Files that show plans, one after the other.
-use Rattle.std.proofs.Common.{◌≡◌, ℕ, suc, ◌+◌, ◌<◌, List, [], ◌∷◌, ◌++◌, length, get_or, take, drop, map, Ok, Err, refl, sym, ap, subst, ◌∙◌, arith, inl, inr}
+use Rattle.std.proofs.Common.{◌≡◌, ℕ, suc, ◌+◌, ◌<◌, List, [], ◌∷◌, ◌++◌, length, get_or, take, drop, map, refl, sym, ap, subst, ◌∙◌, arith, inl, inr}
 use Rattle.std.proofs.lemmas.List.{drop_more, take-append-drop}
 use Rattle.stow_data.specs.Ship.{Ship}
 use Rattle.stow_data.specs.Shipment.{Cargo, IsCargo}
@@ -11,10 +11,10 @@ use Rattle.stowage_rules.specs.Faults.{MeetsRules}
 use Rattle.stowage_rules.proofs.InRank.{breaks}
 use Rattle.toml_values.proofs.ValueLaws.{err_is_no_ok, same_Ok}
 use Rattle.plan_lifts.specs.Lifted.{ArePlans, IsFirstIllegal, IsLiftsFault}
+use Rattle.plan_lifts.specs.declared.lifting.Lifted.{Lifted}
 use Rattle.plan_lifts.specs.declared.lifting.LiftsFault.{LiftsFault}
 use Rattle.plan_lifts.specs.declared.lifting.LiftsFault.TheVariants as lifting
 use Rattle.plan_lifts.specs.declared.lifting.LiftsFault.TheVariants.{Illegal}
-use Rattle.std.specs.Prelude.{IfErr, IfOk, MatchResult, Result}
 use Rattle.baplie.specs.declared.parts.Message.{Message}
 use Rattle.plan_files.specs.Shown.{IsLegalFileSet, ShowAll, Shows, shown_by}
 use Rattle.plan_files.specs.declared.file_faults.FileNo.{FileNo}
@@ -22,7 +22,7 @@ use Rattle.plan_files.proofs.Formed.{shown_aboard, shown_formed}
 use Rattle.plan_files.proofs.Shown.{shows_told}
 use Rattle.plan_files.specs.declared.plan_faults.PlanNo.{PlanNo}
 use Rattle.plan_files.specs.declared.plan_faults.PlanNo.TheVariants.{File, Rule, NoMemory}
-use Rattle.plan_files.specs.Checked.{AreCounted, HasRehandles, IsFileFault, IsPlanNo, IsRuleFault, IsUnshown, told_by}
+use Rattle.plan_files.specs.Checked.{HasLifts, IsFileFault, IsPlanNo, IsRuleFault, IsUnshown, told_by}
 
 module _ (ship : Ship) (cargo : Cargo) where
   pub show_more : (call : ℕ) (xs : List Message) (plans : List Plan) (m : Message) (plan : Plan) → ShowAll ship cargo call (map shown_by xs) plans → Shows ship cargo (call + length xs) (shown_by m) plan → ShowAll ship cargo call (map shown_by (xs ++ m ∷ [])) (plans ++ plan ∷ [])
@@ -53,15 +53,13 @@ module _ (ship : Ship) (cargo : Cargo) where
   turned plans lifting.NoMemory h = tt
 
   module _ (messages : List Message) (plans : List Plan) (shown : ShowAll ship cargo 1 (map shown_by messages) plans) where
-    pub rehandles_of : length messages + 1 ≡ length cargo.rotation → (r : Result ℕ PlanNo) → MatchResult r (λ n. AreCounted ship cargo plans n) (λ e. IsRuleFault ship cargo plans e) → IfOk r (λ n. HasRehandles ship cargo (map shown_by messages) n)
-    rehandles_of each (Ok n) h = record { departures = plans; legal = record { each_call = omega (arith, each, as_many 1 messages plans shown); shown = shown; legal = h.legal }; counts = h.counts }
-    rehandles_of each (Err e) h = tt
+    pub legal_set : length messages + 1 ≡ length cargo.rotation → (lifted : Lifted) → HasLifts ship cargo plans lifted → IsLegalFileSet ship cargo (map shown_by messages) plans
+    legal_set each lifted h = record { each_call = omega (arith, each, as_many 1 messages plans shown); shown = shown; legal = h.lists.legal }
 
-    pub refusal_of : (r : Result ℕ PlanNo) → MatchResult r (λ n. AreCounted ship cargo plans n) (λ e. IsRuleFault ship cargo plans e) → IfErr r (λ e. IsPlanNo ship cargo messages e)
-    refusal_of (Ok n) h = tt
-    refusal_of (Err (Rule at rule)) h = record { departures = plans; shown = shown; broken = h }
-    refusal_of (Err (File at fault)) h = absurd h
-    refusal_of (Err NoMemory) h = tt
+    pub refusal_of : (e : PlanNo) → IsRuleFault ship cargo plans e → IsPlanNo ship cargo messages e
+    refusal_of (Rule at rule) h = record { departures = plans; shown = shown; broken = h }
+    refusal_of (File at fault) h = absurd h
+    refusal_of NoMemory h = tt
 
   module _ (rules : IsShip ship) (shipped : IsCargo cargo) where
     pub are_plans : (call : ℕ) (messages : List Message) (plans : List Plan) → ShowAll ship cargo call (map shown_by messages) plans → ArePlans ship cargo call plans

@@ -5,7 +5,6 @@ use Rattle.std.proofs.lemmas.List.Elements.{All-get_or}
 use Rattle.std.proofs.lemmas.Option.{get_or_from_slice_get, same_Some, slice_get_within}
 use Rattle.std.specs.Prelude.{slice_get, slice_index_or, IfSome, IsTrue}
 use Rattle.std.specs.List.{flat_map, range_with_len}
-use Rattle.stow_data.specs.declared.geometry.Length.{Length}
 use Rattle.stow_data.specs.declared.geometry.Span.{Span}
 use Rattle.stow_data.specs.declared.geometry.Span.TheVariants.{Fore, Aft, Both}
 use Rattle.stow_data.specs.declared.cargoes.Container.{Container}
@@ -28,7 +27,6 @@ use Rattle.arrival_plan.specs.Settled.{told}
 use Rattle.baplie.specs.declared.parts.CellGroup.{CellGroup}
 use Rattle.baplie.specs.declared.parts.Facts.{Facts}
 use Rattle.baplie.specs.Groups.{cell_group, long_of_bay}
-use Rattle.stow_data.specs.Types.{length_of_type}
 use Rattle.baplie.specs.Whole.{IsWhole}
 use Rattle.plan_files.specs.DepartureFile.{AreArrived, no_booking, no_group, port_of, number_at, booked_group, cell_group_of, group_by, group_at, groups, message_of, moved, moved_segments}
 use Rattle.plan_files.proofs.Arrived.{few_arrived, long_by_bay, one_out, put_out, put_out_else, read_group, total, total_joined}

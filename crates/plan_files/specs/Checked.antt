@@ -5,14 +5,15 @@ use Rattle.stow_data.specs.Shipment.{Cargo}
 use Rattle.stow_data.specs.Plans.{Plan}
 use Rattle.stowage_rules.specs.declared.faults.RuleBroken.{RuleBroken}
 use Rattle.voyage_meaning.specs.Voyage.{HasCount}
-use Rattle.plan_lifts.specs.Lifted.{IsFirstIllegal}
+use Rattle.plan_lifts.specs.Lifted.{IsFirstIllegal, IsLifted}
+use Rattle.plan_lifts.specs.declared.lifting.Lifted.{Lifted}
 use Rattle.plan_lifts.specs.declared.lifting.LiftsFault.{LiftsFault}
 use Rattle.plan_lifts.specs.declared.lifting.LiftsFault.TheVariants as lifting
 use Rattle.plan_lifts.specs.declared.lifting.LiftsFault.TheVariants.{Illegal}
-use Rattle.stowage_rules.specs.Departure.{AreDepartures}
 use Rattle.baplie.specs.declared.parts.Message.{Message}
 use Rattle.plan_files.specs.Shown.{CellGroup, IsLegalFileSet, ShowAll, Shows, shown_by}
 use Rattle.plan_files.specs.PlanOf.{plan_of}
+use Rattle.plan_files.specs.declared.checking.FileSet.{FileSet}
 use Rattle.plan_files.specs.declared.plan_faults.PlanNo.{PlanNo}
 use Rattle.plan_files.specs.declared.plan_faults.PlanNo.TheVariants.{File, Rule, NoMemory}
 
@@ -34,10 +35,15 @@ IsUnshown ship cargo call messages NoMemory = Unit {0}
 IsUnshown ship cargo call [] e = ⊥
 IsUnshown ship cargo call (message ∷ messages) e = IsFileFault ship cargo call message e ⊎ (((plan : Plan) × Shows ship cargo call (shown_by message) plan) × IsUnshown ship cargo (suc call) messages e)
 
--- departures of calls from 1 on, by all five rules, which take so many rehandles
-pub record AreCounted (ship : Ship) (cargo : Cargo) (departures : List Plan) (count : ℕ) : Type 0 where
-  pub legal : AreDepartures ship cargo 1 departures
-  pub counts : HasCount ship cargo departures count
+-- departures of calls from 1 on, by all five rules, with what must be lifted on a voyage with them, and their rehandles
+pub record HasLifts (ship : Ship) (cargo : Cargo) (departures : List Plan) (lifted : Lifted) : Type 0 where
+  pub lists : IsLifted ship cargo departures lifted.lists
+  pub counts : HasCount ship cargo departures lifted.count
+
+-- the files are a legal file set, whose departures and lifts are these
+pub record IsSetOf (ship : Ship) (cargo : Cargo) (messages : List (List CellGroup)) (set : FileSet) : Type 0 where
+  pub legal : IsLegalFileSet ship cargo messages set.plans
+  pub lifts : HasLifts ship cargo set.plans set.lifted
 
 -- why they aren't
 abbrev pub IsRuleFault : Ship → Cargo → List Plan → PlanNo → Type 0

@@ -1,5 +1,5 @@
 -- The plan that the cell groups of a departure file tell, group after group, or the first fault.
-use Rattle.std.specs.Prelude.{ℕ, ◌+◌, Bool, true, false, not, ◌&&◌, List, [], ◌∷◌, length, find, replicate, Option, Some, None, Result, Ok, Err, ok_or, if◌then◌else◌, nat_le, nat_lt, slice_index_or, slice_set}
+use Rattle.std.specs.Prelude.{ℕ, ◌+◌, Bool, true, false, not, ◌&&◌, List, [], ◌∷◌, length, find, replicate, Option, Some, None, Result, Ok, Err, ok_or, if◌then◌else◌, slice_index_or, slice_set}
 use Rattle.std.specs.Str.{bytes_eq}
 use Rattle.stow_data.specs.declared.cargoes.Container.{Container}
 use Rattle.stow_data.specs.Ship.{Ship, places, fits}

@@ -1,18 +1,27 @@
 //! The check of the departure files of a voyage.
-ghost use Rattle.std.specs.Prelude.{◌≡◌, ◌≤◌, ◌<◌, ◌+◌, ◌^◌, All, IfErr, IfOk, MatchResult, length, map};
+ghost use Rattle.std.specs.Prelude.{◌≡◌, ◌≤◌, ◌<◌, ◌+◌, ◌^◌, All, MatchResult, length, map};
 ghost use Rattle.stowage_rules.specs.Departure.{HasArrival};
 ghost use Rattle.plan_lifts.specs.Lifted.{ArePlans};
 ghost use Rattle.plan_files.specs.Shown.{ShowAll, Shows, shown_by};
-ghost use Rattle.plan_files.specs.Checked.{AreCounted, HasRehandles, IsFileFault, IsPlanNo, IsRuleFault, IsUnshown, told_by};
+ghost use Rattle.plan_files.specs.Checked.{HasLifts, HasRehandles, IsFileFault, IsPlanNo, IsRuleFault, IsSetOf, IsUnshown, told_by};
 
 use crate::file_faults::FileNo;
 use crate::plan_faults::PlanNo;
 use crate::reading::plan_of_message;
 use crate::shown_law::told_is_shown;
 use baplie::{Message, MessageList};
-use plan_lifts::{LiftsFault, lifts};
+use plan_lifts::{Lifted, LiftsFault, lifts};
 use std::alloc::Global;
 use stow_data::{CallNo, Cargo, Plan, PlanList, Ship};
+
+/// A legal file set.
+#[derive(Drop)]
+pub struct FileSet {
+    /// The departures, of which the first is that of call 1.
+    pub plans: PlanList,
+    /// What must be lifted on a voyage with them, and their rehandles.
+    pub lifted: Lifted,
+}
 
 /// The plan that the file of a call shows.
 fn shown_plan(
@@ -64,40 +73,60 @@ fn told_by(fault: LiftsFault) -> PlanNo
     }
 }
 
-/// The rehandles of departures, of which the first is that of call 1, or the first that breaks a rule.
-fn counted(alloc: Global, ship: &Ship, cargo: &Cargo, plans: &PlanList) -> Result<u64, PlanNo>
+/// What must be lifted on a voyage with departures, of which the first is that of call 1, or the first that breaks a rule.
+fn lifted_on(alloc: Global, ship: &Ship, cargo: &Cargo, plans: &PlanList) -> Result<Lifted, PlanNo>
     requires arrival { HasArrival ship.now cargo.now }
     requires each_call { length plans.now + 1 ≡ length cargo.now.rotation }
     requires formed { ArePlans ship.now cargo.now 1 plans.now }
-    ensures { MatchResult result (λ count. AreCounted ship.now cargo.now plans.now count) (λ e. IsRuleFault ship.now cargo.now plans.now e) }
+    ensures { MatchResult result (λ lifted. HasLifts ship.now cargo.now plans.now lifted) (λ e. IsRuleFault ship.now cargo.now plans.now e) }
 {
     match lifts(alloc, ship, cargo, plans) {
-        Ok(lifted) => Ok(lifted.count),
+        Ok(lifted) => Ok(lifted),
         Err(fault) => Err(told_by(fault)),
     }
 }
 
-/// The rehandles of the departures that messages show, or the first part that doesn't hold.
-fn count_messages(
+/// The departures that messages show, and what must be lifted on a voyage with them, or the first part that doesn't hold.
+fn shown_set(
     alloc: Global,
     ship: &Ship,
     cargo: &Cargo,
     messages: &[Message],
-) -> Result<u64, PlanNo>
+) -> Result<FileSet, PlanNo>
     requires arrival { HasArrival ship.now cargo.now }
     requires each_call { length messages.now + 1 ≡ length cargo.now.rotation }
     requires few { All (λ m. length m.groups ≤ 2 ^ 29) messages.now }
-    ensures counted { IfOk result (λ count. HasRehandles ship.now cargo.now (map shown_by messages.now) count) }
-    ensures refused { IfErr result (λ e. IsPlanNo ship.now cargo.now messages.now e) }
+    ensures { MatchResult result (λ set. IsSetOf ship.now cargo.now (map shown_by messages.now) set) (λ e. IsPlanNo ship.now cargo.now messages.now e) }
 {
     ship.obeys_rules();
     cargo.obeys_rules();
     let plans = shown_plans(alloc, ship, cargo, messages)?;
-    counted(alloc, ship, cargo, &plans)
+    match lifted_on(alloc, ship, cargo, &plans) {
+        Ok(lifted) => Ok(FileSet { plans, lifted }),
+        Err(no) => {
+            drop(plans);
+            Err(no)
+        }
+    }
 }
 
-/// The rehandles of the departures that the files show, of which the first is that of call 1. Else the first file that
-/// shows no plan, and where all show one, the first departure that breaks a rule.
+/// The departures that the files show, of which the first is that of call 1, and what must be lifted on a voyage with
+/// them. Else the first file that shows no plan, and where all show one, the first departure that breaks a rule.
+pub fn file_set_of(
+    alloc: Global,
+    ship: &Ship,
+    cargo: &Cargo,
+    messages: &MessageList,
+) -> Result<FileSet, PlanNo>
+    requires arrival { HasArrival ship.now cargo.now }
+    requires each_call { length messages.now + 1 ≡ length cargo.now.rotation }
+    requires few { All (λ m. length m.groups ≤ 2 ^ 29) messages.now }
+    ensures { MatchResult result (λ set. IsSetOf ship.now cargo.now (map shown_by messages.now) set) (λ e. IsPlanNo ship.now cargo.now messages.now e) }
+{
+    shown_set(alloc, ship, cargo, messages.as_slice())
+}
+
+/// The rehandles of these departures.
 pub fn check_plan(
     alloc: Global,
     ship: &Ship,
@@ -107,8 +136,10 @@ pub fn check_plan(
     requires arrival { HasArrival ship.now cargo.now }
     requires each_call { length messages.now + 1 ≡ length cargo.now.rotation }
     requires few { All (λ m. length m.groups ≤ 2 ^ 29) messages.now }
-    ensures counted { IfOk result (λ count. HasRehandles ship.now cargo.now (map shown_by messages.now) count) }
-    ensures refused { IfErr result (λ e. IsPlanNo ship.now cargo.now messages.now e) }
+    ensures { MatchResult result (λ count. HasRehandles ship.now cargo.now (map shown_by messages.now) count) (λ e. IsPlanNo ship.now cargo.now messages.now e) }
 {
-    count_messages(alloc, ship, cargo, messages.as_slice())
+    match file_set_of(alloc, ship, cargo, messages) {
+        Ok(set) => Ok(set.lifted.count),
+        Err(no) => Err(no),
+    }
 }

@@ -18,7 +18,7 @@ mod shown_law;
 mod standing;
 
 pub use cell_groups::port_of;
-pub use checking::check_plan;
+pub use checking::{FileSet, check_plan, file_set_of};
 pub use departure_file::{departure_text, message_of};
 pub use file_faults::FileNo;
 pub use laws::departure_reads;

@@ -27,13 +27,14 @@ use Rattle.voyage_files.specs.Inputs.{AreInputs}
 use Rattle.voyage_files.specs.Names.{Names, names_from}
 use Rattle.voyage_files.proofs.OneInput.{one_inputs, turned_one}
 use Rattle.stow_words.specs.declared.order.Order.{Order}
-use Rattle.stow_words.specs.declared.order.Order.TheVariants.{Plan, Check, Show, Make}
+use Rattle.stow_words.specs.declared.order.Order.TheVariants.{Plan, Check, Show, Make, Cranes}
 use Rattle.stow_cli.specs.Voyages.{Overflows, Sails, voyage_of}
 use Rattle.stow_cli.specs.Work.{finding_of}
 use Rattle.stow_cli.specs.Made.{behind, made_files, made_names, only_made}
 use Rattle.stow_cli.specs.Answers.{PlanWithin, PlanOf, IsPlanTo, IsMade, IsAnswerTo}
 use Rattle.stow_cli.specs.Law.{Agree, BothMade, BothSearched, IsLongCert, MayBothAnswer, MayBothFind}
 use Rattle.stow_cli.proofs.Limits.{is_certificate}
+use Rattle.stow_cli.proofs.OneCall.{cranes_agree}
 use Rattle.stow_cli.proofs.OneAnswer.{taken_not_turned, within_not_large, large_answers, one_check, one_show}
 
 -- ## `plan`
@@ -116,6 +117,9 @@ within_agree budget base v (answer.Large l) (answer.No line) h k = k
 within_agree budget base v (answer.Large l) (answer.Input line) h k = k
 within_agree budget base v (answer.No line) b h k = absurd h
 within_agree budget base v (answer.Input line) b h k = absurd h
+within_agree budget base v answer.Call b h k = absurd h
+within_agree budget base v (answer.Work w) answer.Call h k = k
+within_agree budget base v (answer.Large l) answer.Call h k = k
 
 abbrev PlansAgree : Names → ℕ → Option Files → Answer → Answer → Type 0
 PlansAgree names budget files a b = (a ≡ b) ⊎ BothSearched names budget files a b
@@ -155,6 +159,9 @@ behind_both front (answer.Large l) (answer.No line) h = absurd h
 behind_both front (answer.Large l) (answer.Input line) h = absurd h
 behind_both front (answer.No line) b h = absurd h
 behind_both front (answer.Input line) b h = absurd h
+behind_both front answer.Call b h = absurd h
+behind_both front (answer.Work w) answer.Call h = absurd h
+behind_both front (answer.Large l) answer.Call h = absurd h
 
 -- the two files are told, whatever the folder tells
 pub made_told : (number : ℕ) (base : List ℕ) → (files : Files) × (only_made number base ≡ Some files)
@@ -188,6 +195,7 @@ answers_agree (Plan profile bookings base arrival workers budget) files a b h k 
 answers_agree (Check profile bookings base arrival) files a b h k = one_check profile bookings base arrival files a b h k
 answers_agree (Show file) files a b h k = one_show file files a b h k
 answers_agree (Make number base) files a b h k = made_agree number base a b h k
+answers_agree (Cranes profile bookings base arrival call count) files a b h k = cranes_agree (names_from profile bookings base arrival) call count files a b h k
 
 -- ## Limits
 
@@ -204,6 +212,8 @@ limits_agree (Check profile bookings base arrival) files work limit n other e = 
 limits_agree (Show file) files work limit n other e = never_equal work (refusal_text (limit_line limit n)) e
 limits_agree (Make number base) files work limit n other (inl e) = never_equal work (refusal_text (limit_line limit n)) e
 limits_agree (Make number base) files work limit n other (inr h) = limits_of_both work limit n other h.agree
+limits_agree (Cranes profile bookings base arrival call count) files work limit n other (inl e) = never_equal work (refusal_text (limit_line limit n)) e
+limits_agree (Cranes profile bookings base arrival call count) files work limit n other (inr h) = never_equal h.other (refusal_text (limit_line limit n)) (sym h.second)
 
 pub limits_exclude : (o : Order) (files : Files) (work : Work) (limit : Limit) (n : ℕ) → limit ≢ Certificate → IsAnswerTo o (Some files) (answer.Work work) → IsAnswerTo o (Some files) (answer.Large (refusal_text (limit_line limit n))) → ⊥
 limits_exclude o files work limit n other h k = limits_agree o (Some files) work limit n other (answers_agree o files (answer.Work work) (answer.Large (refusal_text (limit_line limit n))) h k)

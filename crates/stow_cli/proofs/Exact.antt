@@ -39,7 +39,7 @@ exact_order order status.Input before now run fault files a told quiet h = inl (
 exact_order order status.Large before now run fault files a told quiet h = inl (alike order before.files files (answer.Large run.line) a status.Large told run.answered h refl)
 exact_order order status.Fault before now run fault files a told quiet h = absurd (quiet (fault refl))
 exact_order order status.Memory before now run fault files a told quiet h = inr refl
-exact_order order status.Words before now run fault files a told quiet h = absurd run
+exact_order order status.Words before now run fault files a told quiet h = inl (alike order before.files files answer.Call a status.Words told run.answered h refl)
 
 exact_words : (why : WordsNo) (s : Status) (before now : Outside) → Refuses why s before now → IsExact (Err why) s before now
 exact_words why status.Words before now run = inl refl

@@ -3,6 +3,8 @@ pub mod Messages
 pub mod Works
 pub mod WrittenFiles
 pub mod OneCheck
+pub mod OneCall
+pub mod Sharing
 pub mod OneAnswer
 pub mod Limits
 pub mod Agreement

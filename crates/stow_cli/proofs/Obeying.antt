@@ -4,7 +4,7 @@ use Rattle.std.specs.Prelude.{◌⊎◌, codes, Result, Ok, Err}
 use Rattle.stow_io.specs.Outside.{Outside}
 use Rattle.stow_words.specs.declared.order.Order.{Order}
 use Rattle.stow_words.specs.declared.order.WordsNo.{WordsNo}
-use Rattle.stow_words.specs.declared.order.WordsNo.TheVariants.{NotTaken, Workers, Budget, Number, NoMemory}
+use Rattle.stow_words.specs.declared.order.WordsNo.TheVariants.{NotTaken, Workers, Budget, Number, Call, Count, NoMemory}
 use Rattle.stow_words.specs.Orders.{Gives, ordered, AreFaulty}
 use Rattle.stow_words.specs.Own.{own_order}
 use Rattle.stow_words.specs.Plain.{IsPlainForm}
@@ -29,6 +29,8 @@ refuses NotTaken s before now e p = subst (λ (t : Status). Refuses NotTaken t b
 refuses Workers s before now e p = subst (λ (t : Status). Refuses Workers t before now) (sym e) p
 refuses Budget s before now e p = subst (λ (t : Status). Refuses Budget t before now) (sym e) p
 refuses Number s before now e p = subst (λ (t : Status). Refuses Number t before now) (sym e) p
+refuses Call s before now e p = subst (λ (t : Status). Refuses Call t before now) (sym e) p
+refuses Count s before now e p = subst (λ (t : Status). Refuses Count t before now) (sym e) p
 refuses NoMemory s before now e p = subst (λ (t : Status). Refuses NoMemory t before now) (sym e) p
 
 lacks_memory : (wanted : Result Order WordsNo) (before now : Outside) → OnlyPrints (codes "memory\n") before now → IsRun wanted status.Memory before now

@@ -104,6 +104,9 @@ show_one bytes (answer.Input line) (answer.No other) h k = absurd k
 show_one bytes (answer.Input line) (answer.Large other) h k = absurd k
 show_one bytes (answer.No line) b h k = absurd h
 show_one bytes (answer.Large line) b h k = absurd h
+show_one bytes answer.Call b h k = absurd h
+show_one bytes (answer.Work w) answer.Call h k = absurd k
+show_one bytes (answer.Input line) answer.Call h k = absurd k
 
 -- ## All orders of files
 

@@ -39,7 +39,7 @@ zero_or_suc n e = let bad : ⊥ = cc in bad
 less_one : (n k : ℕ) → suc n ≡ suc k → n ≡ k
 less_one n k e = cc
 
-one_texts : (base : List ℕ) (files : Files) (call : ℕ) (xs ys : List (List ℕ)) → length xs ≡ length ys → AreTexts base (Some files) call xs → AreTexts base (Some files) call ys → xs ≡ ys
+pub one_texts : (base : List ℕ) (files : Files) (call : ℕ) (xs ys : List (List ℕ)) → length xs ≡ length ys → AreTexts base (Some files) call xs → AreTexts base (Some files) call ys → xs ≡ ys
 one_texts base files call [] [] e h k = refl
 one_texts base files call [] (y ∷ ys) e h k = absurd (zero_or_suc (length ys) e)
 one_texts base files call (x ∷ xs) [] e h k = absurd (zero_or_suc (length xs) (sym e))
@@ -70,6 +70,9 @@ module _ (m : Voyage) (problem : IsProblem m) (head : Head) (tree : List Record)
   judged_one (answer.No line) (answer.Large other) h k = absurd k
   judged_one (answer.Input line) b h k = absurd h
   judged_one (answer.Large line) b h k = absurd h
+  judged_one answer.Call b h k = absurd h
+  judged_one (answer.Work w) answer.Call h k = absurd k
+  judged_one (answer.No line) answer.Call h k = absurd k
 
 -- ## Files
 

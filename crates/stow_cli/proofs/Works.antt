@@ -92,6 +92,7 @@ answers_from base v budget p (answer.Work work) b certified plans h = subst (Sai
 answers_from base v budget p (answer.Large line) b certified plans h = record { head = p.head; tree = p.tree; certified = certified; overlong = h; possible = lt_of_lt_of_le h.long certified.short }
 answers_from base v budget p (answer.No line) b certified plans h = h
 answers_from base v budget p (answer.Input line) b certified plans h = h
+answers_from base v budget p answer.Call b certified plans h = h
 
 pub ok_answers : {E : Type 0} (r : Result Answer E) (base : List ℕ) (v : BookedVoyage) (budget : ℕ) (p : Planned) → IsBooked v → Certifies (voyage_of v) budget p.head p.tree → HasPlans (voyage_of v) p.head.rehandles p.plans → IfOk r (AreTextsOf base v p) → IfOk r (PlanWithin budget base v)
 ok_answers (Ok a) base v budget p b certified plans h = answers_from base v budget p a b certified plans h

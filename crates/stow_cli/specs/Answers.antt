@@ -17,7 +17,7 @@ use Rattle.voyage_files.specs.declared.answer.Answer.TheVariants as answer
 use Rattle.stow_io.specs.declared.files.Work.{Work}
 use Rattle.stow_io.specs.declared.files.Finding.TheVariants.{Fine}
 use Rattle.stow_words.specs.declared.order.Order.{Order}
-use Rattle.stow_words.specs.declared.order.Order.TheVariants.{Plan, Check, Show, Make}
+use Rattle.stow_words.specs.declared.order.Order.TheVariants.{Plan, Check, Show, Make, Cranes}
 use Rattle.voyage_files.specs.Names.{Names, names_from}
 use Rattle.voyage_files.specs.declared.voyage.BookedVoyage.{BookedVoyage}
 use Rattle.voyage_files.specs.Inputs.{IsContent, AreInputs, TurnsDown, IsReadBy}
@@ -25,6 +25,7 @@ use Rattle.stow_report.specs.Verdicts.{file_line}
 use Rattle.model_bridge.specs.Laws.{IsProblem}
 use Rattle.stow_cli.specs.Voyages.{Sails, Overflows, voyage_of}
 use Rattle.stow_cli.specs.Checks.{ReadsCert, IsWrittenRead}
+use Rattle.stow_cli.specs.Cranes.{IsCranesRead, IsCranesTo}
 use Rattle.stow_cli.specs.Made.{made_files, made_names, only_made, behind}
 
 -- ## Inputs
@@ -60,6 +61,7 @@ PlanWithin budget base v (answer.Work work) = Sails base v budget work
 PlanWithin budget base v (answer.Large line) = Overflows v budget line
 PlanWithin budget base v (answer.No line) = ⊥
 PlanWithin budget base v (answer.Input line) = ⊥
+PlanWithin budget base v answer.Call = ⊥
 
 -- the model's limits come first, then the search
 abbrev pub PlanOf : ℕ → List ℕ → BookedVoyage → Answer → Type 0
@@ -112,6 +114,7 @@ ShowOf bytes (answer.Work work) = Lists bytes work
 ShowOf bytes (answer.Input line) = RefusesFile bytes line
 ShowOf bytes (answer.No line) = ⊥
 ShowOf bytes (answer.Large line) = ⊥
+ShowOf bytes answer.Call = ⊥
 
 pub record IsShown (file : List ℕ) (files : Option Files) (a : Answer) : Type 0 where
   pub bytes : List ℕ
@@ -126,6 +129,7 @@ IsAnswerTo (Plan profile bookings base arrival workers budget) files a = IsPlanT
 IsAnswerTo (Check profile bookings base arrival) files a = Judges (names_from profile bookings base arrival) files (CheckOf base files) a
 IsAnswerTo (Show file) files a = IsShown file files a
 IsAnswerTo (Make number base) files a = IsMade number base a
+IsAnswerTo (Cranes profile bookings base arrival call count) files a = IsCranesTo (names_from profile bookings base arrival) call count files a
 
 -- the certificate and the departure files are read where the inputs are accepted and their voyage is within the limits
 pub record IsWrittenOf (names : Names) (files : Option Files) (name : List ℕ) : Type 0 where
@@ -143,3 +147,4 @@ IsReadFor (Plan profile bookings base arrival workers budget) files name = IsRea
 IsReadFor (Check profile bookings base arrival) files name = IsCheckRead (names_from profile bookings base arrival) files name
 IsReadFor (Show file) files name = name ≡ file
 IsReadFor (Make number base) files name = ⊥
+IsReadFor (Cranes profile bookings base arrival call count) files name = IsCranesRead (names_from profile bookings base arrival) call files name

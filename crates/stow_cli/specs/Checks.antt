@@ -69,6 +69,7 @@ JudgedAs m head tree texts (answer.Work work) = Confirms m head tree texts work
 JudgedAs m head tree texts (answer.No line) = RefusesPart m head tree texts line
 JudgedAs m head tree texts (answer.Input line) = ⊥
 JudgedAs m head tree texts (answer.Large line) = ⊥
+JudgedAs m head tree texts answer.Call = ⊥
 
 -- the departure files are read, and they and the certificate are answered so
 pub record ReadsFiles (base : List ℕ) (files : Option Files) (v : BookedVoyage) (head : Head) (tree : List Record) (a : Answer) : Type 0 where

@@ -9,7 +9,7 @@ use Rattle.stow_io.specs.declared.files.Finding.TheVariants as finding
 use Rattle.stow_io.specs.declared.files.Work.{Work}
 use Rattle.stow_words.specs.declared.order.Order.{Order}
 use Rattle.stow_words.specs.declared.order.WordsNo.{WordsNo}
-use Rattle.stow_words.specs.declared.order.WordsNo.TheVariants.{NotTaken, Workers, Budget, Number, NoMemory}
+use Rattle.stow_words.specs.declared.order.WordsNo.TheVariants.{NotTaken, Workers, Budget, Number, Call, Count, NoMemory}
 use Rattle.voyage_files.specs.declared.answer.Answer.{Answer}
 use Rattle.voyage_files.specs.declared.answer.Answer.TheVariants as answer
 use Rattle.stow_cli.specs.Answers.{IsAnswerTo, IsReadFor}
@@ -67,6 +67,21 @@ IsReported status.NoPlan = Unit {0}
 IsReported status.Undecided = Unit {0}
 IsReported _ = ⊥
 
+-- the line of words that are refused
+abbrev pub words_line : WordsNo → List ℕ
+words_line NotTaken = codes "refused words 1\n"
+words_line Workers = codes "refused words 2\n"
+words_line Budget = codes "refused words 3\n"
+words_line Number = codes "refused words 4\n"
+words_line Call = codes "refused words 7\n"
+words_line Count = codes "refused words 8\n"
+words_line NoMemory = codes "memory\n"
+
+-- the call that the words name is past the last departure: the one refusal of words behind inputs
+pub record IsCallPast (order : Order) (before now : Outside) : Type 0 where
+  pub answered : IsAnswerTo order before.files answer.Call
+  pub says : OnlyPrints (words_line Call) before now
+
 -- how a run with this order may end: the status, and what is outside before it and after it
 abbrev pub Follows : Order → Status → Outside → Outside → Type 0
 Follows order status.Fine before now = IsDone order status.Fine before now
@@ -76,17 +91,9 @@ Follows order status.Undecided before now = IsDone order status.Undecided before
 Follows order status.No before now = IsLine order answer.No before now (λ line. now.text ≡ append line before.text)
 Follows order status.Input before now = IsLine order answer.Input before now (λ line. Prints line before now)
 Follows order status.Large before now = IsLine order answer.Large before now (λ line. Prints line before now)
+Follows order status.Words before now = IsCallPast order before now
 Follows order status.Fault before now = IsDone order status.Fault before now ⊎ (IsUnread order before now ⊎ IsLine order answer.No before now (λ line. IsCut line before now))
 Follows order status.Memory before now = IsDone order status.Memory before now ⊎ OnlyPrints (codes "memory\n") before now
-Follows _ _ _ _ = ⊥
-
--- the line of words that are refused
-abbrev pub words_line : WordsNo → List ℕ
-words_line NotTaken = codes "refused words 1\n"
-words_line Workers = codes "refused words 2\n"
-words_line Budget = codes "refused words 3\n"
-words_line Number = codes "refused words 4\n"
-words_line NoMemory = codes "memory\n"
 
 -- the status of words that are refused
 abbrev pub words_status : WordsNo → Status
@@ -117,6 +124,7 @@ status_of (answer.Work work) = found_status work.finding
 status_of (answer.No line) = status.No
 status_of (answer.Input line) = status.Input
 status_of (answer.Large line) = status.Large
+status_of answer.Call = status.Words
 
 -- the status of an answer to the order that agrees with this one
 pub record EndsAlike (order : Order) (files : Option Files) (s : Status) (a : Answer) : Type 0 where

@@ -17,6 +17,8 @@ use Rattle.voyage_files.specs.Inputs.{AreInputs}
 use Rattle.stow_words.specs.declared.order.Order.{Order}
 use Rattle.stow_words.specs.declared.order.Order.TheVariants as order
 use Rattle.stow_cli.specs.Answers.{IsAnswerTo, PlanWithin}
+use Rattle.work_lists.specs.Answers.{SharesOut}
+use Rattle.stow_cli.specs.Cranes.{AreAllTexts, AreInTime}
 use Rattle.stow_cli.specs.Made.{behind, made_files, made_names, only_made}
 use Rattle.stow_cli.specs.Voyages.{voyage_of}
 
@@ -60,12 +62,26 @@ pub record BothMade (number : ℕ) (base : List ℕ) (a b : Answer) : Type 0 whe
   pub second : b ≡ behind (made_files number base) other
   pub agree : MayBothAnswer a b
 
--- the answers are equal, or those of two searches for the plans of one voyage
+-- both are work lists of one call for so many cranes, of the same departure files; which moves are taken, and how they are shared out, is free
+pub record BothShared (names : Names) (call cranes : ℕ) (files : Option Files) (a b : Answer) : Type 0 where
+  pub voyage : BookedVoyage
+  pub accepted : AreInTime names call files voyage
+  pub texts : List (List ℕ)
+  pub all : AreAllTexts names.base files voyage texts
+  pub work : Work
+  pub other : Work
+  pub first : a ≡ answer.Work work
+  pub second : b ≡ answer.Work other
+  pub first_shares : SharesOut voyage call cranes texts work
+  pub second_shares : SharesOut voyage call cranes texts other
+
+-- the answers are equal, or those of two searches for the plans of one voyage, or two work lists of one call
 abbrev pub Agree : Order → Option Files → Answer → Answer → Type 0
 Agree (order.Plan profile bookings base arrival workers budget) files a b = (a ≡ b) ⊎ BothSearched (names_from profile bookings base arrival) budget files a b
 Agree (order.Check profile bookings base arrival) files a b = a ≡ b
 Agree (order.Show file) files a b = a ≡ b
 Agree (order.Make number base) files a b = (a ≡ b) ⊎ BothMade number base a b
+Agree (order.Cranes profile bookings base arrival call count) files a b = (a ≡ b) ⊎ BothShared (names_from profile bookings base arrival) call count files a b
 
 -- over files that are told, two answers to the same order agree
 abbrev pub AnswersAgree : Type 0

@@ -46,3 +46,4 @@ behind front (answer.Work work) = answer.Work (record work { files = front ++ wo
 behind front (answer.No line) = answer.No line
 behind front (answer.Input line) = answer.Input line
 behind front (answer.Large line) = answer.Large line
+behind front answer.Call = answer.Call

@@ -86,3 +86,4 @@ AreTextsOf base v p (answer.Work work) = IsShort p.head p.tree × (work ≡ work
 AreTextsOf base v p (answer.Large line) = IsOverlong p.head p.tree line
 AreTextsOf base v p (answer.No line) = ⊥
 AreTextsOf base v p (answer.Input line) = ⊥
+AreTextsOf base v p answer.Call = ⊥

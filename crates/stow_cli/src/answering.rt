@@ -7,13 +7,14 @@ ghost use Rattle.voyage_files.specs.Named.{names_of, IsStop, IsQuiet};
 ghost use Rattle.voyage_files.specs.Names.{names_from};
 
 use crate::checking::check;
+use crate::cranes::cranes;
 use crate::making::make;
 use crate::planning::plan;
 use crate::showing::show;
 use std::alloc::Global;
 use std::sync::Wait;
 use std::thread::Threads;
-use stow_data::{NoMemory, Word};
+use stow_data::{CallNo, NoMemory, Word};
 use stow_io::{Folder, Gate};
 use stow_words::Order;
 use voyage_files::{Answer, Inputs, ReadStop};
@@ -56,6 +57,17 @@ pub fn answer_to<'a, F: Folder, G: Gate + Sync, R: Threads + Wait + Sync>(
             Ok(answer) => Ok(answer),
             Err(NoMemory) => Err(ReadStop::NoMemory),
         },
+        Order::Cranes {
+            profile,
+            bookings,
+            name,
+            arrival,
+            call,
+            count,
+        } => {
+            let inputs = inputs_from(profile, bookings, name, arrival);
+            cranes(alloc, inputs, CallNo(*call), *count, folder)
+        }
     }
 }
 

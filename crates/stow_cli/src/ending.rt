@@ -43,7 +43,7 @@ pub fn say_no<K: Sink>(out: &mut K, line: &[u8]) -> Status
 }
 
 /// The line of words that are refused.
-fn line_of(no: WordsNo) -> &'static [u8]
+pub fn line_of(no: WordsNo) -> &'static [u8]
     ensures { result.now ≡ words_line no }
 {
     match no {
@@ -51,6 +51,8 @@ fn line_of(no: WordsNo) -> &'static [u8]
         WordsNo::Workers => b"refused words 2\n",
         WordsNo::Budget => b"refused words 3\n",
         WordsNo::Number => b"refused words 4\n",
+        WordsNo::Call => b"refused words 7\n",
+        WordsNo::Count => b"refused words 8\n",
         WordsNo::NoMemory => b"memory\n",
     }
 }

@@ -3,6 +3,7 @@
 
 mod answering;
 mod checking;
+mod cranes;
 mod departures;
 mod ending;
 mod law;

@@ -7,14 +7,14 @@ ghost use Rattle.stow_cli.specs.Obeyed.{Obeys};
 ghost use Rattle.stow_cli.specs.Taken.{HasClapFault, OrdersOwn};
 
 use crate::answering::answer_to;
-use crate::ending::{complete, refuse, say_no};
+use crate::ending::{complete, line_of, refuse, say_no};
 use crate::status::Status;
 use std::alloc::Global;
 use std::sync::Wait;
 use std::thread::Threads;
 use stow_data::WordList;
 use stow_io::{Folder, Gate, Sink, say, say_name};
-use stow_words::{Order, read_words};
+use stow_words::{Order, WordsNo, read_words};
 use voyage_files::{Answer, ReadStop};
 
 /// Does what the words ask for, over the folder's files, and prints into the sink.
@@ -82,6 +82,10 @@ fn follow<R: Threads + Wait + Sync, F: Folder, K: Sink, G: Gate + Sync>(
         Ok(Answer::Large(line)) => {
             say(out, line.as_slice());
             Status::Large
+        }
+        Ok(Answer::Call) => {
+            say(out, line_of(WordsNo::Call));
+            Status::Words
         }
         Err(ReadStop::Failed(name)) => {
             say_name(out, b"fault read ", name);

@@ -7,3 +7,4 @@ pub mod Arrivals
 pub mod Reports
 pub mod Departures
 pub mod Numbers
+pub mod CraneLists

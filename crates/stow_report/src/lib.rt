@@ -1,7 +1,8 @@
-//! The texts that are printed of what is refused, and of a bay plan.
+//! The texts that are printed of what is refused, of a bay plan and of a crane list.
 #![tactic(auto)]
 
 mod arrivals;
+mod crane_lists;
 mod departures;
 mod faults;
 mod inputs;
@@ -13,6 +14,7 @@ mod reports;
 mod verdicts;
 
 pub use arrivals::arrival_line;
+pub use crane_lists::{CraneMove, CraneReport, CraneRound, CraneRounds, crane_list};
 pub use departures::{departure_line, plan_line};
 pub use faults::{interchange_line, message_line};
 pub use inputs::{booking_line, limit_line, profile_line};

@@ -53,7 +53,7 @@ fn write_rehandles(out: &mut Bytes, rehandles: Option<u64>) -> Result<(), NoMemo
 }
 
 /// Appends a word and a number.
-fn write_number(out: &mut Bytes, word: &[u8], number: u64) -> Result<(), NoMemory>
+pub fn write_number(out: &mut Bytes, word: &[u8], number: u64) -> Result<(), NoMemory>
     ensures { OnOk result (out.new ≡ out.old ++ number_line word.now number) }
 {
     out.extend(word)?;

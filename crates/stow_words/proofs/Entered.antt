@@ -31,7 +31,7 @@ IsNamed s = is_some (verb_named s.name) ≡ true
 
 all_named : Each IsNamed (built stow_app).subs
 unfolding clap_on_literals
-all_named = (refl, (refl, (refl, (refl, tt))))
+all_named = (refl, (refl, (refl, (refl, (refl, tt)))))
 
 entered_named : (stop : Option (Text × List Text)) (name : Text) → option_map (λ p. p.0) (entered (built stow_app) stop) ≡ Some name → is_some (verb_named name) ≡ true
 entered_named None name h = absurd (none-some name h)

@@ -15,12 +15,14 @@ use Rattle.stow_words.proofs.PlanTaken.{plan_taken, plan_own}
 use Rattle.stow_words.proofs.CheckTaken.{check_taken, check_own}
 use Rattle.stow_words.proofs.ShowTaken.{show_taken, show_own}
 use Rattle.stow_words.proofs.MakeTaken.{make_taken, make_own}
+use Rattle.stow_words.proofs.CranesTaken.{cranes_taken, cranes_own}
 
 form_taken : (words : List Text) → IsPlainForm words → takes stow_app words ≡ true
 form_taken words (inl f) = plan_taken words f
 form_taken words (inr (inl f)) = check_taken words f
 form_taken words (inr (inr (inl f))) = show_taken words f
-form_taken words (inr (inr (inr f))) = make_taken words f
+form_taken words (inr (inr (inr (inl f)))) = make_taken words f
+form_taken words (inr (inr (inr (inr f)))) = cranes_taken words f
 
 pub not_refused : (words words' : List Text) (app : App) (e : Error) (n : WordsNo) → app ≡ stow_app → words ≡ words' → (takes app words ≡ true → kind_of e ≡ OutOfMemory) → (n ≡ NoMemory) ⊎ ((n ≡ NotTaken) × (kind_of e ≢ OutOfMemory)) → IsPlainForm words' → ◌≢◌ {A = Result Order WordsNo} (Err n) (Err NotTaken)
 not_refused words words' app e n same equal passes (inl m) form = λ h. cc
@@ -30,7 +32,8 @@ own : (words : List Text) (form : IsPlainForm words) → entered_order (subcomma
 own words (inl f) = plan_own words f
 own words (inr (inl f)) = check_own words f
 own words (inr (inr (inl f))) = show_own words f
-own words (inr (inr (inr f))) = make_own words f
+own words (inr (inr (inr (inl f)))) = make_own words f
+own words (inr (inr (inr (inr f)))) = cranes_own words f
 
 pub gives_own : (words : List Text) (form : IsPlainForm words) (r : Result Order WordsNo) → Gives r (ordered words) → r ≢ Err NotTaken → Gives r (own_order words form)
 gives_own words form r given other = ⊎_elim (λ (m : r ≡ Err NoMemory). inl m) (λ (e : r ≡ entered_order (subcommand_of stow_app words)). inr (e ∙ own words form)) (as_entered words r given other)

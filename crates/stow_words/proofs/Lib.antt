@@ -7,5 +7,6 @@ mod PlanTaken
 mod CheckTaken
 mod ShowTaken
 mod MakeTaken
+mod CranesTaken
 mod Forms
 mod Ranges

@@ -1,4 +1,4 @@
--- The numbers of a plan and of a made ship are in their ranges.
+-- The numbers of orders are in their ranges.
 use Rattle.std.proofs.Common.{◌≡◌, ◌≤◌, ℕ, Bool, true, false, ◌&&◌, nat_le, List, [], ◌∷◌, Option, Some, None, refl, sym, inl, inr, arith, subst}
 use Rattle.std.specs.Prelude.{codes, Result, IfOk, if◌then◌else◌}
 use borrow.Author.Tests.{leb-true}
@@ -10,7 +10,7 @@ use Rattle.stow_words.specs.declared.commands.Verb.TheVariants as verb
 use Rattle.stow_words.specs.Command.{stow_app}
 use Rattle.stow_data.specs.Digits.{value}
 use Rattle.stow_words.specs.Numbers.{is_number, number_in}
-use Rattle.stow_words.specs.Orders.{number_or, number_at, workers_in, budget_in, positional, planned, made, verb_named, order_of, entered_order, unless_faulty, ordered, Gives, IsInRange}
+use Rattle.stow_words.specs.Orders.{number_or, number_at, workers_in, budget_in, positional, planned, made, craned, verb_named, order_of, entered_order, unless_faulty, ordered, Gives, IsInRange}
 
 -- a number between two others, if there is one
 abbrev IsBetween : ℕ → ℕ → Option ℕ → Type 0
@@ -39,12 +39,18 @@ made_in_range : (base : Text) (o : Option ℕ) → IsBetween 0 2147483647 o → 
 made_in_range base None h = tt
 made_in_range base (Some n) h = h.1
 
+craned_in_range : (profile bookings base : Text) (arrival : Option Text) (call count : Option ℕ) → IsBetween 1 11 call → IsBetween 1 8 count → IfOk (craned profile bookings base arrival call count) IsInRange
+craned_in_range profile bookings base arrival None count c k = tt
+craned_in_range profile bookings base arrival (Some n) None c k = tt
+craned_in_range profile bookings base arrival (Some n) (Some m) c k = (c.0, c.1, k.0, k.1)
+
 order_in_range : (v : Option Verb) (rows : List Row) → IfOk (order_of v rows) IsInRange
 order_in_range None rows = tt
 order_in_range (Some verb.Plan) rows = planned_in_range _ _ _ _ (workers_in rows) (budget_in rows) (or_between 1 1 16 (first_of (codes "workers") rows) (omega arith) (omega arith)) (or_between 1000 1 100000 (first_of (codes "budget") rows) (omega arith) (omega arith))
 order_in_range (Some verb.Check) rows = tt
 order_in_range (Some verb.Show) rows = tt
-order_in_range (Some verb.Make) rows = made_in_range _ (number_at rows) (number_between 0 2147483647 (positional (codes "number") rows))
+order_in_range (Some verb.Make) rows = made_in_range _ (number_at (codes "number") 0 2147483647 rows) (number_between 0 2147483647 (positional (codes "number") rows))
+order_in_range (Some verb.Cranes) rows = craned_in_range _ _ _ _ (number_at (codes "call") 1 11 rows) (number_at (codes "count") 1 8 rows) (number_between 1 11 (positional (codes "call") rows)) (number_between 1 8 (positional (codes "count") rows))
 
 entered_in_range : (o : Option (Text × List Row)) → IfOk (entered_order o) IsInRange
 entered_in_range None = tt

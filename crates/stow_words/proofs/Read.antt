@@ -1,5 +1,5 @@
 -- What the answer of `clap` says of the order.
-use Rattle.std.proofs.Common.{◌≡◌, ◌≢◌, ◌⊎◌, ℕ, inl, inr, true, false, List, [], ◌∷◌, Option, Some, None, option_map, is_some, Result, Err, ap, ap₂, sym, ◌∙◌, subst, ⊎_elim, refl}
+use Rattle.std.proofs.Common.{◌≡◌, ◌≢◌, ◌⊎◌, ℕ, inl, inr, true, false, List, [], ◌∷◌, Option, Some, None, option_map, is_some, codes, Result, Err, ap, ap₂, sym, ◌∙◌, subst, ⊎_elim, refl}
 use Rattle.std.proofs.lemmas.Option.{same_Some, none-some}
 use Rattle.clap.specs.Words.{App, Text, Row, Kinds, fault_of, kind_of, subcommand_of, HasKind, IsAmong}
 use Rattle.clap.specs.declared.error.Error.{Error}
@@ -10,7 +10,7 @@ use Rattle.stow_words.specs.declared.order.Order.{Order}
 use Rattle.stow_words.specs.declared.order.WordsNo.{WordsNo}
 use Rattle.stow_words.specs.declared.order.WordsNo.TheVariants.{NotTaken, NoMemory}
 use Rattle.stow_words.specs.Command.{stow_app}
-use Rattle.stow_words.specs.Orders.{verb_named, order_of, entered_order, unless_faulty, ordered, Gives, planned, made, workers_in, budget_in, number_at}
+use Rattle.stow_words.specs.Orders.{verb_named, order_of, entered_order, unless_faulty, ordered, Gives, planned, made, craned, workers_in, budget_in, number_at}
 use Rattle.stow_words.proofs.Entered.{verbs}
 
 -- the name and the rows of a subcommand, from each of them
@@ -54,11 +54,17 @@ made_taken : (base : Text) (n : Option ℕ) → made base n ≢ Err NotTaken
 made_taken base None = λ e. cc
 made_taken base (Some n) = λ e. cc
 
+craned_taken : (profile bookings base : Text) (arrival : Option Text) (c k : Option ℕ) → craned profile bookings base arrival c k ≢ Err NotTaken
+craned_taken profile bookings base arrival None k = λ e. cc
+craned_taken profile bookings base arrival (Some c) None = λ e. cc
+craned_taken profile bookings base arrival (Some c) (Some k) = λ e. cc
+
 taken : (v : Verb) (rows : List Row) → order_of (Some v) rows ≢ Err NotTaken
 taken verb.Plan rows = planned_taken _ _ _ _ (workers_in rows) (budget_in rows)
 taken verb.Check rows = λ e. cc
 taken verb.Show rows = λ e. cc
-taken verb.Make rows = made_taken _ (number_at rows)
+taken verb.Make rows = made_taken _ (number_at (codes "number") 0 2147483647 rows)
+taken verb.Cranes rows = craned_taken _ _ _ _ (number_at (codes "call") 1 11 rows) (number_at (codes "count") 1 8 rows)
 
 pub never_not_taken : (v : Verb) (rows : List Row) (r : Result Order WordsNo) → Gives r (order_of (Some v) rows) → r ≢ Err NotTaken
 never_not_taken v rows r (inl m) = λ e. cc

@@ -47,7 +47,7 @@ pub record IsPlainPlan (words : List Text) : Type 0 where
   pub once : AreOnce options
   pub plain : ArePlain options
 
--- the option of `check`
+-- the option of `check` and of `cranes`
 abbrev pub arrival_words : Option Text → List Text
 arrival_words None = []
 arrival_words (Some file) = codes "--arrival" ∷ file ∷ []
@@ -82,5 +82,21 @@ pub record IsPlainMake (words : List Text) : Type 0 where
   pub number_plain : is_plain number ≡ true
   pub base_plain : is_plain base ≡ true
 
+pub record IsPlainCranes (words : List Text) : Type 0 where
+  pub name : Text
+  pub profile : Text
+  pub bookings : Text
+  pub base : Text
+  pub call : Text
+  pub count : Text
+  pub arrival : Option Text
+  pub words_are : words ≡ name ∷ codes "cranes" ∷ profile ∷ bookings ∷ base ∷ call ∷ count ∷ arrival_words arrival
+  pub profile_plain : is_plain profile ≡ true
+  pub bookings_plain : is_plain bookings ≡ true
+  pub base_plain : is_plain base ≡ true
+  pub call_plain : is_plain call ≡ true
+  pub count_plain : is_plain count ≡ true
+  pub plain : IsPlainOption arrival
+
 abbrev pub IsPlainForm : List Text → Type 0
-IsPlainForm words = IsPlainPlan words ⊎ (IsPlainCheck words ⊎ (IsPlainShow words ⊎ IsPlainMake words))
+IsPlainForm words = IsPlainPlan words ⊎ (IsPlainCheck words ⊎ (IsPlainShow words ⊎ (IsPlainMake words ⊎ IsPlainCranes words)))

@@ -1,8 +1,8 @@
-//! The command line as `clap` is told of it: four subcommands with their positionals and options.
+//! The command line as `clap` is told of it: five subcommands with their positionals and options.
 ghost use Rattle.std.specs.Prelude.{◌≡◌, IfOk, IsOkAnd, false};
 ghost use Rattle.clap.specs.Words.{AddsSubcommand, app_of, rule_of};
 ghost use Rattle.stow_words.specs.Orders.{verb_named};
-ghost use Rattle.stow_words.specs.Command.{needed, optional, plan_app, check_app, show_app, make_app, stow_app};
+ghost use Rattle.stow_words.specs.Command.{needed, optional, plan_app, check_app, show_app, make_app, cranes_app, stow_app};
 
 use clap::{Arg, Command};
 use std::alloc::{AllocError, Global};
@@ -59,6 +59,18 @@ fn make_command<'a>(alloc: Global) -> Result<Command<'a>, AllocError>
         .arg(needed_argument(alloc, "name"))
 }
 
+fn cranes_command<'a>(alloc: Global) -> Result<Command<'a>, AllocError>
+    ensures { IfOk result (λ c. app_of c ≡ cranes_app) }
+{
+    Command::new(alloc, "cranes")
+        .arg(needed_argument(alloc, "profile"))?
+        .arg(needed_argument(alloc, "bookings"))?
+        .arg(needed_argument(alloc, "name"))?
+        .arg(needed_argument(alloc, "call"))?
+        .arg(needed_argument(alloc, "count"))?
+        .arg(option_argument(alloc, "arrival"))
+}
+
 // A command with one subcommand more, where there was memory for that.
 fn with_subcommand<'a>(
     command: Command<'a>,
@@ -79,7 +91,8 @@ pub fn stow_command<'a>(alloc: Global) -> Result<Command<'a>, AllocError>
     let stow = with_subcommand(stow, plan_command(alloc))?;
     let stow = with_subcommand(stow, check_command(alloc))?;
     let stow = with_subcommand(stow, show_command(alloc))?;
-    with_subcommand(stow, make_command(alloc))
+    let stow = with_subcommand(stow, make_command(alloc))?;
+    with_subcommand(stow, cranes_command(alloc))
 }
 
 /// The subcommands.
@@ -89,6 +102,7 @@ pub enum Verb {
     Check,
     Show,
     Make,
+    Cranes,
 }
 
 /// The subcommand of a name.
@@ -100,6 +114,7 @@ pub fn verb_of(name: &str) -> Option<Verb>
         "check" => Some(Verb::Check),
         "show" => Some(Verb::Show),
         "make" => Some(Verb::Make),
+        "cranes" => Some(Verb::Cranes),
         _ => None,
     }
 }

@@ -30,6 +30,17 @@ pub enum Order {
         number: u32,
         name: Word,
     },
+    /// `stow cranes PROFILE BOOKINGS OUT CALL COUNT [--arrival FILE]`
+    Cranes {
+        profile: Word,
+        bookings: Word,
+        name: Word,
+        arrival: Option<Word>,
+        /// The call whose moves are shared out.
+        call: u32,
+        /// The number of cranes.
+        count: u32,
+    },
 }
 
 /// Why words are refused.
@@ -43,6 +54,10 @@ pub enum WordsNo {
     Budget,
     /// The number to make from isn't one to ten digits of a number up to 2,147,483,647.
     Number,
+    /// The call isn't one to ten digits of a number from 1 to 11.
+    Call,
+    /// The count of cranes isn't one to ten digits of a number from 1 to 8.
+    Count,
     NoMemory,
 }
 

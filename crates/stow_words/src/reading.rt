@@ -3,7 +3,7 @@ ghost use Rattle.std.specs.Prelude.{◌≡◌, ◌≢◌, ◌⊎◌, Some, IfOk,
 ghost use Rattle.clap.specs.Words.{kind_of, found_of, rows_of, first_of};
 ghost use Rattle.stow_words.specs.Own.{own_order};
 ghost use Rattle.stow_words.specs.Plain.{IsPlainForm};
-ghost use Rattle.stow_words.specs.Orders.{Gives, positional, workers_in, budget_in, number_at, number_or, plan_order, check_order, show_order, make_order, order_of, ordered, AreFaulty, IsInRange};
+ghost use Rattle.stow_words.specs.Orders.{Gives, positional, workers_in, budget_in, number_at, number_or, plan_order, check_order, show_order, make_order, cranes_order, order_of, ordered, AreFaulty, IsInRange};
 
 use crate::commands::{Verb, stow_command, verb_of};
 use crate::numbers::read_number;
@@ -91,7 +91,7 @@ fn show_order(alloc: Global, found: &ArgMatches<'_>) -> Result<Order, WordsNo>
 fn make_order(alloc: Global, found: &ArgMatches<'_>) -> Result<Order, WordsNo>
     ensures { Gives result (make_order (rows_of (found_of found.now))) }
 {
-    let Some(number) = number_at(found) else {
+    let Some(number) = number_at(found, "number", 0, 2_147_483_647) else {
         return Err(WordsNo::Number);
     };
     Ok(Order::Make {
@@ -100,13 +100,32 @@ fn make_order(alloc: Global, found: &ArgMatches<'_>) -> Result<Order, WordsNo>
     })
 }
 
-// The number to make from.
-fn number_at(found: &ArgMatches<'_>) -> Option<u64>
-    ensures { result ≡ number_at (rows_of (found_of found.now)) }
+fn cranes_order(alloc: Global, found: &ArgMatches<'_>) -> Result<Order, WordsNo>
+    ensures { Gives result (cranes_order (rows_of (found_of found.now))) }
 {
-    match text_of(found, "number") {
-        Some(text) => read_number(text, 0, 2_147_483_647),
-        None => read_number("", 0, 2_147_483_647),
+    let Some(call) = number_at(found, "call", 1, 11) else {
+        return Err(WordsNo::Call);
+    };
+    let Some(count) = number_at(found, "count", 1, 8) else {
+        return Err(WordsNo::Count);
+    };
+    Ok(Order::Cranes {
+        profile: positional(alloc, found, "profile")?,
+        bookings: positional(alloc, found, "bookings")?,
+        name: positional(alloc, found, "name")?,
+        arrival: option(alloc, found, "arrival")?,
+        call: call as u32,
+        count: count as u32,
+    })
+}
+
+// The number at a positional argument.
+fn number_at(found: &ArgMatches<'_>, id: &str, least: u64, most: u64) -> Option<u64>
+    ensures { result ≡ number_at id.now least most (rows_of (found_of found.now)) }
+{
+    match text_of(found, id) {
+        Some(text) => read_number(text, least, most),
+        None => read_number("", least, most),
     }
 }
 
@@ -119,6 +138,7 @@ fn order_of(alloc: Global, verb: Verb, found: &ArgMatches<'_>) -> Result<Order, 
         Verb::Check => check_order(alloc, found),
         Verb::Show => show_order(alloc, found),
         Verb::Make => make_order(alloc, found),
+        Verb::Cranes => cranes_order(alloc, found),
     }
 }
 

@@ -6,6 +6,7 @@ use Rattle.std.proofs.lemmas.Option.{same_Some}
 use Rattle.stow_data.specs.Ship.{Ship}
 use Rattle.stow_data.specs.Shipment.{Cargo, IsCargo}
 use Rattle.stow_data.specs.Profile.{IsShip}
+use Rattle.stow_data.specs.Plans as stowed
 use Rattle.proof_trees.proofs.Lesser.{proves_lesser}
 use Rattle.zero_one_rows.specs.Variables.{Voyage}
 use Rattle.zero_one_rows.specs.Rows.{whole}
@@ -18,7 +19,7 @@ use Rattle.certificate.specs.Entries.{same_row, entry_of}
 use Rattle.bound_checker.specs.Entries.{ProvesBound}
 use Rattle.bound_checker.proofs.Bounding.{proves_nowhere}
 use Rattle.model_bridge.specs.Laws.{IsProblem, most_lifts}
-use Rattle.plan_files.specs.Shown.{shown_by}
+use Rattle.plan_files.specs.Shown.{IsLegalFileSet, shown_by}
 use Rattle.plan_files.specs.declared.plan_faults.PlanNo.{PlanNo}
 use Rattle.plan_files.specs.Checked.{HasRehandles, IsPlanNo}
 use Rattle.plan_files.proofs.Files.{not_refused}
@@ -27,7 +28,7 @@ use Rattle.stow_report.specs.declared.numbers.NumbersNo.TheVariants.{Rehandles, 
 use Rattle.voyage_files.proofs.OneMessage.{message_not_fault, one_baplie_fault, one_message}
 use Rattle.voyage_files.specs.declared.refusals.JudgeNo.{JudgeNo}
 use Rattle.voyage_files.specs.declared.refusals.JudgeNo.TheVariants.{Text, Plan, Bound, Numbers, NoMemory}
-use Rattle.voyage_files.specs.Files.{AreIllegal, AreMessages, FilesTake, IsFirstFaulty}
+use Rattle.voyage_files.specs.Files.{AreIllegal, AreMessages, FilesTake, IsFirstFaulty, IsTakenNo}
 use Rattle.voyage_files.specs.Judged.{Fits, Holds, IsNo, IsNumbersNo, RefusesNumbers, RefusesTree, checked, handled}
 use Rattle.voyage_files.proofs.OneSet.{one_number, one_refusal}
 
@@ -89,6 +90,30 @@ module _ (ship : Ship) (cargo : Cargo) (rules : IsShip ship) (shipped : IsCargo 
   one_illegal a b h k =
       let same = one_messages texts h.messages k.messages h.read k.read in
       one_refusal ship cargo rules shipped k.messages a b h.named k.named (subst (λ (ms : List Message). IsPlanNo ship cargo ms a) same h.refused) k.refused
+
+  -- departure files have one refusal, and a legal file set has none
+  pub one_taken : (a b : JudgeNo) → a ≢ NoMemory → b ≢ NoMemory → IsTakenNo ship cargo texts a → IsTakenNo ship cargo texts b → a ≡ b
+  one_taken (Text i f) (Text j g) na nb h k = one_faulty 1 texts i j f g h k
+  one_taken (Text i f) (Plan q) na nb h k = absurd (none_faulty 1 texts k.messages i f k.read h)
+  one_taken (Text i f) (Bound q) na nb h k = absurd k
+  one_taken (Text i f) (Numbers q) na nb h k = absurd k
+  one_taken (Plan p) (Text j g) na nb h k = absurd (none_faulty 1 texts h.messages j g h.read k)
+  one_taken (Plan p) (Plan q) na nb h k = ap (λ (x : PlanNo). Plan x) (one_illegal p q h k)
+  one_taken (Plan p) (Bound q) na nb h k = absurd k
+  one_taken (Plan p) (Numbers q) na nb h k = absurd k
+  one_taken (Bound p) b na nb h k = absurd h
+  one_taken (Numbers p) b na nb h k = absurd h
+  one_taken NoMemory b na nb h k = absurd (na refl)
+  one_taken a NoMemory na nb h k = absurd (nb refl)
+
+  pub taken_not_legal : (messages : List Message) (departures : List stowed.Plan) (cause : JudgeNo) → AreMessages texts messages → IsLegalFileSet ship cargo (map shown_by messages) departures → cause ≢ NoMemory → IsTakenNo ship cargo texts cause → ⊥
+  taken_not_legal messages departures (Text at fault) read legal named k = none_faulty 1 texts messages at fault read k
+  taken_not_legal messages departures (Plan cause) read legal named k =
+      let same = one_messages texts k.messages messages k.read read in
+      k.named (not_refused ship cargo rules shipped messages departures cause legal (subst (λ (ms : List Message). IsPlanNo ship cargo ms cause) same k.refused))
+  taken_not_legal messages departures (Bound cause) read legal named k = k
+  taken_not_legal messages departures (Numbers cause) read legal named k = k
+  taken_not_legal messages departures NoMemory read legal named k = named refl
 
 -- ## Numbers
 

@@ -10,10 +10,11 @@ use Rattle.baplie.specs.Messages.{IsMessageOf}
 use Rattle.baplie.specs.declared.faults.BaplieFault.{BaplieFault}
 use Rattle.arrival_plan.specs.Settled.{AreRead}
 use Rattle.plan_files.specs.Shown.{shown_by}
-use Rattle.plan_files.specs.Checked.{HasRehandles}
+use Rattle.plan_files.specs.Checked.{IsSetOf}
+use Rattle.plan_files.specs.declared.checking.FileSet.{FileSet}
 use Rattle.voyage_files.specs.declared.refusals.JudgeNo.{JudgeNo}
 use Rattle.voyage_files.specs.declared.refusals.JudgeNo.TheVariants.{Text, Plan, Bound, Numbers, NoMemory}
-use Rattle.voyage_files.specs.Files.{AreLegal, AreMessages, HasTextFault, IsFirstFaulty, IsSetNo, IsTakenNo, IsTextNo, IsTextsNo}
+use Rattle.voyage_files.specs.Files.{AreLegal, AreMessages, AreSetOf, HasTextFault, IsFirstFaulty, IsSetNo, IsTakenNo, IsTextNo, IsTextsNo}
 
 pub messages_more : (texts : List (List ℕ)) (ms : List Message) (text : List ℕ) (m : Message) → AreMessages texts ms → IsMessageOf text m → AreMessages (texts ++ text ∷ []) (ms ++ m ∷ [])
 messages_more [] [] text m h k = (k, tt)
@@ -72,6 +73,10 @@ module _ (ship : Ship) (cargo : Cargo) (texts : List (List ℕ)) where
   set_refused ms NoMemory h k = tt
 
   -- what is said of the messages is said of the texts
-  pub taken : (r : Result ℕ JudgeNo) (ms : List Message) → AreMessages texts ms → MatchResult r (λ n. HasRehandles ship cargo (map shown_by ms) n) (λ cause. IsSetNo ship cargo ms cause) → MatchResult r (λ n. AreLegal ship cargo texts n) (λ cause. IsTakenNo ship cargo texts cause)
-  taken (Ok n) ms h k = record { messages = ms; read = h; set = k }
+  pub taken : (r : Result FileSet JudgeNo) (ms : List Message) → AreMessages texts ms → MatchResult r (λ set. IsSetOf ship cargo (map shown_by ms) set) (λ cause. IsSetNo ship cargo ms cause) → MatchResult r (λ set. AreSetOf ship cargo texts set) (λ cause. IsTakenNo ship cargo texts cause)
+  taken (Ok set) ms h k = record { messages = ms; read = h; is_set = k }
   taken (Err cause) ms h k = set_refused ms cause h k
+
+  -- a file set takes the rehandles of its lifts
+  pub legal_of : (set : FileSet) → AreSetOf ship cargo texts set → AreLegal ship cargo texts set.lifted.count
+  legal_of set h = record { messages = h.messages; read = h.read; set = record { departures = set.plans; legal = h.is_set.legal; counts = h.is_set.lifts.counts } }

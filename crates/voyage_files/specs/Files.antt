@@ -8,9 +8,10 @@ use Rattle.baplie.specs.declared.faults.BaplieFault.{BaplieFault}
 use Rattle.baplie.specs.declared.faults.BaplieFault.TheVariants as baplie
 use Rattle.baplie.specs.Reading.{IsBaplieFault}
 use Rattle.plan_files.specs.Shown.{shown_by}
+use Rattle.plan_files.specs.declared.checking.FileSet.{FileSet}
 use Rattle.plan_files.specs.declared.plan_faults.PlanNo.{PlanNo}
 use Rattle.plan_files.specs.declared.plan_faults.PlanNo.TheVariants as plan
-use Rattle.plan_files.specs.Checked.{HasRehandles, IsPlanNo}
+use Rattle.plan_files.specs.Checked.{HasRehandles, IsPlanNo, IsSetOf}
 use Rattle.voyage_files.specs.declared.refusals.JudgeNo.{JudgeNo}
 use Rattle.voyage_files.specs.declared.refusals.JudgeNo.TheVariants.{Text, Plan, NoMemory}
 
@@ -35,6 +36,12 @@ pub record AreLegal (ship : Ship) (cargo : Cargo) (texts : List (List ℕ)) (reh
   pub messages : List Message
   pub read : AreMessages texts messages
   pub set : HasRehandles ship cargo (map shown_by messages) rehandles
+
+-- the same file set, with its departures and what must be lifted on a voyage with them
+pub record AreSetOf (ship : Ship) (cargo : Cargo) (texts : List (List ℕ)) (set : FileSet) : Type 0 where
+  pub messages : List Message
+  pub read : AreMessages texts messages
+  pub is_set : IsSetOf ship cargo (map shown_by messages) set
 
 -- the texts are those of bay plan messages, which are no legal file set, for this
 pub record AreIllegal (ship : Ship) (cargo : Cargo) (texts : List (List ℕ)) (cause : PlanNo) : Type 0 where

@@ -1,5 +1,5 @@
 -- The inputs that the words name.
-use Rattle.std.specs.Prelude.{◌≡◌, ◌≢◌, ◌⊎◌, ℕ, List, Option, Some, None, IfSome, IsOk, Ok, Err}
+use Rattle.std.specs.Prelude.{◌≡◌, ◌≢◌, ◌⊎◌, ◌≤◌, ℕ, List, length, Option, Some, None, IfSome, IsOk, Ok, Err}
 use Rattle.stow_io.specs.Files.{Files, bytes_at}
 use Rattle.stow_data.specs.Ship.{Ship}
 use Rattle.ship_profile.specs.ShipText.{profile_of}
@@ -119,6 +119,32 @@ pub record RefusesArrival (names : Names) (files : Option Files) (a : Answer) : 
 abbrev pub TurnsDown : Names → Option Files → Answer → Type 0
 TurnsDown names files a = RefusesProfile names files a ⊎ (RefusesBookings names files a ⊎ RefusesArrival names files a)
 
+-- ## Inputs of an order that names a call
+
+-- the call that is named is above that of the last departure
+abbrev pub IsPast : Option ℕ → Bookings → Type 0
+IsPast None booked = ⊥
+IsPast (Some call) booked = length booked.rotation ≤ call
+
+-- profile and bookings are accepted, and the call is past their last departure
+pub record RefusesCall (names : Names) (call : Option ℕ) (files : Option Files) (a : Answer) : Type 0 where
+  pub ship : Ship
+  pub booked : Bookings
+  pub accepted : AreAccepted names files ship booked
+  pub past : IsPast call booked
+  pub answer_is : a ≡ answer.Call
+
+-- the call isn't past, and the bay plan is refused
+pub record RefusesArrivalAt (names : Names) (call : Option ℕ) (files : Option Files) (a : Answer) : Type 0 where
+  pub arrival : RefusesArrival names files a
+  pub in_time : IsPast call arrival.booked → ⊥
+
+-- one of the inputs is refused; the call behind the bookings, and before the bay plan
+abbrev pub TurnsDownAt : Names → Option ℕ → Option Files → Answer → Type 0
+TurnsDownAt names call files a = RefusesProfile names files a ⊎ (RefusesBookings names files a ⊎ (RefusesCall names call files a ⊎ RefusesArrivalAt names call files a))
+
+-- ## The files that are read
+
 -- the bookings are read where the profile is accepted
 abbrev pub IsBookingsRead : Names → Option Files → List ℕ → Type 0
 IsBookingsRead names files name = (name ≡ names.bookings) × ((profile : List ℕ) × IsContent files names.profile profile × IsOk (profile_of profile))
@@ -130,3 +156,14 @@ IsArrivalRead names files name = (names.arrival ≡ Some name) × ((ship : Ship)
 -- a file that is read
 abbrev pub IsReadBy : Names → Option Files → List ℕ → Type 0
 IsReadBy names files name = (name ≡ names.profile) ⊎ (IsBookingsRead names files name ⊎ IsArrivalRead names files name)
+
+-- where a call is named, the bay plan is read only where it isn't past
+pub record IsArrivalReadAt (names : Names) (call : Option ℕ) (files : Option Files) (name : List ℕ) : Type 0 where
+  pub is_named : names.arrival ≡ Some name
+  pub ship : Ship
+  pub booked : Bookings
+  pub accepted : AreAccepted names files ship booked
+  pub in_time : IsPast call booked → ⊥
+
+abbrev pub IsReadAt : Names → Option ℕ → Option Files → List ℕ → Type 0
+IsReadAt names call files name = (name ≡ names.profile) ⊎ (IsBookingsRead names files name ⊎ IsArrivalReadAt names call files name)

@@ -24,9 +24,10 @@ use Rattle.voyage_files.specs.declared.reading.Accepted.TheVariants.{Yes, No}
 use Rattle.voyage_files.specs.declared.reading.Found.{Found}
 use Rattle.voyage_files.specs.declared.reading.Found.TheVariants.{Voyage, Refused}
 use Rattle.voyage_files.specs.declared.answer.Answer.{Answer}
+use Rattle.voyage_files.specs.declared.answer.Answer.TheVariants as answer
 use Rattle.voyage_files.specs.Names.{Names}
 use Rattle.voyage_files.specs.Booked.{IsBooked, WasRead}
-use Rattle.voyage_files.specs.Inputs.{IsContent, AreInputs, IsNoBayPlan, IsUnsettled, TurnsDown, refused}
+use Rattle.voyage_files.specs.Inputs.{IsContent, AreInputs, IsNoBayPlan, IsPast, IsUnsettled, TurnsDown, TurnsDownAt, refused}
 
 -- the text is a profile of this ship, or is refused so
 abbrev pub IsShipOf : List ℕ → Accepted Ship → Type 0
@@ -91,6 +92,10 @@ abbrev pub IsVoyageOf : Ship → Bookings → Option Files → Option (List ℕ)
 IsVoyageOf ship booked files name (Voyage v) = IsShip ship × (v.ship ≡ ship) × (v.bookings ≡ booked) × IsComing ship booked files name (Yes (record { message = v.message; cargo = v.cargo }))
 IsVoyageOf ship booked files name (Refused a) = IsComing ship booked files name (No a)
 
+-- the same where a call is named, which may be past
+abbrev pub IsVoyageAt : Option ℕ → Ship → Bookings → Option Files → Option (List ℕ) → Found → Type 0
+IsVoyageAt call ship booked files name found = (IsPast call booked × (found ≡ Refused answer.Call)) ⊎ ((IsPast call booked → ⊥) × IsVoyageOf ship booked files name found)
+
 -- accepted inputs, as one voyage
 pub record AreTaken (names : Names) (files : Option Files) (v : BookedVoyage) : Type 0 where
   pub inputs_are : AreInputs names files v
@@ -99,3 +104,12 @@ pub record AreTaken (names : Names) (files : Option Files) (v : BookedVoyage) : 
 abbrev pub IsFound : Names → Option Files → Found → Type 0
 IsFound names files (Voyage v) = AreTaken names files v
 IsFound names files (Refused a) = TurnsDown names files a
+
+-- the same where a call is named, which isn't past
+pub record AreTakenAt (names : Names) (call : Option ℕ) (files : Option Files) (v : BookedVoyage) : Type 0 where
+  pub taken : AreTaken names files v
+  pub in_time : IsPast call v.bookings → ⊥
+
+abbrev pub IsFoundAt : Names → Option ℕ → Option Files → Found → Type 0
+IsFoundAt names call files (Voyage v) = AreTakenAt names call files v
+IsFoundAt names call files (Refused a) = TurnsDownAt names call files a

@@ -13,4 +13,6 @@ pub enum Answer {
     Input(Bytes),
     /// A limit is passed: the line that says so.
     Large(Bytes),
+    /// The call that the words name is above that of the last departure.
+    Call,
 }

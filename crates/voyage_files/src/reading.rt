@@ -1,10 +1,10 @@
 //! The reads of the inputs.
-ghost use Rattle.std.specs.Prelude.{◌≡◌, ◌≤◌, ◌^◌, Some, length, option_map, IfOk, IfErr};
+ghost use Rattle.std.specs.Prelude.{◌≡◌, ◌↔◌, ◌≤◌, ◌^◌, Some, length, option_map, IfOk, IfErr, IsTrue};
 ghost use Rattle.stow_io.specs.Causes.{Rose};
-ghost use Rattle.voyage_files.specs.Inputs.{IsContent, IsReadBy};
+ghost use Rattle.voyage_files.specs.Inputs.{IsContent, IsPast, IsReadAt, IsReadBy};
 ghost use Rattle.voyage_files.specs.Named.{names_of, IsStop, IsQuiet};
 ghost use Rattle.bookings.specs.Rules.{IsBookings};
-ghost use Rattle.voyage_files.specs.Reading.{IsFound, IsArrival, IsComing, IsUnder, IsVoyageOf, IsShipOf, AreBookingsOf};
+ghost use Rattle.voyage_files.specs.Reading.{IsFound, IsFoundAt, IsArrival, IsComing, IsUnder, IsVoyageAt, IsVoyageOf, IsShipOf, AreBookingsOf};
 
 use crate::answer::Answer;
 use crate::arriving::{arrived, comes_in_empty};
@@ -14,7 +14,7 @@ use crate::voyage::{BookedVoyage, ComesIn};
 use bookings::{BookingFault, Bookings, read_bookings};
 use ship_profile::{ProfileFault, read_profile};
 use std::alloc::Global;
-use stow_data::{Bytes, NoMemory, Ship, Word};
+use stow_data::{Bytes, CallNo, NoMemory, Ship, Word};
 use stow_io::{Folder, FolderNo};
 use stow_report::{booking_line, profile_line};
 
@@ -177,6 +177,77 @@ fn voyage_of<'a, F: Folder>(
     }
 }
 
+/// Whether the call that is named is above that of the last departure.
+fn is_past(bookings: &Bookings, call: Option<CallNo>) -> bool
+    ensures { IsTrue result ↔ IsPast call bookings.now }
+{
+    match call {
+        Some(call) => call.0 as usize >= bookings.rotation.len(),
+        None => false,
+    }
+}
+
+/// The same voyage where a call is named, which is refused where it is above that of the last departure.
+fn voyage_at<'a, F: Folder>(
+    alloc: Global,
+    call: Option<CallNo>,
+    arrival: Option<&'a str>,
+    ship: Ship,
+    bookings: Bookings,
+    folder: &mut F,
+) -> Result<Found, ReadStop<'a>>
+    requires { IsBookings bookings }
+    ensures stays { F.files folder.new ≡ F.files folder.old }
+    ensures gives { IfOk result (IsVoyageAt call ship bookings (F.files folder.old) (option_map (λ name. name.now) arrival.entry)) }
+    ensures later { F.faults folder.old ≤ F.faults folder.new }
+    ensures quiet { IsQuiet result (F.faults folder.old) (F.faults folder.new) }
+    ensures failed { IfErr result (IsStop (Rose (F.faults folder.old) (F.faults folder.new)) (λ n. (IsPast call bookings → ⊥) × (option_map (λ name. name.now) arrival.entry ≡ Some n))) }
+{
+    if is_past(&bookings, call) {
+        drop((ship, bookings));
+        return Ok(Found::Refused(Answer::Call));
+    }
+    voyage_of(alloc, arrival, ship, bookings, folder)
+}
+
+/// The inputs of an order that names a call: as `read_inputs`, but a call above that of the last departure is refused
+/// behind the bookings, before the bay plan is read.
+pub fn read_inputs_at<'a, F: Folder>(
+    alloc: Global,
+    inputs: Inputs<'a>,
+    call: Option<CallNo>,
+    folder: &mut F,
+) -> Result<Found, ReadStop<'a>>
+    ensures stays { F.files folder.new ≡ F.files folder.old }
+    ensures gives { IfOk result (IsFoundAt (names_of inputs.entry) call (F.files folder.old)) }
+    ensures later { F.faults folder.old ≤ F.faults folder.new }
+    ensures quiet { IsQuiet result (F.faults folder.old) (F.faults folder.new) }
+    ensures failed { IfErr result (IsStop (Rose (F.faults folder.old) (F.faults folder.new)) (IsReadAt (names_of inputs.entry) call (F.files folder.old))) }
+{
+    let ship = match ship_under(alloc, inputs.profile, folder)? {
+        Accepted::Yes(ship) => ship,
+        Accepted::No(answer) => return Ok(Found::Refused(answer)),
+    };
+    match bookings_under(alloc, inputs.bookings, folder) {
+        Ok(Accepted::Yes(bookings)) => voyage_at(
+            alloc,
+            call,
+            inputs.arrival,
+            ship,
+            bookings,
+            folder,
+        ),
+        Ok(Accepted::No(answer)) => {
+            drop(ship);
+            Ok(Found::Refused(answer))
+        }
+        Err(stop) => {
+            drop(ship);
+            Err(stop)
+        }
+    }
+}
+
 /// The ship, the bookings and, where one is named, the bay plan of the ship as it comes in, with the cargo that they
 /// make, or the answer where one of them is refused. The bookings are read only where the profile is accepted, and the
 /// bay plan only where both are.
@@ -191,21 +262,7 @@ pub fn read_inputs<'a, F: Folder>(
     ensures quiet { IsQuiet result (F.faults folder.old) (F.faults folder.new) }
     ensures failed { IfErr result (IsStop (Rose (F.faults folder.old) (F.faults folder.new)) (IsReadBy (names_of inputs.entry) (F.files folder.old))) }
 {
-    let ship = match ship_under(alloc, inputs.profile, folder)? {
-        Accepted::Yes(ship) => ship,
-        Accepted::No(answer) => return Ok(Found::Refused(answer)),
-    };
-    match bookings_under(alloc, inputs.bookings, folder) {
-        Ok(Accepted::Yes(bookings)) => voyage_of(alloc, inputs.arrival, ship, bookings, folder),
-        Ok(Accepted::No(answer)) => {
-            drop(ship);
-            Ok(Found::Refused(answer))
-        }
-        Err(stop) => {
-            drop(ship);
-            Err(stop)
-        }
-    }
+    read_inputs_at(alloc, inputs, None, folder)
 }
 
 /// What a text is read as, or the answer that refuses it.

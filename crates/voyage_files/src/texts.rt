@@ -3,12 +3,12 @@ ghost use Rattle.std.specs.Prelude.{◌≡◌, ◌≤◌, ◌<◌, ◌^◌, ◌+
 ghost use Rattle.stowage_rules.specs.Departure.{HasArrival};
 ghost use Rattle.baplie.specs.Messages.{IsMessageOf};
 ghost use Rattle.plan_files.specs.Shown.{shown_by};
-ghost use Rattle.plan_files.specs.Checked.{HasRehandles};
-ghost use Rattle.voyage_files.specs.Files.{AreLegal, AreMessages, FilesTake, IsFilesNo, IsSetNo, IsTakenNo, IsTextNo, IsTextsNo};
+ghost use Rattle.plan_files.specs.Checked.{IsSetOf};
+ghost use Rattle.voyage_files.specs.Files.{AreLegal, AreMessages, AreSetOf, FilesTake, IsFilesNo, IsSetNo, IsTakenNo, IsTextNo, IsTextsNo};
 
 use crate::refusals::JudgeNo;
 use baplie::{BaplieFault, Message, MessageList, read_baplie};
-use plan_files::{PlanNo, check_plan};
+use plan_files::{FileSet, PlanNo, file_set_of};
 use std::alloc::Global;
 use stow_data::{Bytes, CallNo, Cargo, Seq, Ship};
 
@@ -41,23 +41,41 @@ fn messages_of(alloc: Global, texts: &[Bytes]) -> Result<MessageList, JudgeNo>
     Ok(messages)
 }
 
-/// The rehandles of the departures that messages show, or why these are no legal file set.
-fn rehandles_of(
+/// The legal file set that messages are, or why they are none.
+fn set_of(
     alloc: Global,
     ship: &Ship,
     cargo: &Cargo,
     messages: &MessageList,
-) -> Result<u64, JudgeNo>
+) -> Result<FileSet, JudgeNo>
     requires arrival { HasArrival ship.now cargo.now }
     requires each_call { length messages.now + 1 ≡ length cargo.now.rotation }
     requires few { All (λ m. length m.groups ≤ 2 ^ 29) messages.now }
-    ensures { MatchResult result (λ count. HasRehandles ship.now cargo.now (map shown_by messages.now) count) (λ no. IsSetNo ship.now cargo.now messages.now no) }
+    ensures { MatchResult result (λ set. IsSetOf ship.now cargo.now (map shown_by messages.now) set) (λ no. IsSetNo ship.now cargo.now messages.now no) }
 {
-    match check_plan(alloc, ship, cargo, messages) {
-        Ok(count) => Ok(count),
+    match file_set_of(alloc, ship, cargo, messages) {
+        Ok(set) => Ok(set),
         Err(PlanNo::NoMemory) => Err(JudgeNo::NoMemory),
         Err(no) => Err(JudgeNo::Plan(no)),
     }
+}
+
+/// The legal file set that the texts of departure files are, of which the first is that of call 1. Else the first text
+/// that is no bay plan message, or why the messages are no legal file set.
+pub fn departures_in(
+    alloc: Global,
+    ship: &Ship,
+    cargo: &Cargo,
+    texts: &[Bytes],
+) -> Result<FileSet, JudgeNo>
+    requires arrival { HasArrival ship.now cargo.now }
+    requires each_call { length texts.now + 1 ≡ length cargo.now.rotation }
+    requires short { All (λ text. length text ≤ 2 ^ 29) texts.now }
+    ensures { MatchResult result (λ set. AreSetOf ship.now cargo.now texts.now set) (λ no. IsTakenNo ship.now cargo.now texts.now no) }
+{
+    cargo.obeys_rules();
+    let messages = messages_of(alloc, texts)?;
+    set_of(alloc, ship, cargo, &messages)
 }
 
 /// The rehandles that the departure files take, or why they are no legal file set.
@@ -72,9 +90,10 @@ fn rehandles_taken(
     requires short { All (λ text. length text ≤ 2 ^ 29) texts.now }
     ensures { MatchResult result (λ count. AreLegal ship.now cargo.now texts.now count) (λ no. IsTakenNo ship.now cargo.now texts.now no) }
 {
-    cargo.obeys_rules();
-    let messages = messages_of(alloc, texts)?;
-    rehandles_of(alloc, ship, cargo, &messages)
+    match departures_in(alloc, ship, cargo, texts) {
+        Ok(set) => Ok(set.lifted.count),
+        Err(no) => Err(no),
+    }
 }
 
 /// The same where a certificate says a number of rehandles; else the files aren't looked at.

@@ -273,7 +273,7 @@ fn say_answer(answer: &Answer, out: &mut Bytes) -> Result<(), Stop> {
         Answer::No(line) | Answer::Input(line) | Answer::Large(line) => {
             Ok(out.extend(line.as_slice())?)
         }
-        Answer::Work(_) => Err(Stop::Unclear),
+        Answer::Work(_) | Answer::Call => Err(Stop::Unclear),
     }
 }
 

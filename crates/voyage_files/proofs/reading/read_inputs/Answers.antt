@@ -1,7 +1,8 @@
-use Rattle.voyage_files.specs.Named.{names_of}
-use Rattle.voyage_files.proofs.Finding.{inputs_found}
+use Rattle.voyage_files.proofs.Finding.{found_without, stops_without}
 use Rattle.voyage_files.proofs.reading.read_inputs.Goals as goal
 
-pub returns-in-Ok-Yes-clause-gives : goal.returns-in-Ok-Yes-clause-gives
-returns-in-Ok-Yes-clause-gives g c = inputs_found c.voyage_of.result (names_of c.args.inputs) _ _ _ _ _ _ _
-    c.in_ok-ship.ensures.gives c.in-Yes.is c.in_ok-ship.ensures.stays c.in-Ok-Yes.ensures.gives c.in-Ok-Yes.field-0-is c.bookings_under.ensures.stays c.voyage_of.ensures.gives
+pub returns-clause-gives : goal.returns-clause-gives
+returns-clause-gives g c = found_without c.read_inputs_at.result _ _ c.read_inputs_at.ensures.gives
+
+pub returns-clause-failed : goal.returns-clause-failed
+returns-clause-failed g c = stops_without c.read_inputs_at.result _ _ _ c.read_inputs_at.ensures.failed

@@ -1,0 +1,5 @@
+mod Numbered
+mod Led
+mod Pairs
+mod Works
+pub mod Alike
