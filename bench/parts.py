@@ -10,7 +10,7 @@ INSTANCES is a folder with `instances.py`, as for bench/search.py. The program i
 reading nor building tables is in it. Parts: `plain` and `kept` tighten the free box by rows that are looked up or kept; `dive` fixes what a
 planned voyage has at 1, one variable after the other, and tightens the box after each; `gauge` is the same with the dual value kept for each
 box, and `prices` raises multipliers at each node besides, at most 64; `root` raises from none in the tightened free box; `nodes` goes down
-by the value 1 from the root on one desk; `again` begins the last node of such a way and the root in turn.
+by the value 1 from the root with one state; `again` begins the last node of such a way and the root in turn.
 
 JUDGE is a command (one word, split at spaces) that is run with `variables` or `rows`, a profile and bookings, and prints of a program of its
 own making what `program_probe` prints; or with `value` or `along`, the same files and records in the form of a certificate, and prints what
@@ -34,7 +34,7 @@ PROGRAM = f"{ROOT}/crates/search_parts/out/search_parts"
 BEGIN, END = "<!-- parts table: begin -->", "<!-- parts table: end -->"
 HEAD = [
     "group", "ships", "tighten, ms", "by kept rows, ms", "dives, nodes a second", "gauge, steps a second", "raised dives, nodes a second",
-    "raises of a dive", "raises and steps a second", "root, ms", "sum of root values", "desk, nodes a second", "node begun again, ms", "records above it",
+    "raises of a dive", "raises and steps a second", "root, ms", "sum of root values", "one state, nodes a second", "node begun again, ms", "records above it",
 ]
 
 

@@ -7,7 +7,7 @@ use Rattle.proof_trees.specs.Boxes.{Box, at}
 use Rattle.zero_one_rows.specs.Rows.{whole}
 use Rattle.proof_trees.specs.Multipliers.{least, weighed}
 use Rattle.dual_bound.specs.declared.costs.Costs.{Costs}
-use Rattle.chain_gains.specs.Gaps.{number_at}
+use Rattle.crossing_pricing.specs.Gaps.{number_at}
 use Rattle.dual_bound.specs.Costs.{Priced, parts}
 use Rattle.dual_bound.proofs.Summing.{sum_same, same_or_other}
 use Rattle.bound_checker.specs.declared.blank.Blank.{Blank}

@@ -3,8 +3,8 @@ use Rattle.std.proofs.Common.{◌≡◌, ◌≢◌, ℕ, zero, suc, ◌+◌, ◌
 use Rattle.std.proofs.lemmas.Bool.Decides.{eqb_tells}
 use Rattle.std.proofs.lemmas.List.{get_or-set_same, get_or-set_other, take_more, drop_more, ext_get_or}
 use Rattle.proof_trees.specs.Boxes.{Box, at}
-use Rattle.kept_box.specs.Fixing.{freed}
-use Rattle.kept_box.proofs.Freeing.{freed_append}
+use Rattle.partial_plan.specs.Fixing.{freed}
+use Rattle.partial_plan.proofs.Freeing.{freed_append}
 
 abbrev Among : List ℕ → ℕ → Type 0
 Among [] v = ⊥

@@ -7,7 +7,7 @@ use Rattle.std.proofs.lemmas.List.Elements.{All-append, All-cons, All-nil}
 use Rattle.proof_trees.specs.Boxes.{Box}
 use Rattle.proof_trees.specs.Multipliers.{Multipliers, amount_of}
 use Rattle.proof_trees.specs.Trees.{Pending}
-use Rattle.kept_box.specs.Fixing.{released}
+use Rattle.partial_plan.specs.Fixing.{released}
 use Rattle.zero_one_rows.specs.declared.program.Row.{Row}
 use Rattle.zero_one_rows.specs.Variables.{Voyage}
 use Rattle.certificate.specs.Entries.{same_row}

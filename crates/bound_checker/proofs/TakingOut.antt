@@ -17,7 +17,7 @@ use Rattle.certificate.specs.Entries.{same_row}
 use Rattle.certificate.proofs.RowsAlike.{same_equal, same_itself}
 use Rattle.certificate.proofs.RowsTold.{same_turned}
 use Rattle.dual_bound.specs.declared.costs.Costs.{Costs}
-use Rattle.chain_gains.specs.Gaps.{number_at}
+use Rattle.crossing_pricing.specs.Gaps.{number_at}
 use Rattle.dual_bound.specs.Costs.{Priced, parts}
 use Rattle.dual_bound.proofs.Summing.{sum_same}
 use Rattle.dual_bound.proofs.Pricing.{box_priced}

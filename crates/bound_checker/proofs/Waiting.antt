@@ -7,8 +7,8 @@ use Rattle.std.proofs.lemmas.List.Elements.{All-append, All-cons, All-nil}
 use Rattle.proof_trees.specs.Boxes.{Box, at, fixed}
 use Rattle.proof_trees.specs.Multipliers.{Multipliers, amount_of, with_amount}
 use Rattle.proof_trees.specs.Trees.{Pending}
-use Rattle.kept_box.specs.Fixing.{freed, released}
-use Rattle.kept_box.proofs.Freeing.{freed_more, freed_length, fixes_one}
+use Rattle.partial_plan.specs.Fixing.{freed, released}
+use Rattle.partial_plan.proofs.Freeing.{freed_more, freed_length, fixes_one}
 use Rattle.zero_one_rows.specs.declared.program.Row.{Row}
 use Rattle.zero_one_rows.specs.Variables.{Voyage}
 use Rattle.zero_one_rows.specs.Rows.{whole}

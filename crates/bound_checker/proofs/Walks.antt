@@ -16,8 +16,8 @@ use Rattle.certificate.specs.declared.tree.End.{End as Told}
 use Rattle.certificate.specs.declared.tree.End.TheVariants as told
 use Rattle.certificate.specs.declared.refusals.BoundNo.{BoundNo}
 use Rattle.certificate.specs.declared.refusals.BoundNo.TheVariants.{BranchFixed, TreeEnds, TreeTooLong, NoMemory}
-use Rattle.kept_box.specs.Fixing.{released, Fixes}
-use Rattle.kept_box.proofs.Freeing.{freed_length, fixes_one}
+use Rattle.partial_plan.specs.Fixing.{released, Fixes}
+use Rattle.partial_plan.proofs.Freeing.{freed_length, fixes_one}
 use Rattle.bound_checker.specs.declared.prices.Change.{Change}
 use Rattle.bound_checker.specs.declared.walk.Frame.{Frame}
 use Rattle.bound_checker.specs.declared.walk.Bounds.{Bounds}

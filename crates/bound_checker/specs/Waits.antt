@@ -4,7 +4,7 @@ use Rattle.std.specs.Option.{option_map}
 use Rattle.proof_trees.specs.Boxes.{Box, at, fixed}
 use Rattle.proof_trees.specs.Multipliers.{Multipliers, amount_of}
 use Rattle.proof_trees.specs.Trees.{Pending}
-use Rattle.kept_box.specs.Fixing.{released}
+use Rattle.partial_plan.specs.Fixing.{released}
 use Rattle.zero_one_rows.specs.declared.program.Row.{Row}
 use Rattle.zero_one_rows.specs.Variables.{Voyage}
 use Rattle.zero_one_rows.specs.Rows.{whole}

@@ -9,7 +9,7 @@ use Rattle.proof_trees.specs.Trees.{End, Leaf, Left, Branch, Entry, Pending, beg
 use Rattle.certificate.specs.declared.refusals.BoundNo.{BoundNo}
 use Rattle.certificate.specs.declared.refusals.BoundNo.TheVariants.{NoMemory}
 use Rattle.bound_checker.specs.declared.walk.Bounds.{Bounds}
-use Rattle.kept_box.specs.Fixing.{Fixes}
+use Rattle.partial_plan.specs.Fixing.{Fixes}
 use Rattle.bound_checker.specs.declared.walk.Frame.{Frame}
 use Rattle.bound_checker.specs.declared.walk.Walk.{Walk}
 use Rattle.bound_checker.specs.Faults.{step_fault, raised_rows, end_fault, tree_fault}

@@ -3,13 +3,13 @@ ghost use Rattle.std.specs.Prelude.{◌≡◌, ℕ, ◌+◌, ◌<◌, ◌≤◌,
 ghost use Rattle.proof_trees.specs.Boxes.{at, greatest, most, tight};
 ghost use Rattle.zero_one_rows.specs.Variables.{variables};
 ghost use Rattle.zero_one_rows.specs.Rows.{whole};
-ghost use Rattle.base_matrix.specs.Terms.{AreTerms};
+ghost use Rattle.row_matrix.specs.Terms.{AreTerms};
 ghost use Rattle.dual_bound.specs.Costs.{IsListed};
-ghost use Rattle.kept_box.specs.Fixing.{Fixes};
-ghost use Rattle.kept_box.specs.Forced.{stepped};
+ghost use Rattle.partial_plan.specs.Fixing.{Fixes};
+ghost use Rattle.partial_plan.specs.Forced.{stepped};
 
 use dual_bound::{Listed, Term};
-use kept_box::UndoList;
+use partial_plan::UndoList;
 use stow_data::NoMemory;
 use zero_one_model::{Box01, Model};
 use zero_one_rows::Row;
@@ -65,7 +65,7 @@ fn slack_of(model: &Model, b: &Box01, listed: Listed) -> i128
     most_of(model, b, listed.row, listed.terms) - listed.right as i128
 }
 
-#[tactic(auto, using(std::proofs::lemmas::Option::get_or_from_slice_get, kept_box::proofs::Walking::not_stepped, kept_box::proofs::Freeing::noted_none))]
+#[tactic(auto, using(std::proofs::lemmas::Option::get_or_from_slice_get, partial_plan::proofs::Walking::not_stepped, partial_plan::proofs::Freeing::noted_none))]
 // Fixes a term's variable where its row with this slack forces it, and notes it.
 fn note_one(b: &mut Box01, undo: &mut UndoList, slack: i128, term: Term) -> Result<(), NoMemory>
     requires { term.at < length b.old }
@@ -103,7 +103,7 @@ fn note_all(
     Ok(())
 }
 
-#[tactic(auto, using(kept_box::proofs::Landing::tight_violated, kept_box::proofs::Freeing::noted_none))]
+#[tactic(auto, using(partial_plan::proofs::Landing::tight_violated, partial_plan::proofs::Freeing::noted_none))]
 /// Fixes all variables that a row forces, at once, and notes what was fixed; a violated row fixes nothing. It takes the time of the row's terms.
 pub fn tighten_listed(
     model: &Model,

@@ -2,7 +2,7 @@
 ghost use Rattle.std.specs.Prelude.{◌≡◌, ℕ, ◌<◌, All, length, slice_set};
 ghost use Rattle.proof_trees.specs.Multipliers.{Multipliers};
 ghost use Rattle.zero_one_rows.specs.declared.program.Row.{Row as Rows};
-ghost use Rattle.kept_box.specs.Fixing.{freed};
+ghost use Rattle.partial_plan.specs.Fixing.{freed};
 ghost use Rattle.bound_checker.specs.Sums.{Carries, CarriesSome};
 
 use crate::sums::Sums;

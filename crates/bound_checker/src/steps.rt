@@ -3,13 +3,13 @@ ghost use Rattle.std.specs.Prelude.{◌≡◌, ◌≢◌, ℕ, ◌++◌, true, f
 ghost use Rattle.proof_trees.specs.Boxes.{tight, tightened};
 ghost use Rattle.zero_one_rows.specs.Variables.{variables};
 ghost use Rattle.zero_one_rows.specs.Rows.{whole};
-ghost use Rattle.kept_box.specs.Fixing.{Fixes};
+ghost use Rattle.partial_plan.specs.Fixing.{Fixes};
 ghost use Rattle.bound_checker.specs.Faults.{step_fault};
 
 use crate::forcing::tighten_listed;
 use crate::named_rows::NamedRows;
 use certificate::{BoundNo, KeptRow};
-use kept_box::{UndoList, tighten_by};
+use partial_plan::{UndoList, tighten_by};
 use std::alloc::Global;
 use zero_one_model::{Box01, Model};
 use zero_one_rows::Row;

@@ -6,7 +6,7 @@ ghost use Rattle.zero_one_rows.specs.Variables.{variables};
 use crate::asked::asked_of;
 use crate::words::{write_box, write_count, write_end};
 use certificate::{KeptRow, Tree};
-use kept_box::{BaseMatrix, KeptBox, Tightened, UndoList, tighten, tighten_by, violates};
+use partial_plan::{BaseMatrix, KeptBox, Tightened, UndoList, tighten, tighten_by, violates};
 use std::alloc::Global;
 use stow_data::{Bytes, NoMemory, VarNo};
 use zero_one_model::{Box01, Model};

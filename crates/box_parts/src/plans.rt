@@ -4,10 +4,10 @@ ghost use Rattle.zero_one_rows.specs.Variables.{variables};
 
 use crate::boxes::fix_free;
 use crate::words::{write_count, write_number};
-use kept_box::KeptBox;
+use heuristic::{HeuristicLimits, Planner};
+use partial_plan::KeptBox;
 use std::alloc::Global;
 use stow_data::{Bytes, NoMemory, VarNo};
-use voyage_guess::{Planner, Wanted};
 use zero_one_model::{Box01, Model};
 use zero_one_rows::RowList;
 
@@ -20,13 +20,13 @@ pub fn planned(alloc: Global, model: &Model) -> Result<Option<Box01>, NoMemory>
 {
     let free = Box01::free(alloc, model)?;
     let mut planner = Planner::new(alloc, model)?;
-    let wanted = Wanted {
+    let limits = HeuristicLimits {
         cut: u64::MAX,
         enough: 0,
         runs: RUNS,
         looks: u64::MAX,
     };
-    planner.choose(model, &free, wanted)?;
+    planner.choose(model, &free, limits)?;
     planner.full_box(alloc, model)
 }
 
@@ -52,13 +52,13 @@ pub fn write_voyage(
 ) -> Result<(), NoMemory> {
     let free = Box01::free(alloc, model)?;
     let mut planner = Planner::new(alloc, model)?;
-    let wanted = Wanted {
+    let limits = HeuristicLimits {
         cut: u64::MAX,
         enough: 0,
         runs: u32::try_from(runs).unwrap_or(u32::MAX),
         looks: u64::MAX,
     };
-    planner.choose(model, &free, wanted)?;
+    planner.choose(model, &free, limits)?;
     let Some(voyage) = planner.full_box(alloc, model)? else {
         return out.extend(b"no voyage\n");
     };

@@ -3,7 +3,7 @@ ghost use Rattle.std.specs.Prelude.{◌≡◌, length};
 ghost use Rattle.zero_one_rows.specs.Variables.{variables};
 
 use itoa::{Buffer, Integer};
-use kept_box::Tightened;
+use partial_plan::Tightened;
 use stow_data::{Bytes, NoMemory, VarNo};
 use zero_one_model::{Box01, Model};
 

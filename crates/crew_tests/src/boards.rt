@@ -2,7 +2,7 @@
 ghost use Rattle.std.specs.Prelude.{◌≡◌, ◌+◌, ◌<◌};
 ghost use Rattle.std.specs.Thread.{IsSync};
 
-use node_racks::{Board, Owner, Seat, Totals};
+use shared_search::{Board, Owner, Seat, Totals};
 use std::alloc::Global;
 use std::test::Fail;
 use std::thread;

@@ -1,7 +1,7 @@
 //! Workers to whom memory is wanting.
 use certificate::Node;
-use node_ends::{Desk, Solver, Worked};
-use search_crew::search;
+use node_solver::{Desk, Solver, Worked};
+use parallel_search::search;
 use std::alloc::Global;
 use std::test::Fail;
 use stow_data::NoMemory;

@@ -15,10 +15,10 @@ use Rattle.zero_one_rows.specs.declared.program.Row.TheVariants.{Cross}
 use Rattle.zero_one_rows.specs.Variables.{Voyage, calls, kind, variables, var, is_rehandled}
 use Rattle.zero_one_rows.specs.Crossing.{columns, tallest, length_of, load_of, crosses, crossing_side}
 use Rattle.zero_one_rows.specs.Rows.{bit}
-use Rattle.chain_gains.specs.Gaps.{number_at, gap}
+use Rattle.crossing_pricing.specs.Gaps.{number_at, gap}
 use Rattle.dual_bound.specs.Costs.{gaps_of}
-use Rattle.chain_gains.specs.Pairs.{price_of_all}
-use Rattle.chain_gains.specs.Climbs.{over_pairs, Climb}
+use Rattle.crossing_pricing.specs.Pairs.{price_of_all}
+use Rattle.crossing_pricing.specs.Climbs.{over_pairs, Climb}
 use Rattle.dual_bound.specs.CrossGains.{gain_of, pair_gain}
 use Rattle.dual_bound.proofs.Summing.{sum_same, sum_more}
 use Rattle.dual_bound.proofs.Pricing.{gap_none}

@@ -6,7 +6,7 @@ use Rattle.zero_one_rows.specs.declared.program.Row.{Row}
 use Rattle.zero_one_rows.specs.declared.program.Row.TheVariants.{Cell}
 use Rattle.zero_one_rows.specs.Variables.{Voyage}
 use Rattle.zero_one_rows.specs.Counted.{all_rows, base_rows}
-use Rattle.base_matrix.specs.Terms.{count, row_at}
+use Rattle.row_matrix.specs.Terms.{count, row_at}
 use Rattle.dual_bound.proofs.BaseFlat.{base_place}
 use Rattle.dual_bound.proofs.Flat.{same_place}
 

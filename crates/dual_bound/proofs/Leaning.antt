@@ -9,9 +9,9 @@ use Rattle.zero_one_rows.specs.Counted.{row_lists, base_rows, all_rows, base_in,
 use Rattle.proof_trees.specs.Program.{sum_to}
 use Rattle.proof_trees.specs.Boxes.{Box, at, greatest, most, violated}
 use Rattle.proof_trees.specs.Multipliers.{Multipliers}
-use Rattle.base_matrix.specs.Leaning.{cheaper, Leans}
+use Rattle.row_matrix.specs.Leaning.{cheaper, Leans}
 use Rattle.dual_bound.specs.declared.costs.Costs.{Costs}
-use Rattle.chain_gains.specs.Gaps.{number_at, gap}
+use Rattle.crossing_pricing.specs.Gaps.{number_at, gap}
 use Rattle.dual_bound.specs.Costs.{Priced, gaps_of}
 use Rattle.dual_bound.specs.Rising.{IsFlat}
 use Rattle.dual_bound.proofs.Pricing.{gain_is}
@@ -48,14 +48,14 @@ module _ (m : Voyage) where
   unfolding rows_in
   base_there k r lt e = front_back (base_in (row_lists m)) (cross_rows (row_lists m)) k r lt e
 
-  pub met_flat : (b : Box) (ms : Multipliers Row) (c : Costs) (face : Box) (r : Row) → length b ≡ length (variables m) → Priced m b ms c → Leans b c.reduced.items face → violated (whole m) face r ≡ false → IsFlat m b ms r
-  met_flat b ms c face r len priced leans met =
+  pub met_flat : (b : Box) (ms : Multipliers Row) (c : Costs) (minimizer : Box) (r : Row) → length b ≡ length (variables m) → Priced m b ms c → Leans b c.reduced.items minimizer → violated (whole m) minimizer r ≡ false → IsFlat m b ms r
+  met_flat b ms c minimizer r len priced leans met =
       let gain : ℤ = pos 1 *ℤ (whole m).rhs r +ℤ gaps_of m b c.reduced.items r (pos 1) in
-      let each : (v : ℕ) → v < length (variables m) → (gap (at b v) (number_at c.reduced.items v) (pos 1 *ℤ (whole m).coef r v) +ℤ greatest (at face v) ((whole m).coef r v)) ≤ℤ pos 0 = λ v lt.
-      let e : at face v ≡ cheaper (at b v) (number_at c.reduced.items v) = leans.each v (omega (arith, len, lt)) in
+      let each : (v : ℕ) → v < length (variables m) → (gap (at b v) (number_at c.reduced.items v) (pos 1 *ℤ (whole m).coef r v) +ℤ greatest (at minimizer v) ((whole m).coef r v)) ≤ℤ pos 0 = λ v lt.
+      let e : at minimizer v ≡ cheaper (at b v) (number_at c.reduced.items v) = leans.each v (omega (arith, len, lt)) in
       let g : gap (at b v) (number_at c.reduced.items v) (pos 1 *ℤ (whole m).coef r v) ≡ gap (at b v) (number_at c.reduced.items v) ((whole m).coef r v) = ap (λ (z : ℤ). gap (at b v) (number_at c.reduced.items v) z) (once ((whole m).coef r v)) in
-      let h : greatest (at face v) ((whole m).coef r v) ≡ greatest (cheaper (at b v) (number_at c.reduced.items v)) ((whole m).coef r v) = ap (λ (o : Option Bool). greatest o ((whole m).coef r v)) e in
+      let h : greatest (at minimizer v) ((whole m).coef r v) ≡ greatest (cheaper (at b v) (number_at c.reduced.items v)) ((whole m).coef r v) = ap (λ (o : Option Bool). greatest o ((whole m).coef r v)) e in
       omega (arith, ints, g, h, gap_low (at b v) (number_at c.reduced.items v) ((whole m).coef r v)) in
-      let low : (gaps_of m b c.reduced.items r (pos 1) +ℤ most (whole m) face r) ≤ℤ pos 0 = sum_low (length (variables m)) (λ v. gap (at b v) (number_at c.reduced.items v) (pos 1 *ℤ (whole m).coef r v)) (λ v. greatest (at face v) ((whole m).coef r v)) each in
-      let side : (whole m).rhs r ≤ℤ most (whole m) face r = met_low (most (whole m) face r) ((whole m).rhs r) met in
+      let low : (gaps_of m b c.reduced.items r (pos 1) +ℤ most (whole m) minimizer r) ≤ℤ pos 0 = sum_low (length (variables m)) (λ v. gap (at b v) (number_at c.reduced.items v) (pos 1 *ℤ (whole m).coef r v)) (λ v. greatest (at minimizer v) ((whole m).coef r v)) each in
+      let side : (whole m).rhs r ≤ℤ most (whole m) minimizer r = met_low (most (whole m) minimizer r) ((whole m).rhs r) met in
       flat_by_gain m b ms r gain (gain_is m b ms r 1 c gain priced refl) (λ up. omega (arith, ints, up, low, side, once ((whole m).rhs r)))

@@ -12,12 +12,12 @@ use Rattle.zero_one_rows.specs.declared.program.Row.TheVariants.{Flow, Start, Ce
 use Rattle.zero_one_rows.specs.Variables.{Voyage, calls, variables, var}
 use Rattle.zero_one_rows.specs.Crossing.{columns, tallest, length_of, is_length, is_crossing, crosses, crossing_side}
 use Rattle.zero_one_rows.specs.Rows.{whole, is_base, bit}
-use Rattle.chain_gains.specs.declared.pairs.PairSides.{PairSides}
-use Rattle.chain_gains.specs.declared.pairs.PairTable.{PairTable}
-use Rattle.chain_gains.specs.Gaps.{number_at, gap}
+use Rattle.crossing_pricing.specs.declared.pairs.PairSides.{PairSides}
+use Rattle.crossing_pricing.specs.declared.pairs.PairTable.{PairTable}
+use Rattle.crossing_pricing.specs.Gaps.{number_at, gap}
 use Rattle.dual_bound.specs.Costs.{gaps_of}
-use Rattle.chain_gains.specs.Pairs.{price_of_all, AreParts, AreSides, ArePairs, AreGained}
-use Rattle.chain_gains.specs.Climbs.{over_pairs, Climb, worth_at, AreWorths}
+use Rattle.crossing_pricing.specs.Pairs.{price_of_all, AreParts, AreSides, ArePairs, AreGained}
+use Rattle.crossing_pricing.specs.Climbs.{over_pairs, Climb, worth_at, AreWorths}
 use Rattle.dual_bound.specs.CrossGains.{gain_of, pair_gain}
 use Rattle.dual_bound.proofs.Summing.{sum_same}
 use Rattle.dual_bound.proofs.Pricing.{gap_none}

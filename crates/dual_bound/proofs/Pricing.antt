@@ -12,7 +12,7 @@ use Rattle.proof_trees.specs.Boxes.{Box, at}
 use Rattle.proof_trees.specs.Multipliers.{Multipliers, least, weighed, weighed_rhs, worth, amount_of, with_amount}
 use Rattle.certificate.specs.Entries.{same_row}
 use Rattle.dual_bound.specs.declared.costs.Costs.{Costs}
-use Rattle.chain_gains.specs.Gaps.{number_at, gap}
+use Rattle.crossing_pricing.specs.Gaps.{number_at, gap}
 use Rattle.dual_bound.specs.Costs.{gaps_of, parts, IsSmall, Gauged, Priced, PricedSome, HasRoom, Gains}
 use Rattle.dual_bound.proofs.Summing.{sum_one, sum_same, sum_more, sum_size, product_size, abs_sum}
 use Rattle.dual_bound.proofs.Multiplied.{dot_with, dot_low, small_with, are_multipliers}

@@ -9,8 +9,8 @@ use Rattle.std.proofs.lemmas.Int.{unsigned_abs-mul}
 use Rattle.std.proofs.lemmas.List.{get_or-set_same, get_or-set_other, get_or-take, length-take}
 use Rattle.std.proofs.lemmas.List.Folds.{list_any_none, list_any_more}
 use Rattle.proof_trees.specs.Program.{sum_to, where_set}
-use Rattle.chain_gains.specs.Gaps.{number_at}
-use Rattle.base_matrix.proofs.Summing.{sum_to_more}
+use Rattle.crossing_pricing.specs.Gaps.{number_at}
+use Rattle.row_matrix.proofs.Summing.{sum_to_more}
 
 -- ## Look-ups
 

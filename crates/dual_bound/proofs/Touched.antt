@@ -12,9 +12,9 @@ use Rattle.zero_one_rows.specs.declared.program.Row.{Row}
 use Rattle.zero_one_rows.specs.Variables.{Voyage, variables}
 use Rattle.zero_one_rows.specs.Rows.{whole}
 use Rattle.zero_one_model.specs.Indexed.{Touches}
-use Rattle.base_matrix.specs.declared.entries.Term.{Term}
-use Rattle.base_matrix.specs.Terms.{AreTerms}
-use Rattle.chain_gains.specs.Gaps.{number_at}
+use Rattle.row_matrix.specs.declared.entries.Term.{Term}
+use Rattle.row_matrix.specs.Terms.{AreTerms}
+use Rattle.crossing_pricing.specs.Gaps.{number_at}
 use Rattle.dual_bound.proofs.Summing.{equal, all_taken, Lost}
 
 zero_or_other : (z : ℤ) → (z ≡ pos 0) ⊎ (z ≢ pos 0)

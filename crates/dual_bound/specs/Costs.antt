@@ -8,9 +8,9 @@ use Rattle.proof_trees.specs.Boxes.{Box, at}
 use Rattle.proof_trees.specs.Multipliers.{Multipliers, amount_of, with_amount, least, weighed, weighed_rhs, worth}
 use Rattle.certificate.specs.Entries.{same_row}
 use Rattle.dual_bound.specs.Raising.{Lacks}
-use Rattle.base_matrix.specs.declared.entries.Term.{Term}
-use Rattle.base_matrix.specs.Terms.{AreTerms}
-use Rattle.chain_gains.specs.Gaps.{number_at, gap}
+use Rattle.row_matrix.specs.declared.entries.Term.{Term}
+use Rattle.row_matrix.specs.Terms.{AreTerms}
+use Rattle.crossing_pricing.specs.Gaps.{number_at, gap}
 use Rattle.dual_bound.specs.declared.costs.Costs.{Costs}
 
 -- a row of the program, of the sizes that rows have

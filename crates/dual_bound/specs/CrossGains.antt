@@ -5,7 +5,7 @@ use Rattle.zero_one_rows.specs.declared.program.Row.TheVariants.{Cross}
 use Rattle.zero_one_rows.specs.Variables.{Voyage}
 use Rattle.zero_one_rows.specs.Rows.{whole}
 use Rattle.proof_trees.specs.Boxes.{Box}
-use Rattle.chain_gains.specs.Pairs.{price_of_all}
+use Rattle.crossing_pricing.specs.Pairs.{price_of_all}
 use Rattle.dual_bound.specs.Costs.{gaps_of}
 
 -- a row's right side, and what its variables gain where its multiplier rises by 1

@@ -11,4 +11,4 @@ gauging_of a = record { voyage = a.model.now; box = a.b; multipliers = a.multipl
 pub record IsGauge (a : Inside) : Type 0 where
   pub whole : length a.b ≡ length (variables a.model.now)
   pub priced : Priced a.model.now a.b a.multipliers a.costs
-  pub face : IfSome a.face (λ f. f.voyage ≡ a.model.now)
+  pub minimizer : IfSome a.minimizer (λ f. f.voyage ≡ a.model.now)

@@ -4,9 +4,9 @@ use Rattle.zero_one_rows.specs.declared.program.Row.{Row}
 use Rattle.zero_one_rows.specs.Variables.{Voyage}
 use Rattle.zero_one_rows.specs.Rows.{whole}
 use Rattle.zero_one_rows.specs.Counted.{all_rows, base_rows}
-use Rattle.base_matrix.specs.declared.entries.Term.{Term}
-use Rattle.base_matrix.specs.Terms.{AreTerms}
-use Rattle.chain_gains.specs.Gaps.{number_at}
+use Rattle.row_matrix.specs.declared.entries.Term.{Term}
+use Rattle.row_matrix.specs.Terms.{AreTerms}
+use Rattle.crossing_pricing.specs.Gaps.{number_at}
 
 -- a row of the program with its right side
 pub record IsRight (m : Voyage) (r : Row) (side : ℤ) : Type 0 where

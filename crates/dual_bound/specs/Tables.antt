@@ -3,7 +3,7 @@ use Rattle.std.specs.Prelude.{◌≡◌, IfSome}
 use Rattle.zero_one_rows.specs.Variables.{Voyage}
 use Rattle.dual_bound.specs.declared.table.RowTable.TheInside.{Inside}
 use Rattle.dual_bound.specs.Kept.{AreRights, AreCrossing}
-use Rattle.chain_gains.specs.Pairs.{ArePairs}
+use Rattle.crossing_pricing.specs.Pairs.{ArePairs}
 
 abbrev pub voyage_of : Inside → Voyage
 voyage_of a = a.model.now

@@ -6,15 +6,15 @@ ghost use Rattle.zero_one_rows.specs.Variables.{variables};
 ghost use Rattle.zero_one_rows.specs.declared.program.Row.{Row as Rows};
 ghost use Rattle.zero_one_rows.specs.Rows.{whole};
 ghost use Rattle.certificate.specs.Entries.{same_row};
-ghost use Rattle.base_matrix.specs.Terms.{AreTerms};
-ghost use Rattle.chain_gains.specs.Gaps.{number_at, gap};
+ghost use Rattle.row_matrix.specs.Terms.{AreTerms};
+ghost use Rattle.crossing_pricing.specs.Gaps.{number_at, gap};
 ghost use Rattle.dual_bound.specs.Costs.{parts, IsListed, Gauged, Priced, PricedSome, HasRoom, Gains, gaps_of};
 
 use crate::sizes::{
     difference, first_cost, grown, least_of, moved, product, signed, sum_of, swapped,
 };
 use crate::terms::Listed;
-use base_matrix::Term;
+use row_matrix::Term;
 use std::alloc::Global;
 use stow_data::{NoMemory, VarNo};
 use zero_one_model::{Box01, Model};

@@ -5,7 +5,7 @@ ghost use Rattle.zero_one_rows.specs.declared.program.Row.{Row as Rows};
 ghost use Rattle.zero_one_rows.specs.Rows.{whole, is_base};
 ghost use Rattle.zero_one_rows.specs.Counted.{all_rows, base_rows};
 ghost use Rattle.certificate.specs.Stuck.{IsStuck};
-ghost use Rattle.base_matrix.specs.Leaning.{Leans};
+ghost use Rattle.row_matrix.specs.Leaning.{Leans};
 ghost use Rattle.dual_bound.specs.Costs.{Priced};
 ghost use Rattle.dual_bound.specs.CrossGains.{gain_of};
 ghost use Rattle.dual_bound.specs.Rising.{IsFlat, Rises, AreCrossingFlat};
@@ -15,7 +15,7 @@ use crate::multipliers::Multipliers;
 use crate::offers::{Choice, choose_crossing};
 use crate::rising::{Rising, look, look_at};
 use crate::table::RowTable;
-use base_matrix::LooseBox;
+use row_matrix::LooseBox;
 use std::alloc::Global;
 use stow_data::NoMemory;
 use zero_one_model::{Box01, Model};
@@ -104,19 +104,19 @@ fn look_unmet(
     b: &Box01,
     m: &Multipliers,
     costs: &Costs,
-    face: &LooseBox,
+    minimizer: &LooseBox,
     number: u64,
 ) -> Result<Option<Rising>, NoMemory>
     requires number { number < length (base_rows model.now) }
     requires table { table.now ≡ model.now }
     requires whole { length b.now ≡ length (variables model.now) }
     requires priced { Priced model.now b.now m.now costs.now }
-    requires face { face.now.voyage ≡ model.now }
-    requires leans { Leans b.now costs.now.reduced.items face.now.known }
+    requires minimizer { minimizer.now.voyage ≡ model.now }
+    requires leans { Leans b.now costs.now.reduced.items minimizer.now.known }
     ensures none { result ≡ Ok None → (r : Rows) → slice_get (all_rows model.now) number ≡ Some r → IsFlat model.now b.now m.now r }
     ensures some { IfOk result (λ o. IfSome o (λ c. Rises model.now b.now m.now c)) }
 {
-    if face.is_met(number as usize) {
+    if minimizer.is_met(number as usize) {
         return Ok(None);
     }
     look(alloc, model, table, b, m, costs, number)
@@ -130,7 +130,7 @@ fn find_unmet_between(
     b: &Box01,
     m: &Multipliers,
     costs: &Costs,
-    face: &LooseBox,
+    minimizer: &LooseBox,
     from: u64,
     to: u64,
 ) -> Result<Option<Rising>, NoMemory>
@@ -138,13 +138,13 @@ fn find_unmet_between(
     requires table { table.now ≡ model.now }
     requires whole { length b.now ≡ length (variables model.now) }
     requires priced { Priced model.now b.now m.now costs.now }
-    requires face { face.now.voyage ≡ model.now }
-    requires leans { Leans b.now costs.now.reduced.items face.now.known }
+    requires minimizer { minimizer.now.voyage ≡ model.now }
+    requires leans { Leans b.now costs.now.reduced.items minimizer.now.known }
     ensures none { result ≡ Ok None → (k : ℕ) (r : Rows) → from ≤ k → k < to → slice_get (all_rows model.now) k ≡ Some r → IsFlat model.now b.now m.now r }
     ensures some { IfOk result (λ o. IfSome o (λ c. Rises model.now b.now m.now c)) }
 {
     for number in from..to {
-        let found = look_unmet(alloc, model, table, b, m, costs, face, number)?;
+        let found = look_unmet(alloc, model, table, b, m, costs, minimizer, number)?;
         if found.is_some() {
             return Ok(found);
         }
@@ -160,23 +160,23 @@ fn find_unmet(
     b: &Box01,
     m: &Multipliers,
     costs: &Costs,
-    face: &LooseBox,
+    minimizer: &LooseBox,
     from: u64,
 ) -> Result<Option<Rising>, NoMemory>
     requires table { table.now ≡ model.now }
     requires whole { length b.now ≡ length (variables model.now) }
     requires priced { Priced model.now b.now m.now costs.now }
     requires crossing { AreCrossingFlat model.now b.now m.now }
-    requires face { face.now.voyage ≡ model.now }
-    requires leans { Leans b.now costs.now.reduced.items face.now.known }
+    requires minimizer { minimizer.now.voyage ≡ model.now }
+    requires leans { Leans b.now costs.now.reduced.items minimizer.now.known }
     ensures none { result ≡ Ok None → IsStuck model.now b.now m.now }
     ensures some { IfOk result (λ o. IfSome o (λ c. Rises model.now b.now m.now c)) }
 {
     let base = model.base_rows();
     let from = from.min(base);
-    match find_unmet_between(alloc, model, table, b, m, costs, face, from, base)? {
+    match find_unmet_between(alloc, model, table, b, m, costs, minimizer, from, base)? {
         Some(rising) => Ok(Some(rising)),
-        None => find_unmet_between(alloc, model, table, b, m, costs, face, 0, from),
+        None => find_unmet_between(alloc, model, table, b, m, costs, minimizer, 0, from),
     }
 }
 
@@ -188,19 +188,19 @@ fn find_low(
     b: &Box01,
     m: &Multipliers,
     costs: &Costs,
-    face: &mut Option<LooseBox>,
+    minimizer: &mut Option<LooseBox>,
     from: u64,
 ) -> Result<Option<Rising>, NoMemory>
     requires table { table.now ≡ model.now }
     requires whole { length b.now ≡ length (variables model.now) }
     requires priced { Priced model.now b.now m.now costs.now }
     requires crossing { AreCrossingFlat model.now b.now m.now }
-    requires face { IfSome face.old (λ f. f.voyage ≡ model.now) }
-    ensures face { IfSome face.new (λ f. f.voyage ≡ model.now) }
+    requires minimizer { IfSome minimizer.old (λ f. f.voyage ≡ model.now) }
+    ensures minimizer { IfSome minimizer.new (λ f. f.voyage ≡ model.now) }
     ensures none { result ≡ Ok None → IsStuck model.now b.now m.now }
     ensures some { IfOk result (λ o. IfSome o (λ c. Rises model.now b.now m.now c)) }
 {
-    match face {
+    match minimizer {
         Some(loose) => {
             loose.is_whole();
             loose.lean(b, costs.reduced.as_slice());
@@ -218,21 +218,21 @@ fn find_chosen(
     b: &Box01,
     m: &Multipliers,
     costs: &Costs,
-    face: &mut Option<LooseBox>,
+    minimizer: &mut Option<LooseBox>,
     from: u64,
     choice: &Choice,
 ) -> Result<Option<Rising>, NoMemory>
     requires table { table.now ≡ model.now }
-    requires face { IfSome face.old (λ f. f.voyage ≡ model.now) }
+    requires minimizer { IfSome minimizer.old (λ f. f.voyage ≡ model.now) }
     requires whole { length b.now ≡ length (variables model.now) }
     requires priced { Priced model.now b.now m.now costs.now }
     requires most { (r : Rows) → is_base r ≡ false → (whole model.now).has r ≡ true → gain_of model.now b.now costs.now.reduced.items r ≤ℤ choice.now.gain }
-    ensures face { IfSome face.new (λ f. f.voyage ≡ model.now) }
+    ensures minimizer { IfSome minimizer.new (λ f. f.voyage ≡ model.now) }
     ensures none { result ≡ Ok None → IsStuck model.now b.now m.now }
     ensures some { IfOk result (λ o. IfSome o (λ c. Rises model.now b.now m.now c)) }
 {
     if choice.gain <= 0 {
-        return find_low(alloc, model, table, b, m, costs, face, from);
+        return find_low(alloc, model, table, b, m, costs, minimizer, from);
     }
     match look_at(alloc, model, table, b, m, costs, choice.row.as_ref())? {
         Some(rising) => Ok(Some(rising)),
@@ -248,14 +248,14 @@ pub fn find(
     b: &Box01,
     m: &Multipliers,
     costs: &Costs,
-    face: &mut Option<LooseBox>,
+    minimizer: &mut Option<LooseBox>,
     from: u64,
 ) -> Result<Option<Rising>, NoMemory>
     requires table { table.now ≡ model.now }
-    requires face { IfSome face.old (λ f. f.voyage ≡ model.now) }
+    requires minimizer { IfSome minimizer.old (λ f. f.voyage ≡ model.now) }
     requires whole { length b.now ≡ length (variables model.now) }
     requires priced { Priced model.now b.now m.now costs.now }
-    ensures face { IfSome face.new (λ f. f.voyage ≡ model.now) }
+    ensures minimizer { IfSome minimizer.new (λ f. f.voyage ≡ model.now) }
     ensures none { result ≡ Ok None → IsStuck model.now b.now m.now }
     ensures some { IfOk result (λ o. IfSome o (λ c. Rises model.now b.now m.now c)) }
 {
@@ -263,7 +263,7 @@ pub fn find(
         return find_listed(alloc, model, table, b, m, costs, from);
     };
     let choice = choose_crossing(model, pairs, b, costs);
-    let found = find_chosen(alloc, model, table, b, m, costs, face, from, &choice);
+    let found = find_chosen(alloc, model, table, b, m, costs, minimizer, from, &choice);
     drop(choice);
     found
 }

@@ -13,7 +13,7 @@ use crate::costs::Costs;
 use crate::multipliers::{AddNo, Multipliers};
 use crate::raising::{Raised, raise_kept};
 use crate::table::RowTable;
-use base_matrix::{BaseMatrix, LooseBox};
+use row_matrix::{BaseMatrix, LooseBox};
 use std::alloc::Global;
 use stow_data::{NoMemory, VarNo};
 use zero_one_model::{Box01, Model};
@@ -26,7 +26,7 @@ pub struct Gauge<'a> {
     b: Box01,
     multipliers: Multipliers,
     costs: Costs,
-    face: Option<LooseBox<'a>>,
+    minimizer: Option<LooseBox<'a>>,
 }
 
 impl<'a> std::marker::Model for Gauge<'a> {
@@ -53,7 +53,7 @@ impl<'a> Gauge<'a> {
                 b,
                 multipliers: Multipliers::zero(alloc),
                 costs,
-                face: None,
+                minimizer: None,
             }),
             Err(no) => {
                 drop(b);
@@ -78,7 +78,7 @@ impl<'a> Gauge<'a> {
                 b,
                 multipliers: Multipliers::zero(alloc),
                 costs,
-                face: LooseBox::free(alloc, matrix).ok(),
+                minimizer: LooseBox::free(alloc, matrix).ok(),
             }),
             Err(no) => {
                 drop(b);
@@ -196,7 +196,7 @@ impl<'a> Gauge<'a> {
             &self.b,
             &mut self.multipliers,
             &mut self.costs,
-            &mut self.face,
+            &mut self.minimizer,
             cut,
             most,
             raises,

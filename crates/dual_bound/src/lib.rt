@@ -14,11 +14,11 @@ mod sizes;
 mod table;
 mod terms;
 
-pub use base_matrix::Term;
 pub use costs::Costs;
 pub use gauge::Gauge;
 pub use multipliers::{AddNo, Multipliers};
 pub use plain_value::value;
 pub use raising::{Raised, raise, raise_by};
+pub use row_matrix::Term;
 pub use table::RowTable;
 pub use terms::{Listed, list_row, terms_of};

@@ -5,12 +5,12 @@ ghost use Rattle.zero_one_rows.specs.Variables.{variables};
 ghost use Rattle.zero_one_rows.specs.declared.program.Row.{Row as Rows};
 ghost use Rattle.zero_one_rows.specs.Rows.{whole, is_base};
 ghost use Rattle.dual_bound.specs.Costs.{PricedSome};
-ghost use Rattle.chain_gains.specs.Climbs.{over_pairs, Climb, AreWorths, worth_at};
+ghost use Rattle.crossing_pricing.specs.Climbs.{over_pairs, Climb, AreWorths, worth_at};
 ghost use Rattle.dual_bound.specs.CrossGains.{gain_of};
-ghost use Rattle.chain_gains.specs.Pairs.{ArePairs, AreGained};
+ghost use Rattle.crossing_pricing.specs.Pairs.{ArePairs, AreGained};
 
 use crate::costs::Costs;
-use chain_gains::{NOTHING, PairSides, PairTable, chain_of, gaps_by_pair, most_of};
+use crossing_pricing::{NOTHING, PairSides, PairTable, chain_of, gaps_by_pair, most_of};
 use zero_one_model::{Box01, Model};
 use zero_one_rows::Row;
 

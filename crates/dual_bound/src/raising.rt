@@ -18,8 +18,8 @@ use crate::rising::{Rising, look_at};
 use crate::sizes::signed;
 use crate::table::RowTable;
 use crate::terms::Listed;
-use base_matrix::LooseBox;
-use chain_gains::{Wish, wishes};
+use crossing_pricing::{Candidate, candidates};
+use row_matrix::LooseBox;
 use std::alloc::Global;
 use stow_data::NoMemory;
 use zero_one_model::{Box01, Model};
@@ -85,34 +85,34 @@ fn limit(
     amount
 }
 
-// What is wished for, where it brings something.
-fn granted(
+// The raise of a candidate, where it brings something.
+fn candidate_raise(
     alloc: Global,
     model: &Model,
     table: &RowTable,
     b: &Box01,
     m: &Multipliers,
     costs: &Costs,
-    wish: Option<&Wish>,
+    candidate: Option<&Candidate>,
 ) -> Result<Option<Rising>, NoMemory>
     requires table { table.now ≡ model.now }
     requires whole { length b.now ≡ length (variables model.now) }
     requires priced { Priced model.now b.now m.now costs.now }
     ensures { IfOk result (λ o. IfSome o (λ c. Rises model.now b.now m.now c)) }
 {
-    let Some(wish) = wish else {
+    let Some(candidate) = candidate else {
         return Ok(None);
     };
-    match look_at(alloc, model, table, b, m, costs, Some(&wish.row))? {
+    match look_at(alloc, model, table, b, m, costs, Some(&candidate.row))? {
         Some(rising) => {
-            let more = limit(model, b, m, costs, &rising, wish.amount);
+            let more = limit(model, b, m, costs, &rising, candidate.amount);
             Ok(Some(Rising { more, ..rising }))
         }
         None => Ok(None),
     }
 }
 
-// A row that can be raised with gain: the one that is wished for, or else one that is found.
+// A row that can be raised with gain: the candidate, or else one that is found.
 fn next(
     alloc: Global,
     model: &Model,
@@ -120,21 +120,21 @@ fn next(
     b: &Box01,
     m: &Multipliers,
     costs: &Costs,
-    face: &mut Option<LooseBox>,
+    minimizer: &mut Option<LooseBox>,
     from: u64,
-    wish: Option<&Wish>,
+    candidate: Option<&Candidate>,
 ) -> Result<Option<Rising>, NoMemory>
     requires table { table.now ≡ model.now }
-    requires face { IfSome face.old (λ f. f.voyage ≡ model.now) }
+    requires minimizer { IfSome minimizer.old (λ f. f.voyage ≡ model.now) }
     requires whole { length b.now ≡ length (variables model.now) }
     requires priced { Priced model.now b.now m.now costs.now }
-    ensures face { IfSome face.new (λ f. f.voyage ≡ model.now) }
+    ensures minimizer { IfSome minimizer.new (λ f. f.voyage ≡ model.now) }
     ensures none { result ≡ Ok None → IsStuck model.now b.now m.now }
     ensures some { IfOk result (λ o. IfSome o (λ c. Rises model.now b.now m.now c)) }
 {
-    match granted(alloc, model, table, b, m, costs, wish)? {
+    match candidate_raise(alloc, model, table, b, m, costs, candidate)? {
         Some(rising) => Ok(Some(rising)),
-        None => find(alloc, model, table, b, m, costs, face, from),
+        None => find(alloc, model, table, b, m, costs, minimizer, from),
     }
 }
 
@@ -189,20 +189,20 @@ fn last(
     b: &Box01,
     m: &Multipliers,
     costs: &Costs,
-    face: &mut Option<LooseBox>,
+    minimizer: &mut Option<LooseBox>,
     cut: u64,
 ) -> Raised
     requires table { table.now ≡ model.now }
-    requires face { IfSome face.old (λ f. f.voyage ≡ model.now) }
+    requires minimizer { IfSome minimizer.old (λ f. f.voyage ≡ model.now) }
     requires whole { length b.now ≡ length (variables model.now) }
     requires priced { Priced model.now b.now m.now costs.now }
-    ensures face { IfSome face.new (λ f. f.voyage ≡ model.now) }
+    ensures minimizer { IfSome minimizer.new (λ f. f.voyage ≡ model.now) }
     ensures ends { Ends model.now b.now m.now cut result }
 {
     if costs.closes(model, b, m, cut) {
         return Raised::Reached;
     }
-    match find(alloc, model, table, b, m, costs, face, 0) {
+    match find(alloc, model, table, b, m, costs, minimizer, 0) {
         Err(_) => Raised::NoMemory,
         Ok(None) => Raised::Stuck,
         Ok(Some(_)) => Raised::Spent,
@@ -217,17 +217,17 @@ fn turn(
     b: &Box01,
     m: &mut Multipliers,
     costs: &mut Costs,
-    face: &mut Option<LooseBox>,
+    minimizer: &mut Option<LooseBox>,
     cut: u64,
     from: &mut u64,
-    wish: Option<&Wish>,
+    candidate: Option<&Candidate>,
     raises: &mut RaiseList,
 ) -> Option<Raised>
     requires table { table.now ≡ model.now }
-    requires face { IfSome face.old (λ f. f.voyage ≡ model.now) }
+    requires minimizer { IfSome minimizer.old (λ f. f.voyage ≡ model.now) }
     requires whole { length b.now ≡ length (variables model.now) }
     requires priced { Priced model.now b.now m.old costs.old }
-    ensures face { IfSome face.new (λ f. f.voyage ≡ model.now) }
+    ensures minimizer { IfSome minimizer.new (λ f. f.voyage ≡ model.now) }
     ensures priced { Priced model.now b.now m.new costs.new }
     ensures raised { IfNone result (Raises model.now b.now 1 m.old m.new raises.old raises.new) }
     ensures one { IfNone result (length raises.new ≡ length raises.old + 1) }
@@ -238,7 +238,9 @@ fn turn(
     if costs.closes(model, b, m, cut) {
         return Some(Raised::Reached);
     }
-    match next(alloc, model, table, b, m, costs, face, *from, wish) {
+    match next(
+        alloc, model, table, b, m, costs, minimizer, *from, candidate,
+    ) {
         Ok(Some(rising)) => {
             let number = rising.number;
             let made = step(model, b, m, costs, &rising, raises);
@@ -257,13 +259,13 @@ fn turn(
 }
 
 // The raises that are tried first: where no row has a multiplier and many raises are allowed, a packing.
-fn first_wishes(
+fn first_candidates(
     alloc: Global,
     model: &Model,
     table: &RowTable,
     m: &Multipliers,
     most: u32,
-) -> Vec<Wish> {
+) -> Vec<Candidate> {
     if m.len() > 0 || most < MANY {
         return Vec::new(alloc);
     }
@@ -272,31 +274,31 @@ fn first_wishes(
     };
     let last = model.cargo().calls() as usize;
     model.keeps_limits();
-    match wishes(alloc, pairs, last) {
-        Ok(wishes) => wishes,
+    match candidates(alloc, pairs, last) {
+        Ok(candidates) => candidates,
         Err(NoMemory) => Vec::new(alloc),
     }
 }
 
-// Raises multipliers whose costs are kept, by these wishes first.
-fn raise_wished(
+// Raises multipliers whose costs are kept, by these candidates first.
+fn raise_candidates(
     alloc: Global,
     model: &Model,
     table: &RowTable,
     b: &Box01,
     m: &mut Multipliers,
     costs: &mut Costs,
-    face: &mut Option<LooseBox>,
+    minimizer: &mut Option<LooseBox>,
     cut: u64,
     most: u32,
     raises: &mut RaiseList,
-    wishes: &[Wish],
+    candidates: &[Candidate],
 ) -> Raised
     requires table { table.now ≡ model.now }
-    requires face { IfSome face.old (λ f. f.voyage ≡ model.now) }
+    requires minimizer { IfSome minimizer.old (λ f. f.voyage ≡ model.now) }
     requires whole { length b.now ≡ length (variables model.now) }
     requires priced { Priced model.now b.now m.old costs.old }
-    ensures face { IfSome face.new (λ f. f.voyage ≡ model.now) }
+    ensures minimizer { IfSome minimizer.new (λ f. f.voyage ≡ model.now) }
     ensures priced { Priced model.now b.now m.new costs.new }
     ensures raised { Raises model.now b.now most m.old m.new raises.old raises.new }
     ensures ends { Ends model.now b.now m.new cut result }
@@ -304,14 +306,14 @@ fn raise_wished(
 {
     let mut from = 0;
     for made in 0..most {
-        let wish = wishes.get(made as usize);
+        let candidate = candidates.get(made as usize);
         if let Some(end) = turn(
-            alloc, model, table, b, m, costs, face, cut, &mut from, wish, raises,
+            alloc, model, table, b, m, costs, minimizer, cut, &mut from, candidate, raises,
         ) {
             return end;
         }
     }
-    last(alloc, model, table, b, m, costs, face, cut)
+    last(alloc, model, table, b, m, costs, minimizer, cut)
 }
 
 /// Raises multipliers whose costs are kept.
@@ -322,36 +324,36 @@ pub fn raise_kept(
     b: &Box01,
     m: &mut Multipliers,
     costs: &mut Costs,
-    face: &mut Option<LooseBox>,
+    minimizer: &mut Option<LooseBox>,
     cut: u64,
     most: u32,
     raises: &mut RaiseList,
 ) -> Raised
     requires table { table.now ≡ model.now }
-    requires face { IfSome face.old (λ f. f.voyage ≡ model.now) }
+    requires minimizer { IfSome minimizer.old (λ f. f.voyage ≡ model.now) }
     requires whole { length b.now ≡ length (variables model.now) }
     requires priced { Priced model.now b.now m.old costs.old }
-    ensures face { IfSome face.new (λ f. f.voyage ≡ model.now) }
+    ensures minimizer { IfSome minimizer.new (λ f. f.voyage ≡ model.now) }
     ensures priced { Priced model.now b.now m.new costs.new }
     ensures raised { Raises model.now b.now most m.old m.new raises.old raises.new }
     ensures ends { Ends model.now b.now m.new cut result }
     ensures spent { result ≡ Raised.Spent → length raises.new ≡ length raises.old + most }
 {
-    let wishes = first_wishes(alloc, model, table, m, most);
-    let raised = raise_wished(
+    let candidates = first_candidates(alloc, model, table, m, most);
+    let raised = raise_candidates(
         alloc,
         model,
         table,
         b,
         m,
         costs,
-        face,
+        minimizer,
         cut,
         most,
         raises,
-        wishes.as_slice(),
+        candidates.as_slice(),
     );
-    drop(wishes);
+    drop(candidates);
     raised
 }
 
@@ -444,11 +446,20 @@ pub fn raise_by(
     let Ok(mut costs) = price(alloc, model, table, b, m) else {
         return Raised::NoMemory;
     };
-    let mut face = None;
+    let mut minimizer = None;
     let raised = raise_kept(
-        alloc, model, table, b, m, &mut costs, &mut face, cut, most, raises,
+        alloc,
+        model,
+        table,
+        b,
+        m,
+        &mut costs,
+        &mut minimizer,
+        cut,
+        most,
+        raises,
     );
-    drop(face);
+    drop(minimizer);
     drop(costs);
     raised
 }

@@ -12,7 +12,7 @@ use crate::costs::Costs;
 use crate::multipliers::{MOST, Multipliers, copy_of};
 use crate::table::RowTable;
 use crate::terms::{Listed, list_row, terms_of};
-use base_matrix::Term;
+use row_matrix::Term;
 use std::alloc::Global;
 use stow_data::{NoMemory, Seq};
 use zero_one_model::{Box01, Model};

@@ -2,17 +2,17 @@
 ghost use Rattle.std.specs.Prelude.{◌≡◌, ◌+◌, ◌<◌, ◌≤◌, length, slice_get, Some, OnOk, IfSome};
 ghost use Rattle.zero_one_rows.specs.declared.program.Row.{Row as Rows};
 ghost use Rattle.zero_one_rows.specs.Counted.{all_rows, base_rows};
-ghost use Rattle.base_matrix.specs.Terms.{count, AreTerms};
+ghost use Rattle.row_matrix.specs.Terms.{count, AreTerms};
 ghost use Rattle.dual_bound.specs.Costs.{IsListed};
 ghost use Rattle.dual_bound.specs.Kept.{AreRights, AreCrossing};
-ghost use Rattle.chain_gains.specs.Pairs.{ArePairs};
+ghost use Rattle.crossing_pricing.specs.Pairs.{ArePairs};
 
 use crate::terms::terms_of;
-use base_matrix::{BaseMatrix, Term};
-use chain_gains::PairTable;
+use crossing_pricing::PairTable;
+use row_matrix::{BaseMatrix, Term};
+use row_sums::FlatLists;
 use std::alloc::Global;
 use stow_data::{NoMemory, Seq};
-use sum_matrix::FlatLists;
 use zero_one_model::Model;
 
 /// The most terms of crossing rows that are kept.

@@ -3,10 +3,10 @@ ghost use Rattle.std.specs.Prelude.{◌≡◌, ℕ, ◌<◌, ◌≤◌, ◌^◌,
 ghost use Rattle.zero_one_rows.specs.Variables.{variables};
 ghost use Rattle.zero_one_rows.specs.Rows.{whole};
 ghost use Rattle.zero_one_model.specs.Indexed.{Touches};
-ghost use Rattle.base_matrix.specs.Terms.{AreTerms, vars_in};
+ghost use Rattle.row_matrix.specs.Terms.{AreTerms, vars_in};
 ghost use Rattle.dual_bound.specs.Costs.{IsListed};
 
-use base_matrix::Term;
+use row_matrix::Term;
 use std::alloc::Global;
 use stow_data::{NoMemory, Seq, VarNo};
 use zero_one_model::Model;

@@ -8,8 +8,8 @@ use Rattle.zero_one_rows.specs.Variables.{Voyage}
 use Rattle.proof_trees.specs.Boxes.{Box, at}
 use Rattle.proof_trees.specs.Multipliers.{Multipliers}
 use Rattle.dual_bound.specs.Gauging.{Gauging}
-use Rattle.kept_box.specs.Fixing.{freed, Fixes}
-use Rattle.kept_box.proofs.Freeing.{freed_length}
+use Rattle.partial_plan.specs.Fixing.{freed, Fixes}
+use Rattle.partial_plan.proofs.Freeing.{freed_length}
 use Rattle.node_work.specs.Adopting.{or_else, adopted, adopted_all}
 
 pub length_back : (b c : Box) (xs : List ℕ) → freed c xs ≡ b → length c ≡ length b

@@ -26,15 +26,15 @@ use Rattle.certificate.specs.declared.tree.Record.{Record}
 use Rattle.certificate.specs.Entries.{same_row, raise_of, entry_of, end_of, number_of}
 use Rattle.search_core.specs.Journals.{NamesRows, EndAllowed, Anything, known, branches, multipliers_after}
 use Rattle.search_core.specs.Machine.{Divides, is_fixed, fixed_below, breaks_none, is_full, nat_of, price}
-use Rattle.kept_box.specs.Full.{ones}
+use Rattle.partial_plan.specs.Full.{ones}
 use Rattle.zero_one_rows.specs.Tightening.{IsQuiet, ForceAll}
-use Rattle.kept_box.specs.Tightening.{Tightens}
+use Rattle.partial_plan.specs.Tightening.{Tightens}
 use Rattle.certificate.specs.Stuck.{IsStuck}
 use Rattle.dual_bound.specs.Raising.{IsRaise, RiseAll, Raises}
-use Rattle.node_ends.specs.declared.worked.Worked.{Worked}
-use Rattle.node_ends.specs.declared.worked.Worked.TheVariants.{Closed, Branched, Full, NoMemory}
+use Rattle.node_solver.specs.declared.worked.Worked.{Worked}
+use Rattle.node_solver.specs.declared.worked.Worked.TheVariants.{Closed, Branched, Full, NoMemory}
 use Rattle.node_work.specs.Starts.{IsTight, HasSteps, IsAfterSteps}
-use Rattle.node_ends.specs.Work.{most_rehandles, EachRises, IsLean, IsEarnest, Ends, EndsClosed, EndsBranched, EndsFull}
+use Rattle.node_solver.specs.Work.{most_rehandles, EachRises, IsLean, IsEarnest, Ends, EndsClosed, EndsBranched, EndsFull}
 use Rattle.node_work.proofs.Folds.{default_any}
 use Rattle.node_work.proofs.Numbered.{number_is}
 use Rattle.node_work.proofs.Values.{and_right, full_closes, violated_closes}

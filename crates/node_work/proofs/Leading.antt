@@ -14,7 +14,7 @@ use Rattle.search_core.specs.Journals.{known}
 use Rattle.dual_bound.specs.Raising.{IsRaise}
 use Rattle.node_work.specs.declared.stages.Stage.{Stage}
 use Rattle.node_work.specs.Starts.{priced, prices_along, InRange}
-use Rattle.node_work.specs.Scales.{AreNamed, Matches, Staged}
+use Rattle.node_work.specs.DualStates.{AreNamed, Matches, Staged}
 
 pub raised_append : (o : Option (Multipliers Row)) (xs ys : List Raise) → raised_all same_row o (map raise_of (xs ++ ys)) ≡ raised_all same_row (raised_all same_row o (map raise_of xs)) (map raise_of ys)
 raised_append None xs ys = refl

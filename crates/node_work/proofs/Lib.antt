@@ -7,7 +7,7 @@ pub mod Changes
 pub mod Trails
 pub mod Ends
 pub mod Stacks
-pub mod Standing
+pub mod Positioned
 pub mod Sameness
 pub mod Walks
 pub mod Leading

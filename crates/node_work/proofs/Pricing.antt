@@ -13,9 +13,9 @@ use Rattle.certificate.specs.declared.nodes.Node.{Node}
 use Rattle.certificate.specs.Entries.{same_row, entry_of, raise_of}
 use Rattle.search_core.specs.Journals.{Path, child, after, known}
 use Rattle.search_core.specs.Machine.{IsTrail}
-use Rattle.node_work.specs.Scales.{AreNamed}
+use Rattle.node_work.specs.DualStates.{AreNamed}
 use Rattle.node_work.specs.Starts.{InRange, prices_along}
-use Rattle.node_ends.specs.Work.{IsNode, begins_at}
+use Rattle.node_solver.specs.Work.{IsNode, begins_at}
 use Rattle.node_work.proofs.Trails.{pending, entries}
 
 module _ (m : Voyage) where

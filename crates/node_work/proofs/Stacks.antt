@@ -8,10 +8,10 @@ use Rattle.proof_trees.specs.Boxes.{Box}
 use Rattle.proof_trees.specs.Trees.{Pending}
 use Rattle.certificate.specs.Entries.{same_row, entry_of}
 use Rattle.search_core.specs.Journals.{child, after}
-use Rattle.kept_box.specs.Fixing.{freed, released, Fixes}
-use Rattle.kept_box.proofs.Freeing.{freed_more}
-use Rattle.node_work.specs.declared.stands.Frame.{Frame}
-use Rattle.node_work.specs.Stands.{entry_in, value_in, half_under, box_along, IsFrame, Stacked}
+use Rattle.partial_plan.specs.Fixing.{freed, released, Fixes}
+use Rattle.partial_plan.proofs.Freeing.{freed_more}
+use Rattle.node_work.specs.declared.positions.Frame.{Frame}
+use Rattle.node_work.specs.Positions.{entry_in, value_in, half_under, box_along, IsFrame, Stacked}
 
 -- ## Variables that are fixed, and freed again
 

@@ -11,8 +11,8 @@ use Rattle.certificate.specs.declared.tree.Record.{Record}
 use Rattle.certificate.specs.Entries.{same_row, entry_of, end_of, number_of}
 use Rattle.search_core.specs.Journals.{Path, box_after, child, after}
 use Rattle.search_core.specs.Machine.{IsEntry, Divides, IsTrail}
-use Rattle.node_work.specs.declared.stands.Frame.{Frame}
-use Rattle.node_work.specs.Stands.{entry_in, value_in, box_along}
+use Rattle.node_work.specs.declared.positions.Frame.{Frame}
+use Rattle.node_work.specs.Positions.{entry_in, value_in, box_along}
 use Rattle.node_work.proofs.Trails.{entries, turns}
 use Rattle.node_work.proofs.Stacks.{along_is}
 

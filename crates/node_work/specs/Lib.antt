@@ -1,7 +1,7 @@
 pub mod Adopting
 pub mod Built
-pub mod Desks
-pub mod Scales
-pub mod Stands
+pub mod States
+pub mod DualStates
+pub mod Positions
 pub mod Starts
 pub mod Solvers

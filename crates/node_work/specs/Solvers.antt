@@ -6,6 +6,6 @@ use Rattle.node_work.specs.declared.solving.TableSolver.TheInside.{Inside}
 abbrev pub voyage_of : Inside → Voyage
 voyage_of a = a.tables.now
 
--- the desk is one of the program
+-- the state is one of the program
 abbrev pub IsSolver : Inside → Type 0
-IsSolver a = IfSome a.desk (λ desk. desk ≡ a.tables.now)
+IsSolver a = IfSome a.state (λ state. state ≡ a.tables.now)

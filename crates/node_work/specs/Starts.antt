@@ -10,8 +10,8 @@ use Rattle.certificate.specs.declared.tree.Record.{Record}
 use Rattle.certificate.specs.Entries.{same_row, raise_of}
 use Rattle.search_core.specs.Journals.{known}
 use Rattle.zero_one_rows.specs.Tightening.{ForceAll}
-use Rattle.node_ends.specs.declared.worked.Worked.{Worked}
-use Rattle.node_ends.specs.declared.worked.Worked.TheVariants.{Closed, Branched, Full, NoMemory}
+use Rattle.node_solver.specs.declared.worked.Worked.{Worked}
+use Rattle.node_solver.specs.declared.worked.Worked.TheVariants.{Closed, Branched, Full, NoMemory}
 
 -- the box is that of the node after these steps, each of a base row that forced a variable
 pub record IsTight (m : Voyage) (q : Pending Row) (b : Box) (steps : List Row) : Type 0 where

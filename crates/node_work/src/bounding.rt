@@ -2,16 +2,16 @@
 ghost use Rattle.std.specs.Prelude.{◌≡◌, ◌≤◌, ◌+◌};
 ghost use Rattle.stow_data.specs.Shipment.{IsCargo};
 ghost use Rattle.zero_one_rows.specs.Variables.{Voyage};
-ghost use Rattle.node_ends.specs.Work.{IsNode, most_rehandles};
+ghost use Rattle.node_solver.specs.Work.{IsNode, most_rehandles};
 
-use crate::desk::Desk;
+use crate::state::WorkerState;
 use crate::tables::Tables;
 use certificate::{Node, Path, Trail};
-use kept_box::BaseMatrix;
-use node_ends::Worked;
+use heuristic::Planner;
+use node_solver::Worked;
+use partial_plan::BaseMatrix;
 use std::alloc::Global;
 use stow_data::NoMemory;
-use voyage_guess::Planner;
 use zero_one_model::Model;
 
 // The root.
@@ -38,10 +38,10 @@ fn bound_at(alloc: Global, tables: &Tables, cut: u64) -> Result<u64, NoMemory>
     requires cut { cut ≤ most_rehandles tables.now + 1 }
 {
     let planner = Planner::new(alloc, tables.model())?;
-    let mut desk = Desk::fresh(alloc, tables, planner)?;
-    match desk.work(alloc, &root(alloc), cut) {
+    let mut state = WorkerState::fresh(alloc, tables, planner)?;
+    match state.work(alloc, &root(alloc), cut) {
         Worked::Closed(_) => Ok(cut),
-        Worked::Branched(_) => Ok(desk.bound()),
+        Worked::Branched(_) => Ok(state.bound()),
         Worked::Full { cost, .. } => Ok(cost),
         Worked::NoMemory => Err(NoMemory),
     }

@@ -2,8 +2,8 @@
 ghost use Rattle.std.specs.Prelude.{◌≡◌, ◌<◌, All, IfOk, IsSome, MatchOption, None, Some, length, slice_get};
 ghost use Rattle.zero_one_rows.specs.Variables.{variables};
 
+use heuristic::{HeuristicLimits, Planner};
 use stow_data::{NoMemory, VarNo};
-use voyage_guess::{Planner, Wanted};
 use zero_one_model::{Box01, Model};
 
 /// The first free variable. None exactly where every variable is fixed.
@@ -21,7 +21,7 @@ pub fn planned_or(
     model: &Model,
     b: &Box01,
     first: VarNo,
-    wanted: Wanted,
+    limits: HeuristicLimits,
 ) -> Result<VarNo, NoMemory>
     requires vars { length b.now ≡ length (variables model.now) }
     requires inside { first < length (variables model.now) }
@@ -29,7 +29,7 @@ pub fn planned_or(
     ensures inside { IfOk result (λ x. x < length (variables model.now)) }
     ensures free { IfOk result (λ x. slice_get b.now x ≡ Some None) }
 {
-    match planner.choose(model, b, wanted)? {
+    match planner.choose(model, b, limits)? {
         Some(planned) => Ok(planned),
         None => Ok(first),
     }

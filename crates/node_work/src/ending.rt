@@ -4,21 +4,21 @@ ghost use Rattle.stow_data.specs.Shipment.{IsCargo};
 ghost use Rattle.proof_trees.specs.Trees.{Pending};
 ghost use Rattle.zero_one_rows.specs.declared.program.Row.{Row as Rows};
 ghost use Rattle.zero_one_rows.specs.Variables.{variables};
-ghost use Rattle.kept_box.specs.Fixing.{Fixes};
+ghost use Rattle.partial_plan.specs.Fixing.{Fixes};
 ghost use Rattle.zero_one_rows.specs.Tightening.{IsQuiet};
-ghost use Rattle.node_work.specs.Scales.{IsScale};
+ghost use Rattle.node_work.specs.DualStates.{IsDualState};
 ghost use Rattle.node_work.specs.Starts.{IsTight, HasSteps, IsAfterSteps};
-ghost use Rattle.node_ends.specs.Work.{most_rehandles, Works};
+ghost use Rattle.node_solver.specs.Work.{most_rehandles, Works};
 
 use crate::choosing::{first_free, planned_or};
-use crate::scale::Scale;
+use crate::dual_state::DualState;
 use certificate::{End, Record};
 use dual_bound::{Raised, RowTable};
-use kept_box::{KeptBox, Tightened, cost_of};
-use node_ends::Worked;
+use heuristic::{HeuristicLimits, Planner};
+use node_solver::Worked;
+use partial_plan::{KeptBox, Tightened, cost_of};
 use std::alloc::Global;
 use stow_data::{NoMemory, VarNo};
-use voyage_guess::{Planner, Wanted};
 use zero_one_model::{Box01, Model};
 use zero_one_rows::{Raise, RaiseList, Row, RowList, rows_are_listed};
 
@@ -80,32 +80,38 @@ fn end_open(
     table: &RowTable,
     planner: &mut Planner,
     b: &Box01,
-    scale: &mut Scale,
+    dual_state: &mut DualState,
     steps: RowList,
     first: VarNo,
     most: u32,
-    wanted: Wanted,
+    limits: HeuristicLimits,
 ) -> Result<Worked, NoMemory>
     requires table { table.now ≡ model.now }
     requires vars { length b.now ≡ length (variables model.now) }
-    requires scale { IsScale model.now scale.old }
+    requires dual_state { IsDualState model.now dual_state.old }
     requires quiet { IsQuiet model.now b.now }
     requires inside { first < length (variables model.now) }
     requires free { slice_get b.now first ≡ Some None }
-    ensures scale { IsScale model.now scale.new }
+    ensures dual_state { IsDualState model.now dual_state.new }
     ensures steps { IfOk result (HasSteps steps) }
-    ensures worked { IfOk result (λ w. (q : Pending Rows) → q.multipliers ≡ scale.old.gauge.multipliers → IsTight model.now q b.now steps → Works model.now q most wanted.cut w) }
+    ensures worked { IfOk result (λ w. (q : Pending Rows) → q.multipliers ≡ dual_state.old.gauge.multipliers → IsTight model.now q b.now steps → Works model.now q most limits.cut w) }
 {
     let mut raises = RaiseList::new(alloc);
-    scale.set_box(model, b);
-    match scale.raise(alloc, model, table, wanted.cut, most, &mut raises) {
+    dual_state.set_box(model, b);
+    match dual_state.raise(alloc, model, table, limits.cut, most, &mut raises) {
         Raised::Reached => {
             let leaf = Record::of(alloc, false, steps, raises, End::Leaf)?;
             Ok(Worked::Closed(leaf))
         }
         Raised::Stuck | Raised::Spent => {
-            let enough = least_cost(scale.gauge.value());
-            let x = planned_or(planner, model, b, first, Wanted { enough, ..wanted })?;
+            let enough = least_cost(dual_state.gauge.value());
+            let x = planned_or(
+                planner,
+                model,
+                b,
+                first,
+                HeuristicLimits { enough, ..limits },
+            )?;
             let branch = Record::of(alloc, false, steps, raises, End::Branch(model.var(x)))?;
             Ok(Worked::Branched(branch))
         }
@@ -120,24 +126,24 @@ fn end_quiet(
     table: &RowTable,
     planner: &mut Planner,
     b: &Box01,
-    scale: &mut Scale,
+    dual_state: &mut DualState,
     steps: RowList,
     most: u32,
-    wanted: Wanted,
+    limits: HeuristicLimits,
 ) -> Result<Worked, NoMemory>
     requires table { table.now ≡ model.now }
     requires vars { length b.now ≡ length (variables model.now) }
-    requires scale { IsScale model.now scale.old }
+    requires dual_state { IsDualState model.now dual_state.old }
     requires quiet { IsQuiet model.now b.now }
-    ensures scale { IsScale model.now scale.new }
+    ensures dual_state { IsDualState model.now dual_state.new }
     ensures steps { IfOk result (HasSteps steps) }
-    ensures worked { IfOk result (λ w. (q : Pending Rows) → q.multipliers ≡ scale.old.gauge.multipliers → IsTight model.now q b.now steps → Works model.now q most wanted.cut w) }
+    ensures worked { IfOk result (λ w. (q : Pending Rows) → q.multipliers ≡ dual_state.old.gauge.multipliers → IsTight model.now q b.now steps → Works model.now q most limits.cut w) }
 {
     match first_free(model, b) {
         Some(first) => end_open(
-            alloc, model, table, planner, b, scale, steps, first, most, wanted,
+            alloc, model, table, planner, b, dual_state, steps, first, most, limits,
         ),
-        None => end_full(alloc, model, b, steps, wanted.cut),
+        None => end_full(alloc, model, b, steps, limits.cut),
     }
 }
 
@@ -148,21 +154,21 @@ pub fn end_box(
     table: &RowTable,
     planner: &mut Planner,
     kept: &mut KeptBox,
-    scale: &mut Scale,
+    dual_state: &mut DualState,
     most: u32,
-    wanted: Wanted,
+    limits: HeuristicLimits,
 ) -> Result<Worked, NoMemory>
     requires table { table.now ≡ model.now }
     requires program { kept.old.voyage ≡ model.now }
     requires cargo { IsCargo model.now.cargo }
-    requires scale { IsScale model.now scale.old }
+    requires dual_state { IsDualState model.now dual_state.old }
     requires some { 1 ≤ most }
-    requires cut { wanted.cut ≤ most_rehandles model.now + 1 }
-    ensures scale { IsScale model.now scale.new }
+    requires cut { limits.cut ≤ most_rehandles model.now + 1 }
+    ensures dual_state { IsDualState model.now dual_state.new }
     ensures same { kept.new.voyage ≡ kept.old.voyage }
     ensures noted { (xs : List ℕ) × (kept.new.undo ≡ kept.old.undo ++ xs) × Fixes kept.old.known kept.new.known xs }
     ensures tight { IfOk result (IsAfterSteps model.now kept.old.known kept.new.known) }
-    ensures worked { IfOk result (Works model.now (record { box = kept.old.known; multipliers = scale.old.gauge.multipliers }) most wanted.cut) }
+    ensures worked { IfOk result (Works model.now (record { box = kept.old.known; multipliers = dual_state.old.gauge.multipliers }) most limits.cut) }
 {
     let mut steps = RowList::new(alloc);
     match kept.tighten(&mut steps) {
@@ -174,10 +180,10 @@ pub fn end_box(
                 table,
                 planner,
                 kept.now(),
-                scale,
+                dual_state,
                 steps,
                 most,
-                wanted,
+                limits,
             )
         }
         Tightened::Violated(row) => {

@@ -3,19 +3,19 @@
 
 mod bounding;
 mod choosing;
-mod desk;
+mod dual_state;
 mod ending;
+mod positions;
 mod retracing;
-mod scale;
 mod solving;
 mod stages;
-mod stands;
+mod state;
 mod tables;
 mod working;
 
 pub use bounding::root_bound;
-pub use desk::Desk;
-pub use kept_box::BaseMatrix;
+pub use partial_plan::BaseMatrix;
 pub use solving::TableSolver;
+pub use state::WorkerState;
 pub use tables::Tables;
 pub use working::work;

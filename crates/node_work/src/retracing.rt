@@ -6,11 +6,11 @@ ghost use Rattle.zero_one_rows.specs.Counted.{base_rows};
 ghost use Rattle.certificate.specs.Entries.{end_of, number_of};
 ghost use Rattle.search_core.specs.Journals.{divided};
 ghost use Rattle.search_core.specs.Machine.{Divides};
-ghost use Rattle.kept_box.specs.Fixing.{Fixes};
+ghost use Rattle.partial_plan.specs.Fixing.{Fixes};
 ghost use Rattle.node_work.specs.Adopting.{adopted};
 
 use certificate::End;
-use kept_box::{KeptBox, UndoList, tighten_by};
+use partial_plan::{KeptBox, UndoList, tighten_by};
 use std::alloc::Global;
 use stow_data::{NoMemory, VarNo};
 use zero_one_model::{Box01, Model};

@@ -2,23 +2,23 @@
 ghost use Rattle.std.specs.Prelude.{◌≡◌, ◌≤◌, ◌+◌, IfOk, OnOk, IfSome};
 ghost use Rattle.stow_data.specs.Shipment.{IsCargo};
 ghost use Rattle.zero_one_rows.specs.Variables.{Voyage};
-ghost use Rattle.node_ends.specs.Work.{IsNode, begins_at, most_at, most_rehandles, Works};
+ghost use Rattle.node_solver.specs.Work.{IsNode, begins_at, most_at, most_rehandles, Works};
 
-use crate::desk::Desk;
+use crate::state::WorkerState;
 use crate::tables::Tables;
 use certificate::Node;
-use node_ends::{Solver, Worked};
+use heuristic::Planner;
+use node_solver::{Solver, Worked};
 use std::alloc::Global;
 use std::marker;
 use stow_data::NoMemory;
-use voyage_guess::Planner;
 
-/// Ends nodes at a desk over a program's tables, which is made when the first node comes, by the thread that works there. Its planner goes on where the given one stands, where there is one. Contracts see the voyage.
+/// Ends nodes with a state over a program's tables, which is made when the first node comes, by the thread that works there. Its planner goes on where the given one stands, where there is one. Contracts see the voyage.
 #[derive(Drop)]
 pub struct TableSolver<'a> {
     tables: &'a Tables<'a>,
     planner: Option<Planner>,
-    desk: Option<Desk<'a>>,
+    state: Option<WorkerState<'a>>,
 }
 
 impl<'a> marker::Model for TableSolver<'a> {
@@ -45,16 +45,16 @@ fn planner_of(
     }
 }
 
-// A desk over the tables, whose planner goes on where the given one stands, where there is one.
-fn desk_of<'a>(
+// A state over the tables, whose planner goes on where the given one stands, where there is one.
+fn fresh_state<'a>(
     alloc: Global,
     tables: &'a Tables<'a>,
     given: &Option<Planner>,
-) -> Result<Desk<'a>, NoMemory>
-    ensures { IfOk result (λ desk. desk ≡ tables.now) }
+) -> Result<WorkerState<'a>, NoMemory>
+    ensures { IfOk result (λ state. state ≡ tables.now) }
 {
     let planner = planner_of(alloc, tables, given)?;
-    Desk::fresh(alloc, tables, planner)
+    WorkerState::fresh(alloc, tables, planner)
 }
 
 impl<'a> TableSolver<'a> {
@@ -65,33 +65,33 @@ impl<'a> TableSolver<'a> {
         TableSolver {
             tables,
             planner,
-            desk: None,
+            state: None,
         }
     }
 
-    // Makes the desk, where there is none yet.
-    fn sit_down(&mut self, alloc: Global) -> Result<(), NoMemory>
+    // Makes the state, where there is none yet.
+    fn make_state(&mut self, alloc: Global) -> Result<(), NoMemory>
         ensures { self.new ≡ self.old }
     {
-        if self.desk.is_none() {
-            self.desk = Some(desk_of(alloc, self.tables, &self.planner)?);
+        if self.state.is_none() {
+            self.state = Some(fresh_state(alloc, self.tables, &self.planner)?);
             self.planner = None;
         }
         Ok(())
     }
 
-    // Ends a node at the desk, where there is one.
-    fn work_at_desk(&mut self, alloc: Global, node: &Node, cut: u64) -> Worked
+    // Ends a node with the state, where there is one.
+    fn work_by_state(&mut self, alloc: Global, node: &Node, cut: u64) -> Worked
         requires cargo { IsCargo self.old.cargo }
         requires trail { IsNode self.old node.now }
         requires cut { cut ≤ most_rehandles self.old + 1 }
         ensures same { self.new ≡ self.old }
         ensures worked { Works self.old (begins_at self.old node.now) (most_at node.now) cut result }
     {
-        let Some(desk) = &mut self.desk else {
+        let Some(state) = &mut self.state else {
             return Worked::NoMemory;
         };
-        desk.work(alloc, node, cut)
+        state.work(alloc, node, cut)
     }
 }
 
@@ -99,8 +99,8 @@ impl<'a> Solver for TableSolver<'a> {
     ghost voyage = { λ m. m };
 
     fn work(&mut self, alloc: Global, node: &Node, cut: u64) -> Worked {
-        match self.sit_down(alloc) {
-            Ok(()) => self.work_at_desk(alloc, node, cut),
+        match self.make_state(alloc) {
+            Ok(()) => self.work_by_state(alloc, node, cut),
             Err(NoMemory) => Worked::NoMemory,
         }
     }

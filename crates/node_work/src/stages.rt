@@ -4,7 +4,7 @@ ghost use Rattle.proof_trees.specs.Multipliers.{Multipliers as Prices, raised, r
 ghost use Rattle.zero_one_rows.specs.declared.program.Row.{Row as Rows};
 ghost use Rattle.zero_one_rows.specs.Rows.{whole};
 ghost use Rattle.certificate.specs.Entries.{same_row, raise_of};
-ghost use Rattle.node_work.specs.Scales.{Matches, Staged};
+ghost use Rattle.node_work.specs.DualStates.{Matches, Staged};
 
 use certificate::{KeptRaise, Record, Trail};
 use dual_bound::{Gauge, RowTable};

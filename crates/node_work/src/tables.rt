@@ -2,7 +2,7 @@
 ghost use Rattle.std.specs.Prelude.{◌≡◌};
 
 use dual_bound::RowTable;
-use kept_box::BaseMatrix;
+use partial_plan::BaseMatrix;
 use std::alloc::Global;
 use std::marker;
 use zero_one_model::Model;

@@ -28,7 +28,7 @@ use Rattle.certificate.specs.Text.{cert_text}
 use Rattle.bound_checker.specs.Entries.{ProvesBound, IsBestBound}
 use Rattle.search_core.specs.Journals.{branches}
 use Rattle.search_core.proofs.Along.{hold_more}
-use Rattle.node_ends.specs.Work as node
+use Rattle.node_solver.specs.Work as node
 use Rattle.model_bridge.specs.Sailed.{AreSailed}
 use Rattle.model_bridge.specs.Laws.{IsProblem, IsCostBound, IsVoyageBound, HasNoVoyage, most_lifts}
 use Rattle.plan_search.specs.declared.loaded.Counted.{Counted}

@@ -26,7 +26,7 @@ use Rattle.search_core.specs.Along.{is_root, Begins, IsOfNode, HoldAll, HoldsAlo
 use Rattle.search_core.proofs.Weights.{every_in}
 use Rattle.search_core.proofs.Along.{hold_more}
 use Rattle.node_ledger.specs.Gathered.{placed_entries, IsGathered}
-use Rattle.node_ends.specs.Work as node
+use Rattle.node_solver.specs.Work as node
 use Rattle.steal_pool.specs.declared.found.Found.{Found}
 use Rattle.steal_pool.specs.Found.{IsWorked, HasBest, IsFound}
 use Rattle.plan_search.specs.Trees.{was_handled, handled, empty_record, LeavesEmpty}

@@ -35,12 +35,12 @@ use Rattle.certificate.specs.declared.lines.Line.TheVariants as line
 use Rattle.certificate.specs.Text as text
 use Rattle.certificate.specs.Text.{numbers, row_text, line_text, outcome_text, text_of, head_lines, record_lines, cert_text}
 use Rattle.certificate.specs.Entries.{same_row, same_var, raise_of, number_of, end_of, entry_of}
-use Rattle.kept_box.specs.Fixing.{free_in}
-use Rattle.kept_box.proofs.Falling.{free_falls, tightened_length}
+use Rattle.partial_plan.specs.Fixing.{free_in}
+use Rattle.partial_plan.proofs.Falling.{free_falls, tightened_length}
 use Rattle.search_core.specs.Bags.{Every}
 use Rattle.search_core.specs.Journals.{branches, known, divided, box_after, multipliers_after, child, Anything, Allowed, EndAllowed, EndSettles, SettleAll, Settled}
 use Rattle.search_core.specs.Along.{HoldAll}
-use Rattle.node_ends.specs.Work as node
+use Rattle.node_solver.specs.Work as node
 use Rattle.model_bridge.specs.Laws.{IsProblem}
 use Rattle.plan_search.specs.Trees.{was_handled, handled, empty_record, LeavesEmpty, IsLean, most_bytes}
 use Rattle.plan_search.proofs.TreeSizes.{few_records}

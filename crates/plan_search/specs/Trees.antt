@@ -9,7 +9,7 @@ use Rattle.certificate.specs.Entries.{same_row, entry_of}
 use Rattle.search_core.specs.Bags.{Every}
 use Rattle.search_core.specs.Journals.{branches, Settled}
 use Rattle.search_core.specs.Along.{HoldsAlong}
-use Rattle.node_ends.specs.Work as node
+use Rattle.node_solver.specs.Work as node
 
 abbrev pub was_handled : End → Bool
 was_handled Leaf = true

@@ -1,13 +1,14 @@
 //! The search of a program over tables that are built for it.
 ghost use Rattle.std.specs.Prelude.{◌≡◌, ◌<◌, ◌≤◌, ◌+◌, IfOk, length};
 ghost use Rattle.stow_data.specs.Shipment.{IsCargo};
-ghost use Rattle.node_ends.specs.Work.{most_rehandles};
+ghost use Rattle.node_solver.specs.Work.{most_rehandles};
 ghost use Rattle.search_core.specs.Bags.{Every};
 ghost use Rattle.steal_pool.specs.Found.{IsFound};
-ghost use Rattle.search_crew.specs.Starts.{IsAsked};
-ghost use Rattle.search_crew.specs.Tallied.{IsTallied};
+ghost use Rattle.parallel_search.specs.Starts.{IsAsked};
+ghost use Rattle.parallel_search.specs.Tallied.{IsTallied};
 
-use node_ends::Desk;
+use heuristic::Planner;
+use node_solver::NodeSolver;
 use node_work::{BaseMatrix, TableSolver, Tables};
 use std::alloc::Global;
 use std::sync::Wait;
@@ -15,30 +16,29 @@ use std::thread::Threads;
 use steal_pool::Found;
 use stow_data::NoMemory;
 use stow_io::Gate;
-use voyage_guess::Planner;
 use zero_one_model::Model;
 
-// So many desks over the tables. The last one, which is the first worker's, has this planner.
-fn desks_over<'a>(
+// So many solvers over the tables. The last one, which is the first worker's, has this planner.
+fn solvers_over<'a>(
     alloc: Global,
     tables: &'a Tables<'a>,
     planner: Planner,
     workers: usize,
-) -> Result<Vec<Desk<TableSolver<'a>>>, NoMemory>
+) -> Result<Vec<NodeSolver<TableSolver<'a>>>, NoMemory>
     requires { 0 < workers }
-    ensures many { IfOk result (λ desks. length desks.items ≡ workers) }
-    ensures each { IfOk result (λ desks. Every (λ desk. desk ≡ tables.now) desks.items) }
+    ensures many { IfOk result (λ solvers. length solvers.items ≡ workers) }
+    ensures each { IfOk result (λ solvers. Every (λ solver. solver ≡ tables.now) solvers.items) }
 {
-    let mut desks = Vec::new(alloc);
+    let mut solvers = Vec::new(alloc);
     for _ in 1..workers {
         let other = planner.beside(alloc)?;
-        desks.push(Desk::of(TableSolver::new(tables, Some(other))))?;
+        solvers.push(NodeSolver::of(TableSolver::new(tables, Some(other))))?;
     }
-    desks.push(Desk::of(TableSolver::new(tables, Some(planner))))?;
-    Ok(desks)
+    solvers.push(NodeSolver::of(TableSolver::new(tables, Some(planner))))?;
+    Ok(solvers)
 }
 
-// Searches at so many desks over these tables.
+// Searches with so many solvers over these tables.
 fn search_together<G: Gate + Sync, R: Threads + Wait + Sync>(
     rt: &R,
     alloc: Global,
@@ -53,9 +53,9 @@ fn search_together<G: Gate + Sync, R: Threads + Wait + Sync>(
     ensures found { IfOk result (IsFound tables.now start budget) }
     ensures tally { IfOk result (λ f. IsTallied 1024 workers f.journals f.tally) }
 {
-    let desks = desks_over(alloc, tables, planner, workers)?;
-    let spare = Desk::of(TableSolver::new(tables, None));
-    search_crew::search(rt, alloc, desks, spare, budget, start, gate)
+    let solvers = solvers_over(alloc, tables, planner, workers)?;
+    let spare = NodeSolver::of(TableSolver::new(tables, None));
+    parallel_search::search(rt, alloc, solvers, spare, budget, start, gate)
 }
 
 // Searches over the matrix of the program's base rows.
@@ -79,7 +79,7 @@ fn search_over<G: Gate + Sync, R: Threads + Wait + Sync>(
 
 /// Searches the program for a solution that costs less than the start, by 1 to 16 workers.
 ///
-/// Each worker has a desk, and a deque from which the others steal. There is a journal for each, and a last one for the caller. A desk's planner chooses the variables by which boxes are divided: the first worker's goes on from the given one, the others begin beside it, and share what is the same in every voyage.
+/// Each worker has a solver, and a deque from which the others steal. There is a journal for each, and a last one for the caller. A solver's planner chooses the variables by which boxes are divided: the first worker's goes on from the given one, the others begin beside it, and share what is the same in every voyage.
 pub fn search_program<G: Gate + Sync, R: Threads + Wait + Sync>(
     rt: &R,
     alloc: Global,

@@ -6,11 +6,11 @@ ghost use Rattle.plan_search.specs.Found.{IsCounted, IsPlanned, IsImproved};
 
 use crate::closing::plans_of;
 use crate::loaded::Counted;
-use kept_box::breaks_none;
+use heuristic::{HeuristicLimits, Planner};
 use node_work::root_bound;
+use partial_plan::breaks_none;
 use std::alloc::Global;
 use stow_data::{Cargo, NoMemory, Ship};
-use voyage_guess::{Planner, Wanted};
 use zero_one_model::{Box01, Model};
 
 /// How many voyages by chance are sailed where the budget is one node.
@@ -67,7 +67,7 @@ fn guessed(
     cargo: &Cargo,
     model: &Model,
     planner: &mut Planner,
-    wanted: Wanted,
+    limits: HeuristicLimits,
 ) -> Result<Option<Counted>, NoMemory>
     requires ship { model.now.ship ≡ ship.now }
     requires cargo { model.now.cargo ≡ cargo.now }
@@ -75,7 +75,7 @@ fn guessed(
     ensures { IfOk result (λ found. IfSome found (IsPlanned model.now)) }
 {
     let free = Box01::free(alloc, model)?;
-    planner.choose(model, &free, wanted)?;
+    planner.choose(model, &free, limits)?;
     let Some(full) = planner.full_box(alloc, model)? else {
         return Ok(None);
     };
@@ -110,13 +110,13 @@ pub fn improved(
         return Ok(first);
     }
     // Any voyage will do to begin with, since its stacks are planned anew again and again.
-    let wanted = Wanted {
+    let limits = HeuristicLimits {
         cut: u64::MAX,
         enough,
         runs: runs_of(budget),
         looks: looks_of(budget),
     };
-    match guessed(alloc, ship, cargo, model, planner, wanted)? {
+    match guessed(alloc, ship, cargo, model, planner, limits)? {
         Some(found) if found.count < first.count => Ok(found),
         _ => Ok(first),
     }

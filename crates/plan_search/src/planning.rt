@@ -9,13 +9,13 @@ use crate::loaded::loaded;
 use crate::run::search_tree;
 use bound_checker::settled_bound;
 use certificate::{Head, Tree};
+use heuristic::Planner;
 use model_bridge::bounds_are_of_voyages;
 use std::alloc::Global;
 use std::sync::Wait;
 use std::thread::Threads;
 use stow_data::{Cargo, NoMemory, PlanList, Ship};
 use stow_io::Gate;
-use voyage_guess::Planner;
 use zero_one_model::Model;
 
 /// A certificate, and the plans of calls 1 to N-1 where there are some.

@@ -5,6 +5,7 @@ ghost use Rattle.plan_search.specs.Found.{IsSearched, one_leaf};
 
 use crate::crew::search_program;
 use certificate::{End, Few, Record, Tree};
+use heuristic::Planner;
 use node_ledger::gather;
 use search_core::records_are_of_nodes;
 use std::alloc::Global;
@@ -13,7 +14,6 @@ use std::thread::Threads;
 use steal_pool::found_journals_prove;
 use stow_data::NoMemory;
 use stow_io::Gate;
-use voyage_guess::Planner;
 use zero_one_model::{Box01, Model};
 use zero_one_rows::{Row, rows_are_listed};
 

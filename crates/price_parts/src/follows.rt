@@ -4,7 +4,7 @@ ghost use Rattle.zero_one_rows.specs.Variables.{variables};
 
 use box_parts::{planned, step_down, write_count};
 use dual_bound::{Gauge, RowTable};
-use kept_box::{BaseMatrix, KeptBox};
+use partial_plan::{BaseMatrix, KeptBox};
 use std::alloc::Global;
 use stow_data::{Bytes, NoMemory, VarNo};
 use zero_one_model::{Box01, Model};

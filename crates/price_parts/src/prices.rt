@@ -7,7 +7,7 @@ ghost use Rattle.zero_one_rows.specs.Variables.{variables};
 use box_parts::{asked_of, write_count};
 use certificate::{KeptRaise, Record, Tree};
 use dual_bound::{AddNo, Gauge, Multipliers, Raised, RowTable, value};
-use kept_box::{BaseMatrix, KeptBox};
+use partial_plan::{BaseMatrix, KeptBox};
 use std::alloc::Global;
 use stow_data::{Bytes, NoMemory, VarNo};
 use zero_one_model::{Box01, Model};

@@ -4,10 +4,10 @@ ghost use Rattle.zero_one_rows.specs.Variables.{variables};
 
 use crate::words::write_count;
 use dual_bound::RowTable;
-use kept_box::BaseMatrix;
+use partial_plan::BaseMatrix;
+use row_sums::SumMatrix;
 use std::alloc::Global;
 use stow_data::{Bytes, NoMemory, Seq, VarNo};
-use sum_matrix::SumMatrix;
 use zero_one_model::Model;
 use zero_one_rows::Var;
 

@@ -16,7 +16,7 @@ use Rattle.certificate.specs.Entries.{same_row, entry_of}
 use Rattle.search_core.specs.Journals.{Anything, EndAllowed, branches, box_after, multipliers_after}
 use Rattle.search_core.specs.Machine.{Divides, IsTrail}
 use Rattle.search_core.proofs.Trails.{trail_more}
-use Rattle.node_ends.specs.Work.{IsNode, begins_at, EndsBranched}
+use Rattle.node_solver.specs.Work.{IsNode, begins_at, EndsBranched}
 
 module _ (m : Voyage) where
   divides_by : (value : ℕ) (b : Box) (o : Option (Multipliers Row)) (d : End) → branches d ≡ true → EndAllowed same_row (whole m) Anything value b o d → ((ms : Multipliers Row) × (o ≡ Some ms)) × Divides (whole m) b d

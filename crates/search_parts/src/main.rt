@@ -13,7 +13,7 @@
 //! - `root` raises multipliers of the tightened free box, so many times over.
 //! - `best` tells the greatest bound up to the number that the records prove as a tree.
 //! - `gauge` and `prices` follow such dives by the dual value: its box alone, or raised at each node too.
-//! - `work` ends the root against a cut; `nodes` goes down from the root by value 1 on one desk, so many times over; `again` begins the root and
+//! - `work` ends the root against a cut; `nodes` goes down from the root by value 1 with one state, so many times over; `again` begins the root and
 //!   the last node of such a way in turn.
 #![tactic(auto)]
 

@@ -1,16 +1,16 @@
 //! Nodes of the search.
 ghost use Rattle.std.specs.Prelude.{◌≡◌, ℕ, ◌≤◌, ◌+◌, ◌++◌, ◌∷◌, [], IfOk, OnOk};
 ghost use Rattle.stow_data.specs.Shipment.{IsCargo};
-ghost use Rattle.node_ends.specs.Work.{IsNode, EndsBranched, begins_at, most_rehandles};
+ghost use Rattle.node_solver.specs.Work.{IsNode, EndsBranched, begins_at, most_rehandles};
 ghost use Rattle.zero_one_rows.specs.Variables.{Voyage};
 
 use box_parts::write_count;
 use certificate::{Node, Path, Record, SharedRecord, Trail};
-use node_ends::Worked;
-use node_work::{BaseMatrix, Desk, Tables, work};
+use heuristic::Planner;
+use node_solver::Worked;
+use node_work::{BaseMatrix, Tables, WorkerState, work};
 use std::alloc::Global;
 use stow_data::{Bytes, NoMemory};
-use voyage_guess::Planner;
 use zero_one_model::Model;
 
 /// The most branches on the way to a node.
@@ -64,14 +64,19 @@ fn descend(alloc: Global, node: &mut Node, entry: Record) -> Result<(), NoMemory
 }
 
 /// Ends a node, and goes to its half of value 1 where it is divided. Whether it was.
-fn go_down(alloc: Global, desk: &mut Desk, node: &mut Node, cut: u64) -> Result<bool, NoMemory>
-    requires cargo { IsCargo desk.old.cargo }
-    requires trail { IsNode desk.old node.old }
-    requires cut { cut ≤ most_rehandles desk.old + 1 }
-    ensures same { desk.new ≡ desk.old }
-    ensures trail { OnOk result (IsNode desk.old node.new) }
+fn go_down(
+    alloc: Global,
+    state: &mut WorkerState,
+    node: &mut Node,
+    cut: u64,
+) -> Result<bool, NoMemory>
+    requires cargo { IsCargo state.old.cargo }
+    requires trail { IsNode state.old node.old }
+    requires cut { cut ≤ most_rehandles state.old + 1 }
+    ensures same { state.new ≡ state.old }
+    ensures trail { OnOk result (IsNode state.old node.new) }
 {
-    match desk.work(alloc, node, cut) {
+    match state.work(alloc, node, cut) {
         Worked::Branched(entry) => {
             descend(alloc, node, entry)?;
             Ok(true)
@@ -82,15 +87,15 @@ fn go_down(alloc: Global, desk: &mut Desk, node: &mut Node, cut: u64) -> Result<
 }
 
 /// Goes down from the root to where nothing is divided.
-fn bottom(alloc: Global, desk: &mut Desk, cut: u64) -> Result<Node, NoMemory>
-    requires cargo { IsCargo desk.old.cargo }
-    requires cut { cut ≤ most_rehandles desk.old + 1 }
-    ensures same { desk.new ≡ desk.old }
-    ensures trail { IfOk result (IsNode desk.old) }
+fn bottom(alloc: Global, state: &mut WorkerState, cut: u64) -> Result<Node, NoMemory>
+    requires cargo { IsCargo state.old.cargo }
+    requires cut { cut ≤ most_rehandles state.old + 1 }
+    ensures same { state.new ≡ state.old }
+    ensures trail { IfOk result (IsNode state.old) }
 {
     let mut node = root(alloc);
     for _ in 0..DEEPEST {
-        if !go_down(alloc, desk, &mut node, cut)? {
+        if !go_down(alloc, state, &mut node, cut)? {
             return Ok(node);
         }
     }
@@ -98,64 +103,78 @@ fn bottom(alloc: Global, desk: &mut Desk, cut: u64) -> Result<Node, NoMemory>
 }
 
 /// The nodes on so many ways from the root.
-fn go_down_often(alloc: Global, desk: &mut Desk, cut: u64, times: u64) -> Result<u64, NoMemory>
-    requires cargo { IsCargo desk.old.cargo }
-    requires cut { cut ≤ most_rehandles desk.old + 1 }
+fn go_down_often(
+    alloc: Global,
+    state: &mut WorkerState,
+    cut: u64,
+    times: u64,
+) -> Result<u64, NoMemory>
+    requires cargo { IsCargo state.old.cargo }
+    requires cut { cut ≤ most_rehandles state.old + 1 }
 {
     let mut nodes: u64 = 0;
     for _ in 0..times {
-        let node = bottom(alloc, desk, cut)?;
+        let node = bottom(alloc, state, cut)?;
         nodes = nodes.wrapping_add(node.path.len() as u64).wrapping_add(1);
     }
     Ok(nodes)
 }
 
-/// A fresh desk.
-fn desk_at<'a>(alloc: Global, model: &Model, tables: &'a Tables<'a>) -> Result<Desk<'a>, NoMemory>
-    ensures { IfOk result (λ desk. desk ≡ tables.now) }
+/// A fresh state.
+fn fresh_state<'a>(
+    alloc: Global,
+    model: &Model,
+    tables: &'a Tables<'a>,
+) -> Result<WorkerState<'a>, NoMemory>
+    ensures { IfOk result (λ state. state ≡ tables.now) }
 {
     let planner = Planner::new(alloc, model)?;
-    Desk::fresh(alloc, tables, planner)
+    WorkerState::fresh(alloc, tables, planner)
 }
 
 /// The nodes on ways from the root, told.
 fn write_nodes(
     alloc: Global,
     model: &Model,
-    desk: &mut Desk,
+    state: &mut WorkerState,
     times: u64,
     out: &mut Bytes,
 ) -> Result<(), NoMemory>
     requires cargo { IsCargo model.now.cargo }
-    requires voyage { desk.old ≡ model.now }
+    requires voyage { state.old ≡ model.now }
 {
     let cut = cut_at(model, u64::MAX);
-    let nodes = go_down_often(alloc, desk, cut, times)?;
+    let nodes = go_down_often(alloc, state, cut, times)?;
     write_count(out, b"nodes", nodes)
 }
 
 /// Begins a node, which closes at once at a cut of 0.
-fn begin(alloc: Global, desk: &mut Desk, node: &Node) -> Result<(), NoMemory>
-    requires cargo { IsCargo desk.old.cargo }
-    requires trail { IsNode desk.old node.now }
-    ensures same { desk.new ≡ desk.old }
+fn begin(alloc: Global, state: &mut WorkerState, node: &Node) -> Result<(), NoMemory>
+    requires cargo { IsCargo state.old.cargo }
+    requires trail { IsNode state.old node.now }
+    ensures same { state.new ≡ state.old }
 {
-    match desk.work(alloc, node, 0) {
+    match state.work(alloc, node, 0) {
         Worked::NoMemory => Err(NoMemory),
         Worked::Closed(_) | Worked::Branched(_) | Worked::Full { .. } => Ok(()),
     }
 }
 
 /// Begins a node and the root in turn, which both close at once at a cut of 0, so many times over.
-fn begin_both(alloc: Global, desk: &mut Desk, node: &Node, times: u64) -> Result<(), NoMemory>
-    requires cargo { IsCargo desk.old.cargo }
-    requires trail { IsNode desk.old node.now }
-    ensures same { desk.new ≡ desk.old }
+fn begin_both(
+    alloc: Global,
+    state: &mut WorkerState,
+    node: &Node,
+    times: u64,
+) -> Result<(), NoMemory>
+    requires cargo { IsCargo state.old.cargo }
+    requires trail { IsNode state.old node.now }
+    ensures same { state.new ≡ state.old }
 {
     let top = root(alloc);
     for _ in 0..times {
-        begin(alloc, desk, &top)?;
-        begin(alloc, desk, node)?;
+        begin(alloc, state, &top)?;
+        begin(alloc, state, node)?;
     }
     Ok(())
 }
@@ -164,20 +183,20 @@ fn begin_both(alloc: Global, desk: &mut Desk, node: &Node, times: u64) -> Result
 fn write_again(
     alloc: Global,
     model: &Model,
-    desk: &mut Desk,
+    state: &mut WorkerState,
     times: u64,
     out: &mut Bytes,
 ) -> Result<(), NoMemory>
     requires cargo { IsCargo model.now.cargo }
-    requires voyage { desk.old ≡ model.now }
+    requires voyage { state.old ≡ model.now }
 {
     let cut = cut_at(model, u64::MAX);
-    let node = bottom(alloc, desk, cut)?;
-    begin_both(alloc, desk, &node, times)?;
+    let node = bottom(alloc, state, cut)?;
+    begin_both(alloc, state, &node, times)?;
     write_count(out, b"records", node.trail.len())
 }
 
-/// What is done on one desk.
+/// What is done with one state.
 #[derive(Clone, Copy)]
 pub enum Ways {
     /// Ways from the root by value 1.
@@ -186,7 +205,7 @@ pub enum Ways {
     Again,
 }
 
-/// Ways on a desk of these tables.
+/// Ways with a state of these tables.
 fn write_ways_over(
     alloc: Global,
     model: &Model,
@@ -198,16 +217,16 @@ fn write_ways_over(
     requires cargo { IsCargo model.now.cargo }
     requires voyage { tables.now ≡ model.now }
 {
-    let mut desk = desk_at(alloc, model, tables)?;
+    let mut state = fresh_state(alloc, model, tables)?;
     let written = match ways {
-        Ways::Down => write_nodes(alloc, model, &mut desk, times, out),
-        Ways::Again => write_again(alloc, model, &mut desk, times, out),
+        Ways::Down => write_nodes(alloc, model, &mut state, times, out),
+        Ways::Again => write_again(alloc, model, &mut state, times, out),
     };
-    drop(desk);
+    drop(state);
     written
 }
 
-/// Ways from the root by value 1, so many times over on one desk.
+/// Ways from the root by value 1, so many times over with one state.
 pub fn write_ways(
     alloc: Global,
     model: &Model,

@@ -1,7 +1,7 @@
 //! Events, as lines name them.
 use crate::stop::Stop;
 use certificate::{Record, Tree};
-use record_judge::Event;
+use event_search::Event;
 use std::alloc::Global;
 use stow_data::{Word, WordList};
 

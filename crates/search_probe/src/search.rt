@@ -9,7 +9,7 @@ use crate::said::{say, say_cause, say_entry, say_number, say_path};
 use crate::stop::Stop;
 use certificate::Tree;
 use crossing_law::crossing_rows_hold;
-use record_judge::{Core, Ended, Event, RecordJudge};
+use event_search::{Core, Ended, Event, RecordJudge};
 use std::alloc::Global;
 use stow_data::{Bytes, NoMemory, Word};
 use stow_io::Folder;

@@ -1,6 +1,6 @@
 //! Lists of different lengths.
+use row_sums::FlatLists;
 use std::test::Fail;
-use sum_matrix::FlatLists;
 
 #[test]
 fn lists_of_different_lengths(rt: HostRuntime) -> Result<(), Fail> {

@@ -1,8 +1,8 @@
 -- What handling a node tells a seat.
 use Rattle.std.proofs.Common.{◌≡◌, ap}
-use Rattle.node_racks.specs.declared.view.View.{View}
-use Rattle.node_ends.specs.declared.worked.Worked.{Worked}
-use Rattle.node_ends.specs.declared.worked.Worked.TheVariants.{Closed, Branched, Full, NoMemory}
+use Rattle.shared_search.specs.declared.view.View.{View}
+use Rattle.node_solver.specs.declared.worked.Worked.{Worked}
+use Rattle.node_solver.specs.declared.worked.Worked.TheVariants.{Closed, Branched, Full, NoMemory}
 use Rattle.steal_pool.specs.UnderWay.{Tells}
 
 pub tells_tickets : (w : Worked) (v u : View) → Tells w v u → u.tickets ≡ v.tickets

@@ -6,12 +6,12 @@ use Rattle.certificate.specs.declared.tree.Record.{Record}
 use Rattle.search_core.specs.Bags.{weigh}
 use Rattle.search_core.specs.Journals.{Path}
 use Rattle.search_core.proofs.Weights.{weigh_append}
-use Rattle.node_racks.specs.declared.view.View.{View}
-use Rattle.node_racks.specs.declared.racks.Pass.{Pass}
-use Rattle.node_racks.specs.Racks.{puts_of, took_weight}
+use Rattle.shared_search.specs.declared.view.View.{View}
+use Rattle.shared_search.specs.declared.racks.Pass.{Pass}
+use Rattle.shared_search.specs.Racks.{puts_of, took_weight}
 use Rattle.zero_one_rows.specs.Variables.{Voyage}
-use Rattle.node_ends.specs.declared.worked.Worked.{Worked}
-use Rattle.node_ends.specs.declared.worked.Worked.TheVariants.{Closed, Branched, Full, NoMemory}
+use Rattle.node_solver.specs.declared.worked.Worked.{Worked}
+use Rattle.node_solver.specs.declared.worked.Worked.TheVariants.{Closed, Branched, Full, NoMemory}
 use Rattle.steal_pool.specs.declared.deeds.Deeds.{Deeds}
 use Rattle.steal_pool.specs.declared.deeds.Halves.{Halves}
 use Rattle.steal_pool.specs.Deeds.{Did}

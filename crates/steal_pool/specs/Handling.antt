@@ -2,10 +2,10 @@
 use Rattle.std.specs.Prelude.{ℕ, ◌≤◌, Option}
 use Rattle.zero_one_rows.specs.Variables.{Voyage}
 use Rattle.certificate.specs.declared.nodes.Node.{Node}
-use Rattle.node_racks.specs.declared.view.View.{View}
-use Rattle.node_racks.specs.Rule.{seen_at}
-use Rattle.node_ends.specs.Work.{begins_at, most_at, Works}
-use Rattle.node_ends.specs.declared.worked.Worked.{Worked}
+use Rattle.shared_search.specs.declared.view.View.{View}
+use Rattle.shared_search.specs.Rule.{seen_at}
+use Rattle.node_solver.specs.Work.{begins_at, most_at, Works}
+use Rattle.node_solver.specs.declared.worked.Worked.{Worked}
 use Rattle.steal_pool.specs.UnderWay.{Tells}
 use Rattle.steal_pool.specs.Deeds.{Did}
 use Rattle.steal_pool.specs.declared.deeds.Deeds.{Deeds}

@@ -1,7 +1,7 @@
 -- Counts of empty finds that rise.
 use Rattle.std.specs.Prelude.{◌≡◌, ℕ, ◌+◌, ◌<◌, ◌≤◌, ◌≢◌, min, List, length, slice_index_or}
-use Rattle.node_racks.specs.declared.racks.Pass.{Pass}
-use Rattle.node_racks.specs.Racks.{misses_of}
+use Rattle.shared_search.specs.declared.racks.Pass.{Pass}
+use Rattle.shared_search.specs.Racks.{misses_of}
 
 module _ {M : Type 0} where
   -- the deque of this number was found with nothing once more at least; a count stands still at its type's end

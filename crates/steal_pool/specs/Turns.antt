@@ -3,8 +3,8 @@ use Rattle.std.specs.Prelude.{◌≡◌, ℕ, ◌+◌, [], ◌∷◌, ◌++◌, 
 use Rattle.zero_one_rows.specs.Variables.{Voyage}
 use Rattle.certificate.specs.declared.nodes.Node.{Node}
 use Rattle.search_core.specs.Bags.{weigh}
-use Rattle.node_racks.specs.Rule.{one_over, with_ticket}
-use Rattle.node_racks.specs.Racks.{took_weight, put_weight}
+use Rattle.shared_search.specs.Rule.{one_over, with_ticket}
+use Rattle.shared_search.specs.Racks.{took_weight, put_weight}
 use Rattle.steal_pool.specs.declared.deeds.Deeds.{Deeds}
 use Rattle.steal_pool.specs.declared.deeds.Halves.{Halves}
 use Rattle.steal_pool.specs.declared.job.Job.{Job}

@@ -1,15 +1,15 @@
 //! The work on one node by the best value that all know.
 ghost use Rattle.std.specs.Prelude.{◌≡◌, ◌≤◌, ◌+◌, ℕ, IfOk};
 ghost use Rattle.stow_data.specs.Shipment.{IsCargo};
-ghost use Rattle.node_ends.specs.Work.{IsNode, most_rehandles, node_of};
+ghost use Rattle.node_solver.specs.Work.{IsNode, most_rehandles, node_of};
 ghost use Rattle.steal_pool.specs.Handling.{IsHandled};
 ghost use Rattle.steal_pool.specs.UnderWay.{Tells};
 ghost use Rattle.steal_pool.specs.Deeds.{EachHalf, Flow, IsDone, halves_weight, on_nodes};
 
 use crate::deeds::{Deeds, Halves};
 use certificate::Node;
-use node_ends::{Desk, Solver, Worked};
-use node_racks::{Board, Seat};
+use node_solver::{NodeSolver, Solver, Worked};
+use shared_search::{Board, Seat};
 use std::alloc::Global;
 use stow_data::NoMemory;
 
@@ -24,30 +24,30 @@ fn tell(board: &Board, seat: &mut Seat, ended: &Worked)
     }
 }
 
-/// Handles a node for which a ticket was drawn: on the worker's desk, against the best value.
+/// Handles a node for which a ticket was drawn: with the worker's solver, against the best value.
 pub fn handle<S: Solver>(
     alloc: Global,
-    desk: &mut Desk<S>,
+    solver: &mut NodeSolver<S>,
     board: &Board,
     seat: &mut Seat,
     deeds: &mut Deeds,
     node: Node,
 ) -> Result<Option<Halves>, NoMemory>
-    requires cargo { IsCargo desk.old.cargo }
-    requires start { seat.old.view.start ≤ most_rehandles desk.old + 1 }
+    requires cargo { IsCargo solver.old.cargo }
+    requires start { seat.old.view.start ≤ most_rehandles solver.old + 1 }
     requires seat { seat.old.board ≡ board.now.id }
-    requires node { IsNode desk.old node }
-    ensures same { desk.new ≡ desk.old }
+    requires node { IsNode solver.old node }
+    ensures same { solver.new ≡ solver.old }
     ensures seat { seat.new.board ≡ seat.old.board }
     ensures over { seat.new.view.over ≡ seat.old.view.over }
     ensures tickets { seat.new.view.tickets ≡ seat.old.view.tickets }
-    ensures handled { IfOk result (IsHandled desk.old node seat.old.view seat.new.view deeds.old deeds.new) }
-    ensures halves { IfOk result (EachHalf (IsNode desk.old)) }
-    ensures done { IfOk result (λ halves. (start : ℕ) (came gone : Flow) → IsDone desk.old start seat.old.view 1 deeds.old came (λ h. gone h + h (node_of desk.old node))
-        → IsDone desk.old start seat.new.view 0 deeds.new came (λ h. gone h + halves_weight (on_nodes desk.old h) halves)) }
+    ensures handled { IfOk result (IsHandled solver.old node seat.old.view seat.new.view deeds.old deeds.new) }
+    ensures halves { IfOk result (EachHalf (IsNode solver.old)) }
+    ensures done { IfOk result (λ halves. (start : ℕ) (came gone : Flow) → IsDone solver.old start seat.old.view 1 deeds.old came (λ h. gone h + h (node_of solver.old node))
+        → IsDone solver.old start seat.new.view 0 deeds.new came (λ h. gone h + halves_weight (on_nodes solver.old h) halves)) }
 {
     let cut = board.best(seat);
-    let ended = desk.work(alloc, &node, cut);
+    let ended = solver.work(alloc, &node, cut);
     tell(board, seat, &ended);
     deeds.end(alloc, node, ended)
 }

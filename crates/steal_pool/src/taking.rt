@@ -2,13 +2,13 @@
 ghost use Rattle.std.specs.Prelude.{◌≡◌, ℕ, ◌+◌, ◌<◌, [], IfOk, OnOk, IfSome, IfNone, length};
 ghost use Rattle.certificate.specs.declared.nodes.Node.{Node};
 ghost use Rattle.search_core.specs.Bags.{weigh, Every};
-ghost use Rattle.node_racks.specs.Racks.{IsPassAt, puts_of, room_at, took_weight, put_weight};
+ghost use Rattle.shared_search.specs.Racks.{IsPassAt, puts_of, room_at, took_weight, put_weight};
 ghost use Rattle.steal_pool.specs.Deeds.{EachHalf, halves_weight};
 ghost use Rattle.steal_pool.specs.Rising.{AllRose, OthersRose, NoneFell};
 
 use crate::deeds::Halves;
 use certificate::Node;
-use node_racks::{Pass, Rack, Wanted};
+use shared_search::{Pass, Rack, Wanted};
 use stow_data::NoMemory;
 
 // A node stolen from any other worker, the next one first.

@@ -9,8 +9,8 @@ use crate::job::Job;
 use crate::signs::Signs;
 use crate::taking::{get, lay_halves};
 use certificate::Node;
-use node_ends::Solver;
-use node_racks::{Board, Rack, Wanted};
+use node_solver::Solver;
+use shared_search::{Board, Rack, Wanted};
 use std::alloc::Global;
 use stow_data::NoMemory;
 use stow_io::Gate;
@@ -34,16 +34,16 @@ fn work_off<M: Wanted, S: Solver>(
     job: &mut Job<M, S>,
     node: Node,
 ) -> Result<(), NoMemory>
-    requires job { IsJob M.meets rack.now board.now job.old.desk 1 (node ∷ []) job.old }
-    ensures job { OnOk result (IsJob M.meets rack.now board.now job.old.desk 0 [] job.new) }
+    requires job { IsJob M.meets rack.now board.now job.old.solver 1 (node ∷ []) job.old }
+    ensures job { OnOk result (IsJob M.meets rack.now board.now job.old.solver 0 [] job.new) }
     ensures number { job.new.pass.number ≡ job.old.pass.number }
     ensures over { job.new.seat.view.over ≡ job.old.seat.view.over }
     ensures tickets { job.new.seat.view.tickets ≡ job.old.seat.view.tickets }
-    ensures handled { OnOk result (IsWorkedOff job.old.desk node job.old job.new) }
+    ensures handled { OnOk result (IsWorkedOff job.old.solver node job.old job.new) }
 {
     let halves = handle(
         alloc,
-        &mut job.desk,
+        &mut job.solver,
         board,
         &mut job.seat,
         &mut job.deeds,
@@ -62,11 +62,11 @@ pub fn turn<M: Wanted, S: Solver, G: Gate>(
     gate: &G,
     job: &mut Job<M, S>,
 ) -> Result<Turned, NoMemory>
-    requires job { IsJob M.meets rack.now board.now job.old.desk 0 [] job.old }
+    requires job { IsJob M.meets rack.now board.now job.old.solver 0 [] job.old }
     requires none_over { job.old.seat.view.over ≡ 0 }
-    ensures job { OnOk result (IsJob M.meets rack.now board.now job.old.desk 0 [] job.new) }
+    ensures job { OnOk result (IsJob M.meets rack.now board.now job.old.solver 0 [] job.new) }
     ensures number { job.new.pass.number ≡ job.old.pass.number }
-    ensures came { IfOk result (λ turned. CameTo job.old.desk turned job.old job.new) }
+    ensures came { IfOk result (λ turned. CameTo job.old.solver turned job.old job.new) }
     ensures over { IfOk result (λ turned. turned ≢ Spent → job.new.seat.view.over ≡ 0) }
 {
     let Some(node) = get(rack, &mut job.pass, &mut job.aside) else {

@@ -7,10 +7,10 @@ use Rattle.proof_trees.specs.Program.{sum_to, where_set}
 use Rattle.proof_trees.specs.Boxes.{at, greatest}
 use Rattle.zero_one_rows.specs.Variables.{variables}
 use Rattle.zero_one_rows.specs.Rows.{whole}
-use Rattle.base_matrix.specs.declared.entries.Term.{Term}
+use Rattle.row_matrix.specs.declared.entries.Term.{Term}
 use Rattle.dual_bound.proofs.Summing.{none_yet, further, all_of, all_taken}
 use Rattle.dual_bound.proofs.Touched.{var_at, vars_long, inside_at, coef_at, small_at, coef_none}
-use Rattle.base_matrix.proofs.Rows.{brings_none}
+use Rattle.row_matrix.proofs.Rows.{brings_none}
 use Rattle.bound_checker.proofs.forcing.most_of.Goals as goal
 
 pub loop-term-init : goal.loop-term-init

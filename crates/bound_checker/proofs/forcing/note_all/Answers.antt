@@ -6,13 +6,13 @@ use Rattle.std.proofs.lemmas.Int.{to_z-of_z}
 use Rattle.proof_trees.specs.Boxes.{Box}
 use Rattle.zero_one_rows.specs.Variables.{variables}
 use Rattle.zero_one_rows.specs.Rows.{whole}
-use Rattle.base_matrix.specs.declared.entries.Term.{Term}
+use Rattle.row_matrix.specs.declared.entries.Term.{Term}
 use Rattle.dual_bound.proofs.Touched.{var_at, vars_long, inside_at, coef_at, coef_none}
-use Rattle.kept_box.specs.Forced.{stepped}
-use Rattle.kept_box.proofs.Landing.{tight_by}
-use Rattle.kept_box.proofs.Freeing.{noted_none, noted_more}
-use Rattle.base_matrix.proofs.Summing.{all_taken}
-use Rattle.kept_box.proofs.Walking.{Partly, step_length, listed_none, listed_more, listed_all}
+use Rattle.partial_plan.specs.Forced.{stepped}
+use Rattle.partial_plan.proofs.Landing.{tight_by}
+use Rattle.partial_plan.proofs.Freeing.{noted_none, noted_more}
+use Rattle.row_matrix.proofs.Summing.{all_taken}
+use Rattle.partial_plan.proofs.Walking.{Partly, step_length, listed_none, listed_more, listed_all}
 use Rattle.bound_checker.proofs.forcing.note_all.Goals as goal
 
 pub loop-term-init : goal.loop-term-init

@@ -3,8 +3,8 @@ use Rattle.std.specs.Prelude.{nat_eq}
 use Rattle.std.specs.List.{list_any}
 use Rattle.zero_one_rows.specs.Variables.{variables}
 use Rattle.zero_one_rows.specs.Rows.{whole}
-use Rattle.kept_box.specs.Fixing.{Fixes}
-use Rattle.kept_box.proofs.Walking.{Partly}
+use Rattle.partial_plan.specs.Fixing.{Fixes}
+use Rattle.partial_plan.proofs.Walking.{Partly}
 use Rattle.bound_checker.proofs.forcing.note_all.Given as goal
 
 abbrev pub invariant-loop-term : goal.invariant-loop-term

@@ -2,8 +2,8 @@ use Rattle.std.proofs.Common.{rules, ◌≡◌, [], ◌∷◌, ◌++◌, None, S
 use Rattle.std.specs.Prelude.{slice_get}
 use Rattle.std.proofs.lemmas.Option.{get_or_from_slice_get}
 use Rattle.proof_trees.specs.Boxes.{Box, at}
-use Rattle.kept_box.specs.Fixing.{Fixes}
-use Rattle.kept_box.proofs.Freeing.{fixes_one}
+use Rattle.partial_plan.specs.Fixing.{Fixes}
+use Rattle.partial_plan.proofs.Freeing.{fixes_one}
 use Rattle.bound_checker.proofs.forcing.note_one.Goals as goal
 
 pub returns-in_ok-push-clause-noted : goal.returns-in_ok-push-clause-noted

@@ -2,7 +2,7 @@ use Rattle.std.proofs.Common.{arith, ◌≡◌, ◌<◌, ◌∙◌, ap, refl, sy
 use Rattle.std.proofs.lemmas.List.{length-set, drop_all}
 use Rattle.std.proofs.lemmas.Option.{get_or_from_slice_get}
 use Rattle.proof_trees.specs.Boxes.{Box, at}
-use Rattle.kept_box.proofs.Freeing.{freed_length}
+use Rattle.partial_plan.proofs.Freeing.{freed_length}
 use Rattle.bound_checker.proofs.Following.{Nears, near_first, near_more, near_last}
 use Rattle.bound_checker.proofs.priced_box.follow.Goals as goal
 

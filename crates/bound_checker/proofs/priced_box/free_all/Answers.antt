@@ -1,7 +1,7 @@
 use Rattle.std.proofs.Common.{arith, ◌≡◌, ◌<◌, ◌∙◌, ap, length, get_or}
 use Rattle.std.proofs.lemmas.List.{length-set, take_all}
 use Rattle.proof_trees.specs.Boxes.{Box}
-use Rattle.kept_box.specs.Fixing.{freed}
+use Rattle.partial_plan.specs.Fixing.{freed}
 use Rattle.bound_checker.proofs.Following.{free_more}
 use Rattle.bound_checker.proofs.priced_box.free_all.Goals as goal
 

@@ -1,7 +1,7 @@
 use Rattle.std.proofs.Common.{◌≡◌, length, take}
 use Rattle.zero_one_rows.specs.declared.program.Row.{Row}
 use Rattle.proof_trees.specs.Multipliers.{Multipliers}
-use Rattle.kept_box.specs.Fixing.{freed}
+use Rattle.partial_plan.specs.Fixing.{freed}
 use Rattle.bound_checker.specs.Sums.{Carries, CarriesSome}
 use Rattle.bound_checker.proofs.priced_box.free_all.Given as goal
 

@@ -7,7 +7,7 @@ use Rattle.certificate.specs.declared.refusals.BoundNo.{BoundNo}
 use Rattle.certificate.specs.declared.refusals.BoundNo.TheVariants.{NoMemory}
 use Rattle.bound_checker.specs.Faults.{step_fault}
 use Rattle.bound_checker.proofs.Bounding.{if_err_at}
-use Rattle.kept_box.proofs.Freeing.{noted_none, noted_more, freed_length}
+use Rattle.partial_plan.proofs.Freeing.{noted_none, noted_more, freed_length}
 use Rattle.bound_checker.proofs.InOrder.{take_over}
 use Rattle.bound_checker.proofs.Stepping.{box_more, none_more, some_here}
 use Rattle.bound_checker.proofs.steps.tighten_all.Goals as goal

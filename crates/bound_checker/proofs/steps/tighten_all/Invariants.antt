@@ -2,7 +2,7 @@ use Rattle.std.proofs.Common.{◌≡◌, ℕ, List, ◌++◌, length, take, None
 use Rattle.zero_one_rows.specs.Variables.{variables}
 use Rattle.zero_one_rows.specs.Rows.{whole}
 use Rattle.proof_trees.specs.Boxes.{tightened}
-use Rattle.kept_box.specs.Fixing.{Fixes}
+use Rattle.partial_plan.specs.Fixing.{Fixes}
 use Rattle.bound_checker.specs.Faults.{step_fault}
 use Rattle.bound_checker.proofs.steps.tighten_all.Given as goal
 

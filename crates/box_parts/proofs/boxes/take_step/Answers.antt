@@ -1,6 +1,6 @@
 use Rattle.std.proofs.Common.{sym, ◌∙◌, ap, length}
 use Rattle.proof_trees.specs.Boxes.{Box}
-use Rattle.kept_box.proofs.Freeing.{freed_length}
+use Rattle.partial_plan.proofs.Freeing.{freed_length}
 use Rattle.box_parts.proofs.boxes.take_step.Goals as goal
 
 pub returns : goal.returns

@@ -1,7 +1,7 @@
 use Rattle.std.proofs.Common.{◌≡◌, ℕ, ◌<◌, ◌≤◌, length, pos, ◌*ℤ◌}
 use Rattle.std.specs.Int.RustNames.{unsigned_abs}
 use Rattle.zero_one_rows.specs.Rows.{whole}
-use Rattle.chain_gains.specs.Gaps.{number_at}
+use Rattle.crossing_pricing.specs.Gaps.{number_at}
 use Rattle.dual_bound.proofs.costs.first_costs.Given as goal
 
 abbrev pub invariant-loop-v : goal.invariant-loop-v

@@ -2,7 +2,7 @@ use Rattle.std.proofs.Common.{◌≡◌, ℕ, ◌<◌, ◌≤◌, length, pos, �
 use Rattle.std.specs.Int.RustNames.{unsigned_abs}
 use Rattle.zero_one_rows.specs.Variables.{variables}
 use Rattle.zero_one_rows.specs.Rows.{whole}
-use Rattle.chain_gains.specs.Gaps.{number_at}
+use Rattle.crossing_pricing.specs.Gaps.{number_at}
 use Rattle.dual_bound.proofs.costs.reset.Given as goal
 
 abbrev pub invariant-loop-v : goal.invariant-loop-v

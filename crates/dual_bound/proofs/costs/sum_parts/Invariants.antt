@@ -3,7 +3,7 @@ use Rattle.std.specs.Int.RustNames.{unsigned_abs}
 use Rattle.proof_trees.specs.Program.{sum_to}
 use Rattle.proof_trees.specs.Boxes.{at}
 use Rattle.proof_trees.specs.Multipliers.{least}
-use Rattle.chain_gains.specs.Gaps.{number_at}
+use Rattle.crossing_pricing.specs.Gaps.{number_at}
 use Rattle.dual_bound.proofs.costs.sum_parts.Given as goal
 
 abbrev pub invariant-loop-v : goal.invariant-loop-v

@@ -15,6 +15,6 @@ pub returns-then-is_met-clause-none : goal.returns-then-is_met-clause-none
 returns-then-is_met-clause-none c = λ ok r at.
     let m : Voyage = c.args.model.now in
     let there : slice_get (base_rows m) c.args.number ≡ Some r = base_there m c.args.number r c.requires.number at in
-    let told : violated (whole c.args.face.now.voyage) c.args.face.now.known r ≡ not c.is_met.result = c.is_met.ensures r (subst (λ (v : Voyage). slice_get (base_rows v) c.args.number ≡ Some r) (sym c.requires.face) there) in
-    let met : violated (whole m) c.args.face.now.known r ≡ false = subst (λ (v : Voyage). violated (whole v) c.args.face.now.known r ≡ false) c.requires.face (told ∙ ap not c.if-is_met.true) in
-    met_flat m c.args.b.now c.args.m.now c.args.costs.now c.args.face.now.known r c.requires.whole c.requires.priced c.requires.leans met
+    let told : violated (whole c.args.minimizer.now.voyage) c.args.minimizer.now.known r ≡ not c.is_met.result = c.is_met.ensures r (subst (λ (v : Voyage). slice_get (base_rows v) c.args.number ≡ Some r) (sym c.requires.minimizer) there) in
+    let met : violated (whole m) c.args.minimizer.now.known r ≡ false = subst (λ (v : Voyage). violated (whole v) c.args.minimizer.now.known r ≡ false) c.requires.minimizer (told ∙ ap not c.if-is_met.true) in
+    met_flat m c.args.b.now c.args.m.now c.args.costs.now c.args.minimizer.now.known r c.requires.whole c.requires.priced c.requires.leans met

@@ -1,5 +1,5 @@
 use Rattle.std.proofs.Common.{[], get_or, ◌+◌, ◌*◌, ℕ, pos, ◌-ℤ◌}
-use Rattle.chain_gains.specs.Climbs.{over_pairs, worth_at}
+use Rattle.crossing_pricing.specs.Climbs.{over_pairs, worth_at}
 use Rattle.dual_bound.proofs.Offering.{offered_more}
 use Rattle.dual_bound.proofs.offers.best_offer.Goals as goal
 

@@ -1,5 +1,5 @@
 use Rattle.std.proofs.Common.{ℕ, ◌+◌, ◌*◌, ◌<◌, ◌≤◌, List, [], length, get_or, pos, ◌-ℤ◌, ◌≤ℤ◌}
-use Rattle.chain_gains.specs.Climbs.{over_pairs, Climb, worth_at}
+use Rattle.crossing_pricing.specs.Climbs.{over_pairs, Climb, worth_at}
 use Rattle.dual_bound.proofs.offers.best_offer.Given as goal
 
 abbrev pub invariant-loop-index : goal.invariant-loop-index

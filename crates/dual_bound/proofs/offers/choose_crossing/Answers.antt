@@ -2,7 +2,7 @@ use Rattle.std.proofs.Common.{arith, ◌<◌, ◌≤◌, ◌^◌, ℕ, ℤ, List
 use Rattle.std.specs.Int.RustNames.{unsigned_abs}
 use Rattle.zero_one_rows.specs.Variables.{variables}
 use Rattle.zero_one_rows.specs.Counted.{all_rows}
-use Rattle.chain_gains.specs.Gaps.{number_at}
+use Rattle.crossing_pricing.specs.Gaps.{number_at}
 use Rattle.dual_bound.proofs.Pricing.{has_room}
 use Rattle.dual_bound.proofs.offers.choose_crossing.Goals as goal
 

@@ -1,7 +1,7 @@
 use Rattle.std.proofs.Common.{rules, ◌≡◌, sym, subst, SFits, w64, List, ℤ}
 use Rattle.std.proofs.lemmas.Int.{to_z-of_z}
 use Rattle.zero_one_rows.specs.declared.program.Row.{Row}
-use Rattle.base_matrix.specs.declared.entries.Term.{Term}
+use Rattle.row_matrix.specs.declared.entries.Term.{Term}
 use Rattle.dual_bound.specs.Costs.{IsListed}
 use Rattle.dual_bound.specs.Rising.{RisesBy}
 use Rattle.dual_bound.proofs.rising.rising_of.Goals as goal

@@ -1,8 +1,8 @@
 use Rattle.std.proofs.Common.{rules, ◌≡◌, ℕ, ◌+◌, ◌∙◌, List, [], ◌∷◌, ◌++◌, Some, length, ap, sym, subst}
 use Rattle.std.specs.Prelude.{slice_get}
 use Rattle.zero_one_rows.specs.Counted.{all_rows, base_rows}
-use Rattle.base_matrix.specs.declared.entries.Term.{Term}
-use Rattle.base_matrix.specs.Terms.{AreTerms}
+use Rattle.row_matrix.specs.declared.entries.Term.{Term}
+use Rattle.row_matrix.specs.Terms.{AreTerms}
 use Rattle.dual_bound.specs.Kept.{AreCrossing}
 use Rattle.dual_bound.proofs.Keeping.{one_more}
 use Rattle.dual_bound.proofs.table.append_terms.Goals as goal

@@ -5,7 +5,7 @@ use Rattle.std.specs.Int.RustNames.{unsigned_abs}
 use Rattle.std.proofs.lemmas.List.Elements.{All-append, All-nil, All-cons}
 use Rattle.zero_one_rows.specs.Rows.{whole}
 use Rattle.zero_one_model.specs.Indexed.{Touches}
-use Rattle.base_matrix.specs.declared.entries.Term.{Term}
+use Rattle.row_matrix.specs.declared.entries.Term.{Term}
 use Rattle.dual_bound.proofs.Summing.{all_taken}
 use Rattle.dual_bound.proofs.Touched.{listed_inside, listed_terms}
 use Rattle.dual_bound.proofs.TermsMore.{vars_more, read_there}

@@ -1,6 +1,6 @@
 use Rattle.std.proofs.Common.{sym, subst}
 use Rattle.certificate.specs.declared.tree.Record.{Record}
-use Rattle.node_ends.specs.Work.{EndsClosed, EndsFull}
+use Rattle.node_solver.specs.Work.{EndsClosed, EndsFull}
 use Rattle.node_work.proofs.Ends.{full_closed, full_ends}
 use Rattle.node_work.proofs.ending.end_full.Goals as goal
 

@@ -1,6 +1,6 @@
 use Rattle.std.proofs.Common.{ℕ, ◌+◌, ◌<◌, length, drop, refl, sym, subst, ◌∙◌, ap, arith}
 use Rattle.std.proofs.lemmas.List.{drop_all}
-use Rattle.kept_box.proofs.Freeing.{noted_none, noted_more}
+use Rattle.partial_plan.proofs.Freeing.{noted_none, noted_more}
 use Rattle.proof_trees.specs.Boxes.{Box}
 use Rattle.node_work.specs.Adopting.{adopted_all}
 use Rattle.node_work.proofs.Folds.{rest_cons, here_all}

@@ -1,5 +1,5 @@
 use Rattle.std.proofs.Common.{◌≡◌, ℕ, List, ◌++◌, drop}
-use Rattle.kept_box.specs.Fixing.{Fixes}
+use Rattle.partial_plan.specs.Fixing.{Fixes}
 use Rattle.node_work.specs.Adopting.{adopted_all}
 use Rattle.node_work.proofs.retracing.adopt.Given as goal
 

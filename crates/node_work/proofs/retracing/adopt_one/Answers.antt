@@ -1,10 +1,10 @@
 use Rattle.std.proofs.Common.{◌≡◌, ◌<◌, ◌∷◌, [], Option, Bool, Some, None, length, sym, subst, ◌∙◌, ap}
 use Rattle.std.specs.Prelude.{slice_get}
 use Rattle.std.proofs.lemmas.Option.{get_or_from_slice_get, slice_get_within}
-use Rattle.kept_box.specs.Kept.{Kept}
+use Rattle.partial_plan.specs.Kept.{Kept}
 use Rattle.proof_trees.specs.Boxes.{Box}
-use Rattle.kept_box.specs.Fixing.{Fixes}
-use Rattle.kept_box.proofs.Freeing.{fixes_one}
+use Rattle.partial_plan.specs.Fixing.{Fixes}
+use Rattle.partial_plan.proofs.Freeing.{fixes_one}
 use Rattle.node_work.proofs.Adopting.{adopted_fixed, adopted_free}
 use Rattle.node_work.proofs.retracing.adopt_one.Goals as goal
 

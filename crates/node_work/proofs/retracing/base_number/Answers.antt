@@ -1,6 +1,6 @@
 use Rattle.std.proofs.Common.{◌<◌, length, arith}
 use Rattle.zero_one_rows.specs.Counted.{base_rows}
-use Rattle.base_matrix.proofs.BaseFirst.{base_place}
+use Rattle.row_matrix.proofs.BaseFirst.{base_place}
 use Rattle.node_work.proofs.retracing.base_number.Goals as goal
 
 pub returns-then-number-base_rows-clause-is : goal.returns-then-number-base_rows-clause-is

@@ -3,9 +3,9 @@ use Rattle.std.specs.Prelude.{slice_get}
 use Rattle.std.proofs.lemmas.Option.{get_or_from_slice_get, slice_get_within}
 use Rattle.proof_trees.specs.Boxes.{Box}
 use Rattle.zero_one_rows.specs.Variables.{Voyage, variables}
-use Rattle.kept_box.specs.Kept.{Kept}
-use Rattle.kept_box.specs.Fixing.{Fixes}
-use Rattle.kept_box.proofs.Freeing.{fixes_one}
+use Rattle.partial_plan.specs.Kept.{Kept}
+use Rattle.partial_plan.specs.Fixing.{Fixes}
+use Rattle.partial_plan.proofs.Freeing.{fixes_one}
 use Rattle.node_work.proofs.Halves.{always_numbered, is_free, half_is}
 use Rattle.node_work.proofs.retracing.halve.Goals as goal
 

@@ -3,7 +3,7 @@ use Rattle.std.proofs.lemmas.List.{drop_all}
 use Rattle.zero_one_rows.specs.declared.program.Row.{Row}
 use Rattle.zero_one_rows.specs.Rows.{whole}
 use Rattle.proof_trees.specs.Boxes.{Box, tightened}
-use Rattle.kept_box.proofs.Freeing.{noted_none, noted_more}
+use Rattle.partial_plan.proofs.Freeing.{noted_none, noted_more}
 use Rattle.node_work.proofs.Folds.{rest_cons, here_all}
 use Rattle.node_work.proofs.retracing.tighten_each.Goals as goal
 

@@ -1,7 +1,7 @@
 use Rattle.std.proofs.Common.{◌≡◌, ℕ, List, ◌++◌, drop}
 use Rattle.zero_one_rows.specs.Rows.{whole}
 use Rattle.proof_trees.specs.Boxes.{tightened}
-use Rattle.kept_box.specs.Fixing.{Fixes}
+use Rattle.partial_plan.specs.Fixing.{Fixes}
 use Rattle.node_work.proofs.retracing.tighten_each.Given as goal
 
 abbrev pub invariant-loop-row : goal.invariant-loop-row

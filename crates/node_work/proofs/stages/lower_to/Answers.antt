@@ -7,7 +7,7 @@ use Rattle.zero_one_rows.specs.Variables.{Voyage}
 use Rattle.zero_one_rows.specs.Rows.{whole}
 use Rattle.proof_trees.specs.Multipliers.{Multipliers}
 use Rattle.node_work.specs.declared.stages.Stage.{Stage}
-use Rattle.node_work.specs.Scales.{Staged}
+use Rattle.node_work.specs.DualStates.{Staged}
 use Rattle.node_work.proofs.Leading.{staged_last}
 use Rattle.node_work.proofs.stages.lower_to.Goals as goal
 

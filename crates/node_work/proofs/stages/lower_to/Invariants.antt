@@ -1,5 +1,5 @@
 use Rattle.std.proofs.Common.{◌≡◌, ◌≤◌, [], length, take}
-use Rattle.node_work.specs.Scales.{Staged}
+use Rattle.node_work.specs.DualStates.{Staged}
 use Rattle.node_work.proofs.stages.lower_to.Given as goal
 
 abbrev pub invariant-loop-alloc : goal.invariant-loop-alloc

@@ -1,5 +1,5 @@
 use Rattle.std.proofs.Common.{◌≤◌, take, length}
-use Rattle.node_work.specs.Scales.{Matches}
+use Rattle.node_work.specs.DualStates.{Matches}
 use Rattle.node_work.proofs.stages.stages_in_common.Given as goal
 
 abbrev pub invariant-loop-depth : goal.invariant-loop-depth

@@ -2,7 +2,7 @@ use Rattle.std.proofs.Common.{◌≤◌, ◌+◌, sym, subst, ◌∙◌}
 use Rattle.std.specs.Prelude.{IfOk}
 use Rattle.stow_data.specs.Shipment.{IsCargo}
 use Rattle.zero_one_rows.specs.Variables.{Voyage}
-use Rattle.node_ends.specs.Work.{IsNode, begins_at, most_at, most_rehandles, Works}
+use Rattle.node_solver.specs.Work.{IsNode, begins_at, most_at, most_rehandles, Works}
 use Rattle.node_work.proofs.working.work_afresh.Goals as goal
 
 pub work_by-requires-clause-cargo : goal.work_by-requires-clause-cargo

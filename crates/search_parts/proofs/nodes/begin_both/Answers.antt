@@ -1,6 +1,6 @@
 use Rattle.std.proofs.Common.{sym, subst, ◌∙◌}
 use Rattle.zero_one_rows.specs.Variables.{Voyage}
-use Rattle.node_ends.specs.Work.{IsNode}
+use Rattle.node_solver.specs.Work.{IsNode}
 use Rattle.search_parts.proofs.nodes.begin_both.Goals as goal
 
 pub begin-requires-in-loop-clause-trail : goal.begin-requires-in-loop-clause-trail

@@ -1,6 +1,6 @@
 use Rattle.std.proofs.Common.{sym, subst, ◌∙◌}
 use Rattle.zero_one_rows.specs.Variables.{Voyage}
-use Rattle.node_ends.specs.Work.{IsNode}
+use Rattle.node_solver.specs.Work.{IsNode}
 use Rattle.search_parts.proofs.nodes.bottom.Goals as goal
 
 pub go_down-requires-clause-trail : goal.go_down-requires-clause-trail

@@ -1,6 +1,6 @@
 use Rattle.std.proofs.Common.{ap, subst, ◌∙◌, arith}
-use Rattle.node_racks.specs.declared.view.View.{View}
-use Rattle.node_racks.specs.Rule.{seen_at}
+use Rattle.shared_search.specs.declared.view.View.{View}
+use Rattle.shared_search.specs.Rule.{seen_at}
 use Rattle.steal_pool.specs.UnderWay.{Tells}
 use Rattle.steal_pool.proofs.Steps.{if_ok, tells_over}
 use Rattle.steal_pool.proofs.Adding.{tells_tickets}
@@ -14,13 +14,13 @@ pub returns-clause-over : goal.returns-clause-over
 returns-clause-over g c = tells_over c.work-ended.result c.best-cut.new.seat.view c.tell.new.seat.view c.tell.ensures.told ∙ ap (λ (x : View). x.over) c.best-cut.ensures.view
 
 pub returns-clause-halves : goal.returns-clause-halves
-returns-clause-halves g c = if_ok c.end.result _ _ (λ halves did. halves_there c.args.desk.now c.args.node c.args.deeds.now c.end.new.self c.best-cut.result c.work-ended.result halves c.requires.node c.work-ended.ensures.worked did) c.end.ensures
+returns-clause-halves g c = if_ok c.end.result _ _ (λ halves did. halves_there c.args.solver.now c.args.node c.args.deeds.now c.end.new.self c.best-cut.result c.work-ended.result halves c.requires.node c.work-ended.ensures.worked did) c.end.ensures
 
 pub returns-clause-done : goal.returns-clause-done
 returns-clause-done g c =
     let told : Tells c.work-ended.result (seen_at c.args.seat.now.view c.best-cut.result) c.tell.new.seat.view
     = subst (λ (t : View). Tells c.work-ended.result t c.tell.new.seat.view) c.best-cut.ensures.view c.tell.ensures.told in
-    if_ok c.end.result _ _ (λ halves did start came gone way. goes_on c.args.desk.now start c.args.node came gone c.args.seat.now.view c.tell.new.seat.view c.args.deeds.now c.end.new.self c.best-cut.result c.work-ended.result halves
+    if_ok c.end.result _ _ (λ halves did start came gone way. goes_on c.args.solver.now start c.args.node came gone c.args.seat.now.view c.tell.new.seat.view c.args.deeds.now c.end.new.self c.best-cut.result c.work-ended.result halves
     c.best-cut.ensures.seen c.best-cut.ensures.offered c.best-cut.ensures.start c.requires.node c.work-ended.ensures.worked told did way) c.end.ensures
 
 pub returns-clause-tickets : goal.returns-clause-tickets

@@ -1,6 +1,6 @@
 use Rattle.std.proofs.Common.{◌≡◌, ◌+◌, ◌<◌, ◌%◌, ℕ, length}
 use Rattle.certificate.specs.declared.nodes.Node.{Node}
-use Rattle.node_racks.specs.Racks.{IsPassAt, puts_of, took_weight}
+use Rattle.shared_search.specs.Racks.{IsPassAt, puts_of, took_weight}
 use Rattle.steal_pool.specs.Rising.{Rose, NoneFell}
 use Rattle.steal_pool.proofs.taking.steal_any.Given as goal
 

@@ -1,7 +1,7 @@
 use Rattle.std.proofs.Common.{rules, ◌≡◌, List, SFits, w64, sym, subst}
 use Rattle.std.proofs.lemmas.Int.{to_z-of_z}
 use Rattle.zero_one_rows.specs.declared.program.Row.{Row}
-use Rattle.base_matrix.specs.declared.entries.Term.{Term}
+use Rattle.row_matrix.specs.declared.entries.Term.{Term}
 use Rattle.dual_bound.specs.Costs.{IsListed}
 use Rattle.bound_checker.proofs.named_rows.NamedRow.listed.Goals as goal
 

@@ -1,8 +1,8 @@
 use Rattle.std.proofs.Common.{rules, ◌≡◌, ◌<◌, ◌∙◌, ap, refl, sym, subst, ℕ, List, All, Some, ◌++◌, ◌∷◌, [], length, drop}
 use Rattle.std.proofs.lemmas.List.Elements.{All-drop}
 use Rattle.proof_trees.specs.Boxes.{Box}
-use Rattle.kept_box.specs.Fixing.{freed}
-use Rattle.kept_box.proofs.Freeing.{freed_length}
+use Rattle.partial_plan.specs.Fixing.{freed}
+use Rattle.partial_plan.proofs.Freeing.{freed_length}
 use Rattle.bound_checker.specs.declared.walk.Frame.{Frame}
 use Rattle.bound_checker.specs.declared.sums.Aside.{Aside}
 use Rattle.bound_checker.specs.Sums.{Carries, IsAside}

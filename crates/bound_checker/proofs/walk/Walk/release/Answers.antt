@@ -1,7 +1,7 @@
 use Rattle.std.proofs.Common.{◌≡◌, ◌<◌, ◌∙◌, ap, refl, sym, subst, ℕ, List, All, length, drop}
 use Rattle.std.proofs.lemmas.List.Elements.{All-drop}
 use Rattle.proof_trees.specs.Boxes.{Box}
-use Rattle.kept_box.specs.Fixing.{freed}
+use Rattle.partial_plan.specs.Fixing.{freed}
 use Rattle.bound_checker.specs.Sums.{Carries}
 use Rattle.bound_checker.proofs.walk.Walk.release.Goals as goal
 

@@ -1,6 +1,6 @@
 use Rattle.std.proofs.Common.{◌<◌, ◌∙◌, ap, refl, sym, subst, ℕ, List, All, length}
 use Rattle.proof_trees.specs.Boxes.{Box}
-use Rattle.kept_box.specs.Fixing.{freed}
+use Rattle.partial_plan.specs.Fixing.{freed}
 use Rattle.bound_checker.specs.Sums.{Carries}
 use Rattle.bound_checker.proofs.Raising.{carries_kept}
 use Rattle.bound_checker.proofs.Walks.{noted_past}

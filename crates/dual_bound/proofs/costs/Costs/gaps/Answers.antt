@@ -8,8 +8,8 @@ use Rattle.proof_trees.specs.Program.{sum_to, where_set}
 use Rattle.proof_trees.specs.Boxes.{at}
 use Rattle.zero_one_rows.specs.Variables.{variables}
 use Rattle.zero_one_rows.specs.Rows.{whole}
-use Rattle.base_matrix.specs.declared.entries.Term.{Term}
-use Rattle.chain_gains.specs.Gaps.{number_at, gap}
+use Rattle.row_matrix.specs.declared.entries.Term.{Term}
+use Rattle.crossing_pricing.specs.Gaps.{number_at, gap}
 use Rattle.dual_bound.proofs.Summing.{none_yet, further, all_of, all_taken}
 use Rattle.dual_bound.proofs.Touched.{var_at, vars_long, inside_at, coef_at, small_at, coef_none, times_zero}
 use Rattle.dual_bound.proofs.Pricing.{gap_none, gap_low}

@@ -3,7 +3,7 @@ use Rattle.std.specs.Int.RustNames.{unsigned_abs}
 use Rattle.proof_trees.specs.Boxes.{at}
 use Rattle.zero_one_rows.specs.Variables.{variables}
 use Rattle.zero_one_rows.specs.Rows.{whole}
-use Rattle.chain_gains.specs.Gaps.{number_at, gap}
+use Rattle.crossing_pricing.specs.Gaps.{number_at, gap}
 use Rattle.dual_bound.proofs.Summing.{sum_of_first}
 use Rattle.dual_bound.proofs.costs.Costs.gaps.Given as goal
 

@@ -5,8 +5,8 @@ use Rattle.std.proofs.lemmas.List.{length-set}
 use Rattle.zero_one_rows.specs.Variables.{variables}
 use Rattle.zero_one_rows.specs.Rows.{whole}
 use Rattle.proof_trees.specs.Boxes.{at}
-use Rattle.base_matrix.specs.declared.entries.Term.{Term}
-use Rattle.chain_gains.specs.Gaps.{number_at}
+use Rattle.row_matrix.specs.declared.entries.Term.{Term}
+use Rattle.crossing_pricing.specs.Gaps.{number_at}
 use Rattle.dual_bound.specs.Costs.{parts}
 use Rattle.dual_bound.proofs.Summing.{Lost, fresh, lost_more}
 use Rattle.dual_bound.proofs.Touched.{var_at, vars_long, inside_at, coef_at, small_at, all_lost}

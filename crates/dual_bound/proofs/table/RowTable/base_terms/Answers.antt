@@ -2,7 +2,7 @@ use Rattle.std.proofs.Common.{rules, ◌≡◌, subst}
 use Rattle.std.proofs.lemmas.Option.{IfSome_then}
 use Rattle.zero_one_rows.specs.declared.program.Row.{Row}
 use Rattle.zero_one_rows.specs.Variables.{Voyage}
-use Rattle.base_matrix.specs.Terms.{row_at, AreTerms}
+use Rattle.row_matrix.specs.Terms.{row_at, AreTerms}
 use Rattle.dual_bound.proofs.Keeping.{base_here}
 use Rattle.dual_bound.proofs.table.RowTable.base_terms.Goals as goal
 

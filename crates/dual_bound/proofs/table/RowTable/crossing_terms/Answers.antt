@@ -2,8 +2,8 @@ use Rattle.std.proofs.Common.{arith, ◌≡◌, ◌+◌, ◌-◌, ℕ, List, Som
 use Rattle.std.specs.Prelude.{slice_get}
 use Rattle.zero_one_rows.specs.Variables.{Voyage}
 use Rattle.zero_one_rows.specs.Counted.{all_rows}
-use Rattle.base_matrix.specs.declared.entries.Term.{Term}
-use Rattle.base_matrix.specs.Terms.{count, AreTerms}
+use Rattle.row_matrix.specs.declared.entries.Term.{Term}
+use Rattle.row_matrix.specs.Terms.{count, AreTerms}
 use Rattle.dual_bound.proofs.table.RowTable.crossing_terms.Goals as goal
 
 pub returns-then-index-len : goal.returns-then-index-len

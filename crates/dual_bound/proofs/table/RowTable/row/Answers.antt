@@ -4,8 +4,8 @@ use Rattle.std.proofs.lemmas.Int.{to_z-of_z}
 use Rattle.std.proofs.lemmas.Option.{get_or_from_slice_get}
 use Rattle.zero_one_rows.specs.Variables.{Voyage}
 use Rattle.zero_one_rows.specs.Counted.{all_rows}
-use Rattle.base_matrix.specs.Terms.{AreTerms}
-use Rattle.chain_gains.specs.Gaps.{number_at}
+use Rattle.row_matrix.specs.Terms.{AreTerms}
+use Rattle.crossing_pricing.specs.Gaps.{number_at}
 use Rattle.dual_bound.specs.Costs.{IsListed}
 use Rattle.dual_bound.specs.Kept.{IsRight}
 use Rattle.dual_bound.proofs.table.RowTable.row.Goals as goal

@@ -1,7 +1,0 @@
-use Rattle.std.proofs.Common.{ℕ, ◌∙◌, ap, subst}
-use Rattle.sum_matrix.specs.Transposed.{IsTransposed}
-use Rattle.sum_matrix.specs.Numbers.{numbers}
-use Rattle.base_matrix.proofs.building.turned_rows.Goals as goal
-
-pub returns-in-Ok-clause-turned : goal.returns-in-Ok-clause-turned
-returns-in-Ok-clause-turned c = subst (λ (k : ℕ). IsTransposed c.in_ok-lists.lists k c.in-Ok.turned) (c.numbers.ensures ∙ ap numbers c.numbering.ensures.same) c.in-Ok.ensures

@@ -1,5 +1,0 @@
-use Rattle.chain_gains.specs.Pairs.{AreGained}
-use Rattle.chain_gains.proofs.pairs.gaps_by_pair.Given as goal
-
-abbrev pub invariant-loop-v : goal.invariant-loop-v
-invariant-loop-v l = AreGained l.b l.reduced l.keys l.v l.gaps

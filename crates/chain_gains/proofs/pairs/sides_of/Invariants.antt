@@ -1,9 +1,0 @@
-use Rattle.std.proofs.Common.{◌≡◌, ℕ, ◌+◌, ◌<◌, [], length, get_or}
-use Rattle.chain_gains.specs.Pairs.{AreParts}
-use Rattle.chain_gains.proofs.pairs.sides_of.Given as goal
-
-abbrev pub invariant-loop-price : goal.invariant-loop-price
-invariant-loop-price l = record {
-  len : length l.prices ≡ l.price;
-  each : (q : ℕ) → q < l.price → AreParts l.model l.length (q + 1) (get_or l.prices q []);
-}

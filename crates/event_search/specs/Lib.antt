@@ -1,0 +1,10 @@
+pub mod JudgingEvents
+pub mod Events
+pub mod Cores
+pub mod Answered
+pub mod Nodes
+pub mod Standing
+pub mod Rounds
+pub mod Counting
+pub mod JudgeStates
+pub mod Judging

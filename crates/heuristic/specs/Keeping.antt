@@ -1,0 +1,10 @@
+-- The kept voyage, by how much there is.
+use Rattle.std.specs.Prelude.{◌≡◌, All, length}
+use Rattle.heuristic.specs.declared.kept.Kept.TheInside.{Inside}
+use Rattle.heuristic.specs.Ranges.{IsPlanned}
+
+-- for each stack its stays and its rehandles
+pub record IsKept (k : Inside) : Type 0 where
+  pub each_list : length k.stays.items ≡ k.sizes.stacks
+  pub each_count : length k.rehandles.items ≡ k.sizes.stacks
+  pub stays_in : All (λ list. All (IsPlanned k.sizes) list.items) k.stays.items

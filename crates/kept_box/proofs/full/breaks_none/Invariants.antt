@@ -1,5 +1,0 @@
-use Rattle.kept_box.proofs.Calming.{MetBelow}
-use Rattle.kept_box.proofs.full.breaks_none.Given as goal
-
-abbrev pub invariant-loop-k : goal.invariant-loop-k
-invariant-loop-k l = MetBelow l.model l.b l.k

@@ -1,9 +1,0 @@
-use Rattle.std.proofs.Common.{rules, ◌≡◌, true}
-use Rattle.kept_box.specs.Packing.{is_packing}
-use Rattle.kept_box.proofs.Idle.{idle_calm}
-use Rattle.kept_box.proofs.packing.is_idle.Goals as goal
-
-pub returns : goal.returns
-returns c = λ yes.
-    let packing : is_packing c.args.r.now ≡ true = search rules in
-    idle_calm c.args.model.now c.args.b.now c.args.r.now c.args.ones.now c.requires.row c.requires.whole packing c.requires.ones (c.leaves_out.ensures yes)

@@ -1,0 +1,10 @@
+pub mod Fixing
+pub mod Forced
+pub mod Full
+pub mod Packing
+pub mod Stopping
+pub mod Tightening
+pub mod PropagationState
+pub mod Looking
+pub mod Kept
+pub mod Keeping

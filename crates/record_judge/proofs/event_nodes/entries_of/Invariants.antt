@@ -1,7 +1,0 @@
-use Rattle.std.proofs.Common.{◌≡◌, map, take}
-use Rattle.zero_one_rows.specs.Variables.{Voyage}
-use Rattle.record_judge.specs.Nodes.{placed, told_entry}
-use Rattle.record_judge.proofs.event_nodes.entries_of.Given as goal
-
-abbrev pub invariant-loop-done : goal.invariant-loop-done
-invariant-loop-done l = (m : Voyage) → map (placed m) l.entries ≡ map (told_entry m l.ended) (take l.done-index l.ended)

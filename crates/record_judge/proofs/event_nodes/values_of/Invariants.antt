@@ -1,6 +1,0 @@
-use Rattle.std.proofs.Common.{◌≡◌, map, take}
-use Rattle.record_judge.specs.Nodes.{value_of}
-use Rattle.record_judge.proofs.event_nodes.values_of.Given as goal
-
-abbrev pub invariant-loop-step : goal.invariant-loop-step
-invariant-loop-step l = l.path ≡ map value_of (take l.step-index l.way)

@@ -1,6 +1,0 @@
-use Rattle.std.proofs.Common.{◌≡◌, ◌+◌, ◌*◌, drop}
-use Rattle.sum_matrix.specs.Sums.{class_names, number_in}
-use Rattle.sum_matrix.proofs.classes.number_of.Given as goal
-
-abbrev pub invariant-loop-index : goal.invariant-loop-index
-invariant-loop-index l = number_in (class_names l.ship.separations) l.name ≡ 2 * l.index + number_in (class_names (drop l.index l.ship.separations)) l.name

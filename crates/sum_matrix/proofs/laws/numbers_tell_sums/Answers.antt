@@ -1,8 +1,0 @@
-use Rattle.sum_matrix.proofs.Telling.{has_room, tell}
-use Rattle.sum_matrix.proofs.laws.numbers_tell_sums.Goals as goal
-
-pub returns-clause-room : goal.returns-clause-room
-returns-clause-room c = has_room
-
-pub returns-clause-tell : goal.returns-clause-tell
-returns-clause-tell c = tell

@@ -1,6 +1,0 @@
-use Rattle.std.proofs.Common.{arith}
-use Rattle.sum_matrix.proofs.Cuts.{begins_there}
-use Rattle.sum_matrix.proofs.lists.begin_of.Goals as goal
-
-pub returns : goal.returns
-returns c = begins_there c.args.ends.now c.args.index (omega arith) c.requires

@@ -1,6 +1,0 @@
-use Rattle.std.proofs.Common.{◌≡◌, All, length}
-use Rattle.voyage_guess.specs.Ranges.{IsPlanned}
-use Rattle.voyage_guess.proofs.kept.Kept.new.Given as goal
-
-abbrev pub invariant-loop-stack : goal.invariant-loop-stack
-invariant-loop-stack l = (length l.stays.items ≡ l._stack) × All (λ list. All (IsPlanned l.sizes) list.items) l.stays.items

@@ -1,6 +1,0 @@
-use Rattle.std.proofs.Common.{IfSome}
-use Rattle.voyage_guess.specs.Ranges.{IsOffer}
-use Rattle.voyage_guess.proofs.placing.Scene.best.Given as goal
-
-abbrev pub invariant-loop-stack : goal.invariant-loop-stack
-invariant-loop-stack l = IfSome l.best (IsOffer l.self.facts.now)

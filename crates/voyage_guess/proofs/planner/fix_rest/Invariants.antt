@@ -1,6 +1,0 @@
-use Rattle.std.proofs.Common.{◌≡◌, length}
-use Rattle.zero_one_rows.specs.Variables.{variables}
-use Rattle.voyage_guess.proofs.planner.fix_rest.Given as goal
-
-abbrev pub invariant-loop-x : goal.invariant-loop-x
-invariant-loop-x l = length l.b ≡ length (variables l.model)

@@ -1,5 +1,0 @@
-use Rattle.std.proofs.Common.{◌≡◌}
-use Rattle.voyage_guess.proofs.scope.Scope.fill.Given as goal
-
-abbrev pub invariant-draws : goal.invariant-draws
-invariant-draws l = l.self ≡ l.initial.self
