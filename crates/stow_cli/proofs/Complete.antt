@@ -26,7 +26,7 @@ use Rattle.stow_cli.specs.Complete.{AreGood, EndsOrder, EndsSearch, HaveDepartur
 use Rattle.stow_cli.specs.Cranes.{IsCranesTo, IsShared}
 use Rattle.stow_data.specs.Plans as stowed
 use Rattle.model_bridge.specs.Laws.{IsProblem}
-use Rattle.work_lists.specs.Answers.{SharedAs, ShowDepartures}
+use Rattle.stow_cli.specs.SharedOut.{SharedAs, ShowDepartures}
 use Rattle.voyage_files.proofs.OneInput.{one_inputs}
 use Rattle.voyage_files.proofs.OneNo.{taken_not_legal}
 use Rattle.stow_cli.proofs.OneCall.{in_time_not_turned, same_texts}

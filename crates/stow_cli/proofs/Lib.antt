@@ -3,6 +3,7 @@ pub mod Messages
 pub mod Works
 pub mod WrittenFiles
 pub mod OneCheck
+pub mod Alike
 pub mod OneCall
 pub mod Sharing
 pub mod OneAnswer

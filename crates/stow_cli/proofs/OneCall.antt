@@ -13,8 +13,8 @@ use Rattle.voyage_files.specs.declared.voyage.BookedVoyage.{BookedVoyage}
 use Rattle.voyage_files.specs.Names.{Names}
 use Rattle.voyage_files.specs.Inputs.{AreAccepted, AreInputs, IsPast, RefusesBookings, RefusesCall, RefusesProfile, TurnsDownAt}
 use Rattle.voyage_files.proofs.OneInput.{accepted_not_refused, one_content, one_inputs, turned_one}
-use Rattle.work_lists.specs.Answers.{SharedAs}
-use Rattle.work_lists.proofs.Alike.{alike}
+use Rattle.stow_cli.specs.SharedOut.{SharedAs}
+use Rattle.stow_cli.proofs.Alike.{alike}
 use Rattle.stow_cli.specs.Cranes.{AreAllTexts, AreInTime, IsCranesTo, IsShared}
 use Rattle.stow_cli.specs.Law.{BothShared}
 use Rattle.stow_cli.proofs.OneCheck.{one_texts}

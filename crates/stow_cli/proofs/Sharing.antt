@@ -16,7 +16,7 @@ use Rattle.voyage_files.specs.Names.{Names}
 use Rattle.voyage_files.specs.Inputs.{IsPast, TurnsDownAt}
 use Rattle.voyage_files.specs.Reading.{AreTakenAt, IsFoundAt}
 use Rattle.voyage_files.specs.Named.{IsStop}
-use Rattle.work_lists.specs.Answers.{SharedAs}
+use Rattle.stow_cli.specs.SharedOut.{SharedAs}
 use Rattle.stow_cli.specs.Checks.{AreTexts, IsFileName}
 use Rattle.stow_cli.specs.Cranes.{IsCranesRead, IsCranesTo, IsShared}
 use Rattle.stow_cli.proofs.Judging.{rose_before}

@@ -14,7 +14,7 @@ use Rattle.voyage_files.specs.Inputs.{AreInputs}
 use Rattle.voyage_files.specs.declared.answer.Answer.TheVariants as answer
 use Rattle.voyage_files.specs.declared.voyage.BookedVoyage.{BookedVoyage}
 use Rattle.stow_cli.specs.Answers.{IsAnswerTo}
-use Rattle.work_lists.specs.Answers.{ShowDepartures}
+use Rattle.stow_cli.specs.SharedOut.{ShowDepartures}
 use Rattle.stow_cli.specs.Cranes.{AreAllTexts}
 use Rattle.stow_cli.specs.Made.{made_inputs}
 use Rattle.stow_cli.specs.Voyages.{Overflows, voyage_of}

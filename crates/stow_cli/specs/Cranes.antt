@@ -6,7 +6,7 @@ use Rattle.voyage_files.specs.declared.answer.Answer.{Answer}
 use Rattle.voyage_files.specs.declared.voyage.BookedVoyage.{BookedVoyage}
 use Rattle.voyage_files.specs.Names.{Names}
 use Rattle.voyage_files.specs.Inputs.{AreInputs, IsPast, IsReadAt, TurnsDownAt}
-use Rattle.work_lists.specs.Answers.{SharedAs}
+use Rattle.stow_cli.specs.SharedOut.{SharedAs}
 use Rattle.stow_cli.specs.Checks.{AreTexts, IsFileName}
 use Rattle.stow_cli.specs.Voyages.{voyage_of}
 

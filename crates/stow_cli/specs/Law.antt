@@ -17,7 +17,7 @@ use Rattle.voyage_files.specs.Inputs.{AreInputs}
 use Rattle.stow_words.specs.declared.order.Order.{Order}
 use Rattle.stow_words.specs.declared.order.Order.TheVariants as order
 use Rattle.stow_cli.specs.Answers.{IsAnswerTo, PlanWithin}
-use Rattle.work_lists.specs.Answers.{SharesOut}
+use Rattle.stow_cli.specs.SharedOut.{SharesOut}
 use Rattle.stow_cli.specs.Cranes.{AreAllTexts, AreInTime}
 use Rattle.stow_cli.specs.Made.{behind, made_files, made_names, only_made}
 use Rattle.stow_cli.specs.Voyages.{voyage_of}

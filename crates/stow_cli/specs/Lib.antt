@@ -1,6 +1,7 @@
 pub mod Work
 pub mod Voyages
 pub mod Checks
+pub mod SharedOut
 pub mod Cranes
 pub mod Made
 pub mod Answers

@@ -7,11 +7,11 @@ ghost use Rattle.stow_cli.specs.Checks.{IsFileName};
 ghost use Rattle.stow_cli.specs.Cranes.{IsCranesRead, IsCranesTo, IsShared};
 
 use crate::departures::read_departures;
+use crate::sharing::answer_files;
 use std::alloc::Global;
 use stow_data::{CallNo, NoMemory};
 use stow_io::Folder;
 use voyage_files::{Answer, BookedVoyage, Found, Inputs, ReadStop, read_inputs_at};
-use work_lists::answer_files;
 
 /// The moves of a call of the voyage with the departures that stand in the departure files, shared out to so many cranes.
 pub fn cranes<'a, F: Folder>(

@@ -11,6 +11,7 @@ mod making;
 mod planning;
 mod process;
 mod refusing;
+mod sharing;
 mod showing;
 mod status;
 mod top;

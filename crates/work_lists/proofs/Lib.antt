@@ -2,4 +2,3 @@ mod Numbered
 mod Led
 mod Pairs
 mod Works
-pub mod Alike

@@ -1,11 +1,7 @@
-//! What the moves of a call are shared out as: the work list of cranes that the departure files of a voyage are answered.
+//! The work list of a call: its moves, shared out to cranes in rounds, as it is printed.
 #![tactic(auto)]
 
-mod answering;
-mod law;
 mod printing;
 mod sharing;
 
-pub use answering::answer_files;
-pub use law::one_answer;
 pub use sharing::work_list;

@@ -2,7 +2,7 @@
 ghost use Rattle.std.specs.Prelude.{◌≡◌, ◌≤◌, ◌<◌, ◌+◌, ◌-◌, ◌^◌, IfOk, Some, length, slice_get};
 ghost use Rattle.stowage_rules.specs.Departure.{HasArrival};
 ghost use Rattle.plan_files.specs.Checked.{HasLifts};
-ghost use Rattle.work_lists.specs.WorkLists.{IsWorkList, LeadsAt, departure_of};
+ghost use Rattle.work_lists.specs.WorkLists.{IsWorkList, LeadsAt, LiftsLeast, departure_of};
 
 use crate::printing::{shown_rounds, tasks_with};
 use crane_lists::{
@@ -51,6 +51,7 @@ fn shared_out(
     requires to { call ≤ length set.now.plans }
     requires some_crane { 1 ≤ cranes }
     requires leads { LeadsAt ship.now cargo.now set.now.plans call moves.now }
+    requires lifts { LiftsLeast ship.now cargo.now set.now.plans call moves.now }
     ensures { IfOk result (IsWorkList ship.now cargo.now set.now.plans call cranes) }
 {
     crane_lists_keep_the_work();

@@ -21,8 +21,9 @@ returns c =
     record {
       moves = moves;
       leads = c.requires.leads;
+      lifts = c.requires.lifts;
       rounds = rounds;
-      are_rounds = are_rounds ship cargo plans call c.args.cranes moves c.crane_lists_keep_the_work.ensures.work c.crane_lists_keep_the_work.ensures.leads c.requires.leads rounds list greedy;
+      are_rounds = are_rounds ship cargo plans call c.args.cranes moves c.crane_lists_keep_the_work.ensures.leads c.crane_lists_keep_the_work.ensures.lifts c.requires.leads c.requires.lifts rounds list greedy;
       is_least = is_least ship cargo plans call c.args.cranes moves c.least_rounds_bound_crane_lists.ensures c.least.result c.least.ensures;
       cranes_are = refl;
       moves_are = c.len-2.ensures;

@@ -10,7 +10,7 @@ use Rattle.voyage_files.specs.declared.refusals.JudgeNo.{JudgeNo}
 use Rattle.voyage_files.specs.declared.voyage.BookedVoyage.{BookedVoyage}
 use Rattle.voyage_files.specs.Lines.{line_of}
 use Rattle.voyage_files.proofs.OneNo.{one_taken, taken_not_legal}
-use Rattle.work_lists.specs.Answers.{AreAlike, RefusesFiles, SharedAs, SharesOut}
+use Rattle.stow_cli.specs.SharedOut.{AreAlike, RefusesFiles, SharedAs, SharesOut}
 
 module _ (v : BookedVoyage) (call cranes : ℕ) (texts : List (List ℕ)) (rules : IsShip v.ship) (shipped : IsCargo v.cargo) where
   not_both : (work : Work) (line : List ℕ) → SharesOut v call cranes texts work → RefusesFiles v texts line → ⊥

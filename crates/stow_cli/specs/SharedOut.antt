@@ -1,8 +1,7 @@
 -- What the departure files of a voyage are answered for a call.
 use Rattle.std.specs.Prelude.{◌≡◌, ◌≢◌, ℕ, List, [], map}
 use Rattle.stow_data.specs.Ship.{Ship}
-use Rattle.stow_data.specs.Profile.{IsShip}
-use Rattle.stow_data.specs.Shipment.{Cargo, IsCargo}
+use Rattle.stow_data.specs.Shipment.{Cargo}
 use Rattle.stow_data.specs.Plans.{Plan}
 use Rattle.baplie.specs.declared.parts.Message.{Message}
 use Rattle.plan_files.specs.Shown.{IsLegalFileSet, shown_by}
@@ -55,6 +54,3 @@ SharedAs v call cranes texts answer.Call = ⊥
 abbrev pub AreAlike : BookedVoyage → ℕ → ℕ → List (List ℕ) → Answer → Answer → Type 0
 AreAlike v call cranes texts (answer.Work work) (answer.Work other) = SharesOut v call cranes texts work × SharesOut v call cranes texts other
 AreAlike v call cranes texts a b = a ≡ b
-
-abbrev pub AnswersAgree : Type 0
-AnswersAgree = (v : BookedVoyage) (call cranes : ℕ) (texts : List (List ℕ)) (a b : Answer) → IsShip v.ship → IsCargo v.cargo → SharedAs v call cranes texts a → SharedAs v call cranes texts b → AreAlike v call cranes texts a b

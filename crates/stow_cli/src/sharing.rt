@@ -2,15 +2,15 @@
 ghost use Rattle.std.specs.Prelude.{◌≡◌, ◌≤◌, ◌<◌, ◌+◌, ◌^◌, [], All, IfOk, length};
 ghost use Rattle.stow_report.specs.CraneLists.{crane_text};
 ghost use Rattle.voyage_files.specs.Booked.{IsBooked};
-ghost use Rattle.work_lists.specs.Answers.{SharedAs};
+ghost use Rattle.stow_cli.specs.SharedOut.{SharedAs};
 
-use crate::sharing::work_list;
 use plan_files::FileSet;
 use std::alloc::Global;
 use stow_data::{Bytes, CallNo, NoMemory};
 use stow_io::{FileList, Finding, Work};
 use stow_report::{CraneReport, crane_list, refusal};
 use voyage_files::{Answer, BookedVoyage, JudgeNo, departures_in, line_of};
+use work_lists::work_list;
 
 /// No file, and what is printed of a work list as report.
 fn printed(alloc: Global, list: &CraneReport) -> Result<Work, NoMemory>
