@@ -9,11 +9,11 @@ use Rattle.stow_io.specs.Writing.{with_files}
 use Rattle.stow_gen.specs.Profile.{profile_text}
 use Rattle.stow_gen.specs.Bookings.{bookings_text}
 use Rattle.zero_one_model.specs.Building.{IsWithin}
-use Rattle.made_texts.specs.MadeShip.{made_ship}
-use Rattle.made_texts.specs.MadeBookings.{made_bookings}
-use Rattle.made_texts.proofs.ReadProfile.{profile_is_read}
-use Rattle.made_texts.proofs.ReadBookings.{made_is_read, made_rules}
-use Rattle.made_texts.proofs.Within.{rows_within, vars_within}
+use Rattle.stow_gen.specs.MadeShip.{made_ship}
+use Rattle.stow_gen.specs.MadeBookings.{made_bookings}
+use Rattle.stow_gen.proofs.ReadProfile.{profile_is_read}
+use Rattle.stow_gen.proofs.ReadBookings.{made_is_read, made_rules}
+use Rattle.stow_gen.proofs.Within.{rows_within, vars_within}
 use Rattle.voyage_files.specs.Inputs.{AreInputs, IsContent}
 use Rattle.voyage_files.proofs.Empty.{empty_settles}
 use Rattle.stow_cli.specs.Made.{bookings_name, made_inputs, made_names, only_made, profile_name}

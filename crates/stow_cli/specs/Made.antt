@@ -9,9 +9,9 @@ use Rattle.voyage_files.specs.Names.{Names, names_from}
 use Rattle.voyage_files.specs.declared.answer.Answer.{Answer}
 use Rattle.voyage_files.specs.declared.answer.Answer.TheVariants as answer
 use Rattle.voyage_files.specs.declared.voyage.BookedVoyage.{BookedVoyage}
-use Rattle.made_texts.specs.MadeShip.{made_ship}
-use Rattle.made_texts.specs.MadeBookings.{made_bookings}
-use Rattle.made_texts.specs.MadeVoyage.{made_cargo}
+use Rattle.stow_gen.specs.MadeShip.{made_ship}
+use Rattle.stow_gen.specs.MadeBookings.{made_bookings}
+use Rattle.stow_gen.specs.MadeVoyage.{made_cargo}
 
 -- the names of a made profile and of made bookings
 abbrev pub profile_name : List ℕ → List ℕ

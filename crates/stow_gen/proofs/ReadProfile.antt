@@ -4,9 +4,9 @@ use Rattle.std.specs.Prelude.{ok_or}
 use Rattle.std.specs.Str.{is_utf8}
 use Rattle.toml.specs.Parse.{parse_document}
 use Rattle.toml.proofs.OnLiterals.{toml_on_literals}
-use Rattle.made_texts.specs.MadeShip.{made_ship}
-use Rattle.made_texts.proofs.SpelledProfile.{spelled_profile, profile_is_spelled}
-use Rattle.made_texts.proofs.LowBytes.{low_utf8}
+use Rattle.stow_gen.specs.MadeShip.{made_ship}
+use Rattle.stow_gen.proofs.SpelledProfile.{spelled_profile, profile_is_spelled}
+use Rattle.stow_gen.proofs.LowBytes.{low_utf8}
 use Rattle.stow_gen.specs.Profile.{profile_text}
 use Rattle.stow_data.specs.Ship.{places}
 use Rattle.toml_values.specs.Values.{◌>>=◌}

@@ -13,7 +13,7 @@ use Rattle.stow_data.specs.Digits.{digit}
 use Rattle.stow_gen.specs.Words.{raw, told, only_if, seven_digits}
 use Rattle.stow_gen.specs.Draws.{after_lot, lot}
 use Rattle.stow_gen.specs.Bookings.{voyage_text, containers_text, container_text, calls_text, rest_text}
-use Rattle.made_texts.proofs.DrawnRanges.{lot_in_range}
+use Rattle.stow_gen.proofs.DrawnRanges.{lot_in_range}
 
 -- a byte of seven bits
 abbrev pub is_low : ℕ → Bool

@@ -8,11 +8,11 @@ use Rattle.toml.specs.Data.{string, integer}
 use Rattle.toml.specs.Tables.{Expression}
 use Rattle.stow_data.specs.Digits.{digit}
 use Rattle.stow_gen.specs.Words.{raw, told, seven_digits, only_if}
-use Rattle.made_texts.specs.MadeBookings.{id_of}
-use Rattle.made_texts.proofs.Numerals.{eighteen}
-use Rattle.made_texts.proofs.PlainStrings.{is_plain_byte}
-use Rattle.made_texts.proofs.Lines.{pair, header, number_line, text_line, header_line}
-use Rattle.made_texts.proofs.BareLines.{Bare}
+use Rattle.stow_gen.specs.MadeBookings.{id_of}
+use Rattle.stow_gen.proofs.Numerals.{eighteen}
+use Rattle.stow_gen.proofs.PlainStrings.{is_plain_byte}
+use Rattle.stow_gen.proofs.Lines.{pair, header, number_line, text_line, header_line}
+use Rattle.stow_gen.proofs.BareLines.{Bare}
 
 -- the line of the temperature, where the container is cooled
 abbrev pub temperature_lines : Bool → List Expression

@@ -7,9 +7,9 @@ use Rattle.toml.proofs.ReadLines.{run}
 use Rattle.toml.proofs.ReadValues.{item_join, item_join-none, item_join-push}
 use Rattle.stow_gen.specs.declared.draws.Lot.{Lot}
 use Rattle.stow_gen.specs.Draws.{after_lot, lot}
-use Rattle.made_texts.proofs.Lines.{pair}
-use Rattle.made_texts.specs.MadeBookings.{id_of}
-use Rattle.made_texts.proofs.ContainerLines.{lines_of}
+use Rattle.stow_gen.proofs.Lines.{pair}
+use Rattle.stow_gen.specs.MadeBookings.{id_of}
+use Rattle.stow_gen.proofs.ContainerLines.{lines_of}
 
 -- a string, and the items behind it
 abbrev pub text_item : List ℕ → Items → Items

@@ -3,7 +3,7 @@ use Rattle.std.proofs.Common.{◌≡◌, ℕ, List, [], ◌∷◌, ◌++◌, ref
 use Rattle.std.specs.Prelude.{codes, flat_map}
 use Rattle.stow_gen.specs.Words.{raw}
 use Rattle.stow_gen.specs.Profile.{profile_text, pairs_text, stack_text, bay_text, stacks_text, cover_text, in_hold, on_deck, bays}
-use Rattle.made_texts.proofs.Numerals.{one, two, three, four, six, ten, fourteen}
+use Rattle.stow_gen.proofs.Numerals.{one, two, three, four, six, ten, fourteen}
 
 -- ## Each part with its numerals
 

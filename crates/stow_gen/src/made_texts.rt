@@ -1,6 +1,4 @@
 //! The texts of a made ship are accepted, and the program of its voyage is within the limits, whatever its number.
-#![tactic(auto)]
-
 ghost use Rattle.std.specs.Prelude.{◌≡◌, ◌≤◌, ℕ, length, Ok};
 ghost use Rattle.stow_gen.specs.Profile.{profile_text};
 ghost use Rattle.stow_gen.specs.Bookings.{bookings_text};
@@ -10,9 +8,9 @@ ghost use Rattle.bookings.specs.Reading.{bookings_of};
 ghost use Rattle.bookings.specs.Rules.{IsBookings};
 ghost use Rattle.zero_one_rows.specs.Variables.{variables};
 ghost use Rattle.zero_one_rows.specs.Counted.{all_rows};
-ghost use Rattle.made_texts.specs.MadeShip.{made_ship};
-ghost use Rattle.made_texts.specs.MadeBookings.{made_bookings};
-ghost use Rattle.made_texts.specs.MadeVoyage.{made_voyage};
+ghost use Rattle.stow_gen.specs.MadeShip.{made_ship};
+ghost use Rattle.stow_gen.specs.MadeBookings.{made_bookings};
+ghost use Rattle.stow_gen.specs.MadeVoyage.{made_voyage};
 
 /// The readers accept the profile of the made ship and the bookings of each number: these texts are this ship and these
 /// bookings, which keep their rules.

@@ -10,8 +10,8 @@ use Rattle.zero_one_rows.specs.Variables.{all_kinds}
 use Rattle.zero_one_rows.specs.Crossing.{tallest}
 use Rattle.zero_one_rows.specs.Counted.{row_lists, rows_a_call, all_rows, all_chains, pairs_at, runs, stands_at}
 use Rattle.zero_one_rows.proofs.Counting.{base_count, all_count}
-use Rattle.made_texts.specs.MadeShip.{made_ship}
-use Rattle.made_texts.specs.MadeVoyage.{voyage_with}
+use Rattle.stow_gen.specs.MadeShip.{made_ship}
+use Rattle.stow_gen.specs.MadeVoyage.{voyage_with}
 
 -- ## Counts of the made ship, by computing
 

@@ -6,7 +6,7 @@ use Rattle.toml_writer.specs.Text.{key_text}
 use Rattle.toml.specs.Data.{Data, string, integer}
 use Rattle.toml.specs.Tables.{Expression, key_value, array_table}
 use Rattle.toml.specs.Text.{IsLineText}
-use Rattle.made_texts.proofs.PlainStrings.{is_plain_byte, plain_string}
+use Rattle.stow_gen.proofs.PlainStrings.{is_plain_byte, plain_string}
 
 -- a key with its value
 abbrev pub pair : List ℕ → Data → Expression

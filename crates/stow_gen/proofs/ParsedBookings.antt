@@ -7,12 +7,12 @@ use Rattle.toml.proofs.ReadLines.{AllPrinted}
 use Rattle.stow_gen.specs.Words.{raw}
 use Rattle.stow_gen.specs.Draws.{after_lot, lot}
 use Rattle.stow_gen.specs.Bookings.{voyage_text, containers_text, container_text}
-use Rattle.made_texts.proofs.Lines.{text_line}
-use Rattle.made_texts.proofs.PlainStrings.{plain_string}
-use Rattle.made_texts.proofs.ContainerLines.{lines_of, container_bare}
-use Rattle.made_texts.proofs.LineTables.{voyage_lines, all_lines, lot_lines, top, items_from, bookings_run}
-use Rattle.made_texts.proofs.BareLines.{Bare, Bare-append, AllPrinted-append, bare_document}
-use Rattle.made_texts.proofs.DrawnRanges.{lot_in_range}
+use Rattle.stow_gen.proofs.Lines.{text_line}
+use Rattle.stow_gen.proofs.PlainStrings.{plain_string}
+use Rattle.stow_gen.proofs.ContainerLines.{lines_of, container_bare}
+use Rattle.stow_gen.proofs.LineTables.{voyage_lines, all_lines, lot_lines, top, items_from, bookings_run}
+use Rattle.stow_gen.proofs.BareLines.{Bare, Bare-append, AllPrinted-append, bare_document}
+use Rattle.stow_gen.proofs.DrawnRanges.{lot_in_range}
 
 lot_bare : (k state : ℕ) → Bare (lot_lines k (lot state)) (container_text k (lot state))
 lot_bare k state =

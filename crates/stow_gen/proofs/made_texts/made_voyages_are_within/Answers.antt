@@ -1,6 +1,6 @@
-use Rattle.made_texts.proofs.FewRows.{places_are}
-use Rattle.made_texts.proofs.Within.{containers_are, rows_within, vars_within}
-use Rattle.made_texts.proofs.made_voyages_are_within.Goals as goal
+use Rattle.stow_gen.proofs.FewRows.{places_are}
+use Rattle.stow_gen.proofs.Within.{containers_are, rows_within, vars_within}
+use Rattle.stow_gen.proofs.made_texts.made_voyages_are_within.Goals as goal
 
 pub returns-clause-containers : goal.returns-clause-containers
 returns-clause-containers c = containers_are

@@ -13,12 +13,12 @@ use Rattle.bookings.specs.declared.shipment.Booking.{Booking}
 use Rattle.bookings.specs.Reading.{booking_at, bookings_in, bookings_of, containers_in, rotation_in, has_id}
 use Rattle.bookings.specs.Rules.{IsBookings}
 use Rattle.bookings.proofs.RuleLaws.{bookings_are}
-use Rattle.made_texts.specs.MadeBookings.{booking_of_lot, bookings_from, bookings_with, id_of, made_bookings}
-use Rattle.made_texts.proofs.LineTables.{items_from, top}
-use Rattle.made_texts.proofs.DrawnRanges.{lot_in_range}
-use Rattle.made_texts.proofs.ReadEntry.{entry_read}
-use Rattle.made_texts.proofs.ParsedBookings.{parsed}
-use Rattle.made_texts.proofs.LowBytes.{bookings_utf8}
+use Rattle.stow_gen.specs.MadeBookings.{booking_of_lot, bookings_from, bookings_with, id_of, made_bookings}
+use Rattle.stow_gen.proofs.LineTables.{items_from, top}
+use Rattle.stow_gen.proofs.DrawnRanges.{lot_in_range}
+use Rattle.stow_gen.proofs.ReadEntry.{entry_read}
+use Rattle.stow_gen.proofs.ParsedBookings.{parsed}
+use Rattle.stow_gen.proofs.LowBytes.{bookings_utf8}
 
 same_number : (j k : ℕ) → j < 1000 → k < 1000 → id_of j ≡ id_of k → j ≡ k
 same_number j k a b e =

@@ -1,6 +1,6 @@
-use Rattle.made_texts.proofs.ReadProfile.{profile_is_read}
-use Rattle.made_texts.proofs.ReadBookings.{made_is_read, made_rules}
-use Rattle.made_texts.proofs.made_texts_are_read.Goals as goal
+use Rattle.stow_gen.proofs.ReadProfile.{profile_is_read}
+use Rattle.stow_gen.proofs.ReadBookings.{made_is_read, made_rules}
+use Rattle.stow_gen.proofs.made_texts.made_texts_are_read.Goals as goal
 
 pub returns-clause-profile : goal.returns-clause-profile
 returns-clause-profile c = profile_is_read

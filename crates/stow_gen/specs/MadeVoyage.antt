@@ -3,8 +3,8 @@ use Rattle.std.specs.Prelude.{ℕ}
 use Rattle.stow_data.specs.Shipment.{Cargo}
 use Rattle.bookings.specs.BookedCargo.{booked_cargo}
 use Rattle.zero_one_rows.specs.Variables.{Voyage}
-use Rattle.made_texts.specs.MadeShip.{made_ship}
-use Rattle.made_texts.specs.MadeBookings.{made_bookings}
+use Rattle.stow_gen.specs.MadeShip.{made_ship}
+use Rattle.stow_gen.specs.MadeBookings.{made_bookings}
 
 -- the cargo of the bookings of a number
 abbrev pub made_cargo : ℕ → Cargo

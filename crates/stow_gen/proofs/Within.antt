@@ -8,11 +8,11 @@ use Rattle.bookings.specs.BookedCargo.{container_of}
 use Rattle.zero_one_rows.specs.Variables.{all_kinds, variables}
 use Rattle.zero_one_rows.specs.Counted.{all_rows}
 use Rattle.stow_gen.specs.Draws.{after_lot}
-use Rattle.made_texts.specs.MadeShip.{made_ship}
-use Rattle.made_texts.specs.MadeBookings.{bookings_from}
-use Rattle.made_texts.specs.MadeVoyage.{made_voyage}
-use Rattle.made_texts.proofs.FewVariables.{IsEmpty, variables_few}
-use Rattle.made_texts.proofs.FewRows.{rows_few, places_are}
+use Rattle.stow_gen.specs.MadeShip.{made_ship}
+use Rattle.stow_gen.specs.MadeBookings.{bookings_from}
+use Rattle.stow_gen.specs.MadeVoyage.{made_voyage}
+use Rattle.stow_gen.proofs.FewVariables.{IsEmpty, variables_few}
+use Rattle.stow_gen.proofs.FewRows.{rows_few, places_are}
 
 -- ## Lengths
 

@@ -6,9 +6,9 @@ use Rattle.toml_values.specs.Values.{is_code, is_code_byte}
 use Rattle.stow_data.specs.Digits.{digit}
 use Rattle.bookings.specs.declared.shipment.Booking.{Booking}
 use Rattle.bookings.specs.Reading.{booking_of, has_id}
-use Rattle.made_texts.specs.MadeBookings.{booking_with, id_of}
-use Rattle.made_texts.proofs.LineTables.{entry_nodes}
-use Rattle.made_texts.proofs.DrawnRanges.{InRange}
+use Rattle.stow_gen.specs.MadeBookings.{booking_with, id_of}
+use Rattle.stow_gen.proofs.LineTables.{entry_nodes}
+use Rattle.stow_gen.proofs.DrawnRanges.{InRange}
 
 digit_code : (n : ℕ) → is_code_byte (digit n) ≡ true
 digit_code n = grind (arith, nat_tests)

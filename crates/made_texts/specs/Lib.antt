@@ -1,3 +1,0 @@
-pub mod MadeShip
-pub mod MadeBookings
-pub mod MadeVoyage
