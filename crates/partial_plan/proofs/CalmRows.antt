@@ -19,7 +19,7 @@ use Rattle.partial_plan.proofs.Landing.{landed, met_is, tight_by, tight_landed}
 use Rattle.row_matrix.specs.declared.slacks.Slacks.{Slacks}
 use Rattle.row_matrix.specs.Terms.{count, row_at, slack_in}
 use Rattle.row_matrix.specs.Waiting.{number_at, waits_at, waiting_in}
-use Rattle.row_matrix.specs.Following.{Holds, IsWide, Marks}
+use Rattle.row_matrix.specs.Following.{Holds, IsWide, ChangedRowsWait}
 use Rattle.partial_plan.specs.PropagationState.{CalmAt, Rests}
 
 not_forced : (s a : ℤ) → pos (unsigned_abs a) ≤ℤ s → forces s None a ≡ false
@@ -31,7 +31,7 @@ wide_calm m b s k met wide = record { met = met; still = λ v lt free. not_force
 pub calm_fewer : (m : Voyage) (b c : Box) (s : ℤ) (k : ℕ) → ((v : ℕ) → at c v ≡ None → at b v ≡ None) → CalmAt m b s k → CalmAt m c s k
 calm_fewer m b c s k fewer h = record { met = h.met; still = λ v lt free. h.still v lt (fewer v free) }
 
-pub rests_marks : (m : Voyage) (b c : Box) (old new : Slacks) → ((v : ℕ) → at c v ≡ None → at b v ≡ None) → Marks m old new → Rests m b old → Rests m c new
+pub rests_marks : (m : Voyage) (b c : Box) (old new : Slacks) → ((v : ℕ) → at c v ≡ None → at b v ≡ None) → ChangedRowsWait m old new → Rests m b old → Rests m c new
 rests_marks m b c old new fewer marks rests k lt e = let q = marks k lt e in by q.0 q.1
   where
     by : waits_at old.waits.items k ≡ false → (number_at new.slack.items k ≡ number_at old.slack.items k) ⊎ ((pos 0 ≤ℤ number_at new.slack.items k) × IsWide m (number_at new.slack.items k) k) → CalmAt m c (number_at new.slack.items k) k

@@ -19,7 +19,7 @@ use Rattle.row_matrix.specs.declared.slacks.Slacks.{Slacks}
 use Rattle.partial_plan.specs.declared.state.PropagationState.{PropagationState}
 use Rattle.row_matrix.specs.Terms.{count, row_at, slack_in, vars_in, AreTerms}
 use Rattle.row_matrix.specs.Waiting.{number_at, waits_at, waiting_in}
-use Rattle.row_matrix.specs.Following.{Holds, IsWide, Marks}
+use Rattle.row_matrix.specs.Following.{Holds, IsWide, ChangedRowsWait}
 use Rattle.partial_plan.specs.PropagationState.{CalmAt, Rests, work}
 use Rattle.partial_plan.specs.Looking.{AnyForced, NoneForced}
 use Rattle.row_matrix.proofs.Counts.{waiting_most, waiting_set}
@@ -150,7 +150,7 @@ rests_cleared m b old new k rests same cleared calm j lt e = by (same_or_other j
 
 -- nor does one that forced all that it can
 pub rests_forced : (m : Voyage) (b c : Box) (old mid new : Slacks) (k : ℕ) → Holds m b old → k < count m → pos 0 ≤ℤ number_at old.slack.items k → Rests m b old → mid.slack ≡ old.slack → mid.waits.items ≡ set old.waits.items k false
-    → c ≡ tight (whole m) b (row_at m k) → Marks m mid new → Rests m c new
+    → c ≡ tight (whole m) b (row_at m k) → ChangedRowsWait m mid new → Rests m c new
 rests_forced m b c old mid new k holds k_lt met rests same cleared is marks j lt e = by (marks j lt e).0 (marks j lt e).1
   where
     number : number_at mid.slack.items j ≡ number_at old.slack.items j

@@ -10,7 +10,7 @@ ghost use Rattle.zero_one_rows.specs.Tightening.{IsQuiet};
 ghost use Rattle.partial_plan.specs.Tightening.{Tightens};
 ghost use Rattle.row_matrix.specs.Terms.{count, row_at, slack_in, AreTerms};
 ghost use Rattle.row_matrix.specs.Waiting.{waits_at};
-ghost use Rattle.row_matrix.specs.Following.{IsWide, Marks};
+ghost use Rattle.row_matrix.specs.Following.{IsWide, ChangedRowsWait};
 ghost use Rattle.partial_plan.specs.PropagationState.{IsState, Rests, work};
 ghost use Rattle.partial_plan.specs.Looking.{AnyForced, Ends, NoneForced};
 
@@ -55,7 +55,7 @@ impl PropagationState {
         ensures state { IsState matrix.now self.new }
         ensures known { self.new.b ≡ stepped slack self.old.b term.now.at term.now.by }
         ensures noted { (xs : List ℕ) × (self.new.undo.items ≡ self.old.undo.items ++ xs) × Fixes self.old.b self.new.b xs }
-        ensures marks { Marks matrix.now self.old.slacks self.new.slacks }
+        ensures marks { ChangedRowsWait matrix.now self.old.slacks self.new.slacks }
     {
         if !is_forced(self.b.at(term.at), slack, term.by) {
             return;
@@ -73,7 +73,7 @@ impl PropagationState {
         ensures state { IsState matrix.now self.new }
         ensures known { self.new.b ≡ tight (whole matrix.now) self.old.b (row_at matrix.now k) }
         ensures noted { (xs : List ℕ) × (self.new.undo.items ≡ self.old.undo.items ++ xs) × Fixes self.old.b self.new.b xs }
-        ensures marks { Marks matrix.now self.old.slacks self.new.slacks }
+        ensures marks { ChangedRowsWait matrix.now self.old.slacks self.new.slacks }
     {
         for term in terms {
             self.fix_term(matrix, term, slack);
@@ -92,7 +92,7 @@ impl PropagationState {
         ensures state { IsState matrix.now self.new }
         ensures known { OnOk result (self.new.b ≡ tight (whole matrix.now) self.old.b (row_at matrix.now k)) }
         ensures noted { (xs : List ℕ) × (self.new.undo.items ≡ self.old.undo.items ++ xs) × Fixes self.old.b self.new.b xs }
-        ensures marks { Marks matrix.now self.old.slacks self.new.slacks }
+        ensures marks { ChangedRowsWait matrix.now self.old.slacks self.new.slacks }
     {
         let slack = self.slacks.slack[k];
         if slack < 0 {

@@ -4,7 +4,7 @@ ghost use Rattle.proof_trees.specs.Boxes.{fixed};
 ghost use Rattle.zero_one_rows.specs.Variables.{variables};
 ghost use Rattle.partial_plan.specs.Fixing.{released};
 ghost use Rattle.zero_one_rows.specs.Tightening.{IsQuiet};
-ghost use Rattle.row_matrix.specs.Following.{Marks};
+ghost use Rattle.row_matrix.specs.Following.{ChangedRowsWait};
 ghost use Rattle.partial_plan.specs.PropagationState.{IsState, Rests};
 
 use row_matrix::{BaseMatrix, Slacks, lift_by, lower_by};
@@ -50,7 +50,7 @@ impl PropagationState {
         ensures state { IsState matrix.now self.new }
         ensures known { self.new.b ≡ fixed self.old.b x value }
         ensures undo { self.new.undo.items ≡ self.old.undo.items ++ x ∷ [] }
-        ensures marks { Marks matrix.now self.old.slacks self.new.slacks }
+        ensures marks { ChangedRowsWait matrix.now self.old.slacks self.new.slacks }
     {
         lower_by(matrix, &mut self.b, &mut self.slacks, x, value);
         self.undo.push(x).unwrap();

@@ -15,7 +15,7 @@ use Rattle.row_matrix.specs.declared.slacks.Slacks.{Slacks}
 use Rattle.row_matrix.specs.Terms.{count, row_at, slack_in, loss}
 use Rattle.row_matrix.specs.Terms.{IsSmall}
 use Rattle.row_matrix.specs.Waiting.{number_at, waits_at, IsShort, Marked}
-use Rattle.row_matrix.specs.Following.{Holds, IsWide, Marks}
+use Rattle.row_matrix.specs.Following.{Holds, IsWide, ChangedRowsWait}
 
 -- ## Loops over losses
 
@@ -106,10 +106,10 @@ marked_more tops a b c h k r e = by (k r e)
     by : (waits_at b.waits.items r ≡ false) × ((number_at c.slack.items r ≡ number_at b.slack.items r) ⊎ (pos (get_or tops r 0) ≤ℤ number_at c.slack.items r)) → (waits_at a.waits.items r ≡ false) × ((number_at c.slack.items r ≡ number_at a.slack.items r) ⊎ (pos (get_or tops r 0) ≤ℤ number_at c.slack.items r))
     by p = let q = h r p.0 in (q.0, both q.1 p.1)
 
-pub marks_none : (m : Voyage) (a : Slacks) → Marks m a a
+pub marks_none : (m : Voyage) (a : Slacks) → ChangedRowsWait m a a
 marks_none m a k lt e = (e, inl refl)
 
-pub marks_more : (m : Voyage) (a b c : Slacks) → Marks m a b → Marks m b c → Marks m a c
+pub marks_more : (m : Voyage) (a b c : Slacks) → ChangedRowsWait m a b → ChangedRowsWait m b c → ChangedRowsWait m a c
 marks_more m a b c h g k lt e = by (g k lt e)
   where
     both : (number_at b.slack.items k ≡ number_at a.slack.items k) ⊎ ((pos 0 ≤ℤ number_at b.slack.items k) × IsWide m (number_at b.slack.items k) k) → (number_at c.slack.items k ≡ number_at b.slack.items k) ⊎ ((pos 0 ≤ℤ number_at c.slack.items k) × IsWide m (number_at c.slack.items k) k)
@@ -123,7 +123,7 @@ marks_more m a b c h g k lt e = by (g k lt e)
     by p = let q = h k lt p.0 in (q.0, both q.1 p.1)
 
 -- no coefficient passes the tops
-pub marks_are : (m : Voyage) (tops : List ℕ) (old new : Slacks) → ((k v : ℕ) → k < count m → v < length (variables m) → unsigned_abs ((whole m).coef (row_at m k) v) ≤ get_or tops k 0) → Marked tops old new → Marks m old new
+pub marks_are : (m : Voyage) (tops : List ℕ) (old new : Slacks) → ((k v : ℕ) → k < count m → v < length (variables m) → unsigned_abs ((whole m).coef (row_at m k) v) ≤ get_or tops k 0) → Marked tops old new → ChangedRowsWait m old new
 marks_are m tops old new small h k lt e = let q = h k e in (q.0, by q.1)
   where
     wide : (s : ℤ) (a : ℤ) (top : ℕ) → unsigned_abs a ≤ top → pos top ≤ℤ s → pos (unsigned_abs a) ≤ℤ s

@@ -19,5 +19,9 @@ abbrev pub IsWide : Voyage → ℤ → ℕ → Type 0
 IsWide m s k = (v : ℕ) → v < length (variables m) → pos (unsigned_abs ((whole m).coef (row_at m k) v)) ≤ℤ s
 
 -- a row that doesn't wait now didn't wait before, and its slack is the same, or one that no coefficient passes
-abbrev pub Marks : Voyage → Slacks → Slacks → Type 0
-Marks m old new = (k : ℕ) → k < count m → waits_at new.waits.items k ≡ false → (waits_at old.waits.items k ≡ false) × ((number_at new.slack.items k ≡ number_at old.slack.items k) ⊎ ((pos 0 ≤ℤ number_at new.slack.items k) × IsWide m (number_at new.slack.items k) k))
+abbrev pub ChangedRowsWait : Voyage → Slacks → Slacks → Type 0
+ChangedRowsWait m old new =
+    (k : ℕ) → k < count m → waits_at new.waits.items k ≡ false
+    → (waits_at old.waits.items k ≡ false)
+    × ((number_at new.slack.items k ≡ number_at old.slack.items k)
+      ⊎ ((pos 0 ≤ℤ number_at new.slack.items k) × IsWide m (number_at new.slack.items k) k))

@@ -5,7 +5,7 @@ ghost use Rattle.zero_one_rows.specs.Variables.{variables};
 ghost use Rattle.zero_one_rows.specs.Rows.{whole};
 ghost use Rattle.row_matrix.specs.Terms.{count, row_at, loss};
 ghost use Rattle.row_matrix.specs.Waiting.{number_at, IsShort};
-ghost use Rattle.row_matrix.specs.Following.{Holds, Marks};
+ghost use Rattle.row_matrix.specs.Following.{Holds, ChangedRowsWait};
 
 use crate::matrix::BaseMatrix;
 use crate::slacks::Slacks;
@@ -20,7 +20,7 @@ fn lower_rows(matrix: &BaseMatrix, slacks: &mut Slacks, x: VarNo, value: bool)
     requires left { (r : ℕ) → r < count matrix.now → unsigned_abs (number_at slacks.old.slack.items r -ℤ loss value ((whole matrix.now).coef (row_at matrix.now r) x)) ≤ 2 ^ 38 }
     ensures short { IsShort slacks.new (count matrix.now) }
     ensures slack { (r : ℕ) → r < count matrix.now → number_at slacks.new.slack.items r ≡ number_at slacks.old.slack.items r -ℤ loss value ((whole matrix.now).coef (row_at matrix.now r) x) }
-    ensures marks { Marks matrix.now slacks.old slacks.new }
+    ensures marks { ChangedRowsWait matrix.now slacks.old slacks.new }
 {
     match matrix.written_losses(x, value) {
         Some(losses) => slacks.lower_each(losses, matrix.tops()),
@@ -55,7 +55,7 @@ pub fn lower_by(matrix: &BaseMatrix, b: &mut Box01, slacks: &mut Slacks, x: VarN
     requires free { slice_get b.old x ≡ Some None }
     ensures known { b.new ≡ fixed b.old x value }
     ensures holds { Holds matrix.now b.new slacks.new }
-    ensures marks { Marks matrix.now slacks.old slacks.new }
+    ensures marks { ChangedRowsWait matrix.now slacks.old slacks.new }
 {
     matrix.has_small_slacks();
     b.fix(x, value);

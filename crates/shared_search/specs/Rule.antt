@@ -1,5 +1,5 @@
 -- The rule of a board: what its three words and the views of its seats meet at every moment, and what each kind of step does to a view.
-use Rattle.std.specs.Prelude.{◌≡◌, ℕ, ◌+◌, ◌-◌, ◌≤◌, ◌^◌, ◌⊎◌, ◌≢◌, ◌==◌, min, nat_lt, cond, List, [], ◌∷◌, ◌++◌, length}
+use Rattle.std.specs.Prelude.{◌≡◌, ℕ, ◌+◌, ◌-◌, ◌≤◌, ◌^◌, ◌⊎◌, ◌≢◌, ◌==◌, min, nat_lt, if◌then◌else◌, List, [], ◌∷◌, ◌++◌, length}
 use mathlib.Core.Option.{some}
 use lib.ListN.{get_elem?}
 use Rattle.atomic_table.specs.Table.{State, Me, Step}
@@ -17,32 +17,41 @@ fresh start budget = record { role = Owner; offered = none_yet; seen = start; fo
 
 -- after a load of the best value
 abbrev pub seen_at : View → ℕ → View
-seen_at v found = record { role = v.role; offered = v.offered; seen = found; found = found; tickets = v.tickets; over = v.over; start = v.start; budget = v.budget; made = v.made; taken = v.taken }
+seen_at v found = record v { seen = found; found = found }
 
 -- after an offer of a cost that found a best value
 abbrev pub offered_at : View → ℕ → ℕ → View
-offered_at v cost found = record { role = v.role; offered = min v.offered cost; seen = min found cost; found = found; tickets = v.tickets; over = v.over; start = v.start; budget = v.budget; made = v.made; taken = v.taken }
+offered_at v cost found = record v { offered = min v.offered cost; seen = min found cost; found = found }
 
 -- after a draw of a ticket below the budget, of one that isn't, and of any
 abbrev pub with_ticket : View → ℕ → View
-with_ticket v ticket = record { role = v.role; offered = v.offered; seen = v.seen; found = v.found; tickets = v.tickets ++ ticket ∷ []; over = v.over; start = v.start; budget = v.budget; made = v.made; taken = v.taken }
+with_ticket v ticket = record v { tickets = v.tickets ++ ticket ∷ [] }
 
 abbrev pub one_over : View → View
-one_over v = record { role = v.role; offered = v.offered; seen = v.seen; found = v.found; tickets = v.tickets; over = v.over + 1; start = v.start; budget = v.budget; made = v.made; taken = v.taken }
+one_over v = record v { over = v.over + 1 }
 
 abbrev pub drawn_at : View → ℕ → View
-drawn_at v ticket = record { role = v.role; offered = v.offered; seen = v.seen; found = v.found; tickets = cond (nat_lt ticket v.budget) (v.tickets ++ ticket ∷ []) v.tickets; over = cond (nat_lt ticket v.budget) v.over (v.over + 1); start = v.start; budget = v.budget; made = v.made; taken = v.taken }
+drawn_at v ticket = record v {
+  tickets = if nat_lt ticket v.budget then v.tickets ++ ticket ∷ [] else v.tickets;
+  over = if nat_lt ticket v.budget then v.over else v.over + 1;
+}
 
 -- the owner's view after it made a seat, and that seat's
 abbrev pub after_split : View → View
-after_split v = record { role = v.role; offered = v.offered; seen = v.seen; found = v.found; tickets = v.tickets; over = v.over; start = v.start; budget = v.budget; made = v.made + 1; taken = v.taken }
+after_split v = record v { made = v.made + 1 }
 
 abbrev pub new_seat : View → View
-new_seat v = record { role = Worker; offered = none_yet; seen = v.seen; found = v.seen; tickets = []; over = 0; start = v.start; budget = v.budget; made = 0; taken = 0 }
+new_seat v = record v { role = Worker; offered = none_yet; found = v.seen; tickets = []; over = 0; made = 0; taken = 0 }
 
 -- the owner's view after it took in a seat, and that seat's
 abbrev pub joined : View → View → View
-joined v w = record { role = v.role; offered = min v.offered w.offered; seen = min v.seen w.seen; found = v.found; tickets = v.tickets ++ w.tickets; over = v.over + w.over; start = v.start; budget = v.budget; made = v.made; taken = v.taken + 1 }
+joined v w = record v {
+  offered = min v.offered w.offered;
+  seen = min v.seen w.seen;
+  tickets = v.tickets ++ w.tickets;
+  over = v.over + w.over;
+  taken = v.taken + 1;
+}
 
 abbrev pub spent : View
 spent = record { role = Spent; offered = none_yet; seen = none_yet; found = none_yet; tickets = []; over = 0; start = 0; budget = 0; made = 0; taken = 0 }
@@ -85,11 +94,11 @@ spent_views = total (λ v. is_spent v.role)
 -- how often x stands in a list
 abbrev pub times : ℕ → List ℕ → ℕ
 times x [] = 0
-times x (y ∷ ys) = cond (y == x) 1 0 + times x ys
+times x (y ∷ ys) = (if y == x then 1 else 0) + times x ys
 
 -- how often x stands among the numbers below n
 abbrev pub once_below : ℕ → ℕ → ℕ
-once_below x n = cond (nat_lt x n) 1 0
+once_below x n = if nat_lt x n then 1 else 0
 
 -- what a view that isn't spent knows
 pub record Knows (start budget : ℕ) (v : View) : Type 0 where

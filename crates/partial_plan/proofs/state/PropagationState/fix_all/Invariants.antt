@@ -6,7 +6,7 @@ use Rattle.zero_one_rows.specs.Rows.{whole}
 use Rattle.partial_plan.specs.Fixing.{Fixes}
 use Rattle.partial_plan.proofs.Walking.{Partly}
 use Rattle.row_matrix.specs.Terms.{row_at, vars_in}
-use Rattle.row_matrix.specs.Following.{Marks}
+use Rattle.row_matrix.specs.Following.{ChangedRowsWait}
 use Rattle.partial_plan.specs.PropagationState.{IsState}
 use Rattle.partial_plan.proofs.state.PropagationState.fix_all.Given as goal
 
@@ -15,5 +15,5 @@ invariant-loop-term l = record {
   state : IsState l.matrix l.self;
   partly : Partly (λ v. list_any (nat_eq v) (take l.term-index (vars_in l.terms))) l.slack (λ v. (whole l.matrix).coef (row_at l.matrix l.k) v) (length (variables l.matrix)) l.fn.self.b l.self.b;
   noted : (xs : List ℕ) × (l.self.undo.items ≡ l.fn.self.undo.items ++ xs) × Fixes l.fn.self.b l.self.b xs;
-  marks : Marks l.matrix l.fn.self.slacks l.self.slacks;
+  marks : ChangedRowsWait l.matrix l.fn.self.slacks l.self.slacks;
 }
