@@ -1,5 +1,5 @@
 use Rattle.stow_gen.proofs.Joining.{ended, joined}
-use Rattle.stow_gen.proofs.bookings.write_rest.Goals as goal
+use Rattle.stow_gen.proofs.drawn_bookings.write_rest.Goals as goal
 
 pub returns : goal.returns
 returns c =

@@ -1,6 +1,6 @@
 use Rattle.stow_gen.specs.Bookings.{voyage_text}
 use Rattle.stow_gen.proofs.Joining.{ended}
-use Rattle.stow_gen.proofs.bookings.write_voyage.Goals as goal
+use Rattle.stow_gen.proofs.drawn_bookings.write_voyage.Goals as goal
 
 pub returns : goal.returns
 unfolding voyage_text

@@ -1,6 +1,6 @@
 use Rattle.std.proofs.Common.{◌<◌, ◌≤◌, arith}
 use Rattle.stow_gen.proofs.Counting.{all_written, onward}
-use Rattle.stow_gen.proofs.bookings.write_containers.Goals as goal
+use Rattle.stow_gen.proofs.drawn_bookings.write_containers.Goals as goal
 
 pub loop-index-preserved : goal.loop-index-preserved
 loop-index-preserved c =

@@ -1,6 +1,6 @@
 use Rattle.std.proofs.Common.{◌≡◌, ◌+◌, ◌-◌, ◌++◌}
 use Rattle.stow_gen.specs.Bookings.{containers_text}
-use Rattle.stow_gen.proofs.bookings.write_containers.Given as goal
+use Rattle.stow_gen.proofs.drawn_bookings.write_containers.Given as goal
 
 -- what is written, and what is still to come from this state on
 abbrev pub invariant-loop-index : goal.invariant-loop-index
