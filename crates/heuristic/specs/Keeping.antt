@@ -1,7 +1,7 @@
 -- The kept voyage, by how much there is.
 use Rattle.std.specs.Prelude.{◌≡◌, All, length}
 use Rattle.heuristic.specs.declared.kept.Kept.TheInside.{Inside}
-use Rattle.heuristic.specs.Ranges.{IsPlanned}
+use Rattle.voyage_state.specs.Ranges.{IsPlanned}
 
 -- for each stack its stays and its rehandles
 pub record IsKept (k : Inside) : Type 0 where

@@ -1,6 +1,4 @@
-pub mod Facts
 pub mod Keeping
-pub mod Ranges
+pub mod Offers
 pub mod Sailors
 pub mod Trades
-pub mod Yards

@@ -2,15 +2,13 @@
 ghost use Rattle.std.specs.Prelude.{◌≡◌, ◌<◌, All, IfOk, length};
 
 use crate::chance::Chance;
-use crate::facts::{Facts, bit_of};
 use crate::kept::Kept;
 use crate::rule::FREE_RUNS;
 use crate::scope::Scope;
-use crate::ship_state::Planned;
-use crate::sizes::Sizes;
 use std::alloc::Global;
 use std::marker::Model;
 use stow_data::NoMemory;
+use voyage_state::{Facts, Planned, Sizes, bit_of};
 
 /// Stays of an earlier voyage that a run takes over: those in some stacks, and those that begin before a call. Contracts see
 /// how much there is.
@@ -27,7 +25,7 @@ pub struct Guide {
 
 impl Model for Guide {
     ghost use Rattle.std.specs.Prelude.{◌≡◌, length};
-    ghost use Rattle.heuristic.specs.declared.sizes.Sizes.{Sizes};
+    ghost use Rattle.voyage_state.specs.declared.sizes.Sizes.{Sizes};
 
     ghost Value = { Sizes };
 
@@ -37,18 +35,18 @@ impl Model for Guide {
 }
 
 impl Guide {
-    ghost use Rattle.heuristic.specs.Ranges.{IsPlanned};
+    ghost use Rattle.voyage_state.specs.Ranges.{IsPlanned};
 
     /// No stays.
     pub fn new(alloc: Global, facts: &Facts) -> Result<Guide, NoMemory>
         ensures { IfOk result (λ g. g ≡ facts.now) }
     {
-        let sizes = facts.sizes;
+        let sizes = facts.sizes();
         Ok(Guide {
             sizes,
             stays: Vec::new(alloc),
-            pledged: Vec::from_elem(alloc, 0, facts.sizes.places as usize)?,
-            is_freed: Vec::from_elem(alloc, false, facts.sizes.stacks as usize)?,
+            pledged: Vec::from_elem(alloc, 0, sizes.places as usize)?,
+            is_freed: Vec::from_elem(alloc, false, sizes.stacks as usize)?,
         })
     }
 
@@ -166,7 +164,7 @@ impl Guide {
     {
         self.clear();
         self.draw_freed(chance);
-        let from = chance.below(facts.sizes.calls);
+        let from = chance.below(facts.sizes().calls);
         self.consider_stacks(kept, scope, from, asked)
     }
 
@@ -188,7 +186,7 @@ impl Guide {
             return Ok(());
         }
         self.is_freed.fill(true);
-        let from = chance.below(facts.sizes.calls);
+        let from = chance.below(facts.sizes().calls);
         if from > 1 {
             self.consider_stacks(kept, scope, from, asked)?;
         }

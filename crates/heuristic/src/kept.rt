@@ -2,11 +2,10 @@
 ghost use Rattle.std.specs.Prelude.{◌≡◌, ◌<◌, All, IfOk, length};
 
 use crate::chance::Chance;
-use crate::ship_state::Planned;
-use crate::sizes::Sizes;
 use std::alloc::Global;
 use std::marker::Model;
 use stow_data::NoMemory;
+use voyage_state::{Planned, Sizes};
 
 /// The cheapest voyage that was found, if any. Contracts see how much there is.
 #[derive(Drop)]
@@ -22,7 +21,7 @@ pub struct Kept {
 }
 
 impl Model for Kept {
-    ghost use Rattle.heuristic.specs.declared.sizes.Sizes.{Sizes};
+    ghost use Rattle.voyage_state.specs.declared.sizes.Sizes.{Sizes};
     ghost use Rattle.heuristic.specs.Keeping.{IsKept};
 
     ghost Value = { Sizes };
@@ -33,7 +32,7 @@ impl Model for Kept {
 }
 
 impl Kept {
-    ghost use Rattle.heuristic.specs.Ranges.{IsPlanned};
+    ghost use Rattle.voyage_state.specs.Ranges.{IsPlanned};
 
     /// No voyage.
     pub fn new(alloc: Global, sizes: Sizes) -> Result<Kept, NoMemory>

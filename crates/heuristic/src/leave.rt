@@ -2,11 +2,9 @@
 ghost use Rattle.std.specs.Prelude.{◌≡◌, ◌<◌, IfOk, length};
 ghost use Rattle.zero_one_rows.specs.Variables.{variables};
 
-use crate::facts::{Facts, Mark, Spot, bit_of};
-use crate::ship_state::Planned;
-use crate::sizes::Sizes;
 use std::alloc::Global;
 use stow_data::{NoMemory, VarNo};
+use voyage_state::{Facts, Mark, Planned, Sizes, Spot, bit_of};
 use zero_one_model::{Box01, Model};
 use zero_one_rows::Var;
 
@@ -26,7 +24,7 @@ pub struct Leave {
 
 impl std::marker::Model for Leave {
     ghost use Rattle.std.specs.Prelude.{◌≡◌, length};
-    ghost use Rattle.heuristic.specs.declared.sizes.Sizes.{Sizes};
+    ghost use Rattle.voyage_state.specs.declared.sizes.Sizes.{Sizes};
 
     ghost Value = { Sizes };
 
@@ -36,18 +34,18 @@ impl std::marker::Model for Leave {
 }
 
 impl Leave {
-    ghost use Rattle.heuristic.specs.Ranges.{IsMark};
+    ghost use Rattle.voyage_state.specs.Ranges.{IsMark};
 
     /// What nothing was read of.
     pub fn new(alloc: Global, facts: &Facts) -> Result<Leave, NoMemory>
         ensures { IfOk result (λ l. l ≡ facts.now) }
     {
-        let sizes = facts.sizes;
+        let sizes = facts.sizes();
         Ok(Leave {
             sizes,
-            ends: Vec::from_elem(alloc, 0, facts.sizes.stays as usize)?,
+            ends: Vec::from_elem(alloc, 0, sizes.stays as usize)?,
             pledges: Vec::new(alloc),
-            pledged: Vec::from_elem(alloc, 0, facts.sizes.places as usize)?,
+            pledged: Vec::from_elem(alloc, 0, sizes.places as usize)?,
             ones: 0,
         })
     }

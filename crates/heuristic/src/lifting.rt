@@ -2,10 +2,9 @@
 ghost use Rattle.std.specs.Prelude.{◌≡◌, ◌<◌};
 
 use crate::chance::Chance;
-use crate::facts::{Facts, StackFacts, TIERS, bit_of};
 use crate::scope::Scope;
-use crate::ship_state::{Column, Pile, ShipState};
 use stow_data::{Lengths, NoMemory};
+use voyage_state::{Column, Facts, Pile, ShipState, StackFacts, TIERS, bit_of};
 
 /// The lifts of a call.
 #[derive(Clone, Copy)]
@@ -142,7 +141,7 @@ fn lift_from(
     ensures { ship_state.new ≡ ship_state.old }
 {
     let stack_facts = facts.stack(stack);
-    let pile = ship_state.piles[stack as usize];
+    let pile = *ship_state.pile(stack);
     let (fore, aft) = if ship_state.is_opened(stack_facts.under) {
         (0, 0)
     } else {
@@ -187,7 +186,7 @@ fn survey(ship_state: &mut ShipState, facts: &Facts, scope: &Scope)
     requires scope { scope.now ≡ ship_state.old.stacks }
     ensures { ship_state.new ≡ ship_state.old }
 {
-    if ship_state.hatches.is_empty() {
+    if !ship_state.has_hatches() {
         return;
     }
     for number in scope.stacks() {
@@ -208,9 +207,9 @@ pub fn lift_all(
     requires scope { scope.now ≡ ship_state.old.stacks }
     ensures { ship_state.new ≡ ship_state.old }
 {
-    ship_state.clear_hatches(facts, scope);
+    ship_state.clear_hatches(facts, scope.stacks());
     if !lift_all_from(ship_state, facts, scope, chance, false, lifting)?
-        || !ship_state.hatches.is_empty()
+        || ship_state.has_hatches()
             && !lift_all_from(ship_state, facts, scope, chance, true, lifting)?
     {
         return Ok(false);

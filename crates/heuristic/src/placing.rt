@@ -2,12 +2,11 @@
 ghost use Rattle.std.specs.Prelude.{◌≡◌, ◌<◌, IfSome};
 
 use crate::chance::Chance;
-use crate::facts::{Facts, Spot, StackFacts, bit_of};
 use crate::guide::Guide;
 use crate::leave::Leave;
 use crate::scope::Scope;
-use crate::ship_state::{Classed, Hatch, ShipState, Stay};
 use stow_data::{Length, Span};
+use voyage_state::{Classed, Facts, Hatch, ShipState, Spot, StackFacts, Stay, bit_of};
 
 /// One in the fixed point of scores.
 pub const ONE: i64 = 256;
@@ -99,7 +98,7 @@ fn is_kept_away(ship_state: &ShipState, facts: &Facts, class: u32, bay: u32, spo
     if class == 0 {
         return false;
     }
-    ship_state.classed.iter().any(|other| is_near(
+    ship_state.classed().iter().any(|other| is_near(
         facts.level(class, other.class),
         bay,
         spot,
@@ -134,8 +133,8 @@ fn score_of_hatches(over: Option<&Hatch>, under: Option<&Hatch>, taste: &Taste, 
 
 /// The least due below a place and under its cover.
 fn least_under(ship_state: &ShipState, spot: Spot, under: Option<&Hatch>) -> u32 {
-    let least = match ship_state.piles.get(spot.stack as usize) {
-        None => ship_state.later,
+    let least = match ship_state.find_pile(spot.stack) {
+        None => ship_state.later(),
         Some(pile) => ShipState::least_below(pile, spot.span),
     };
     match under {
@@ -156,12 +155,13 @@ pub struct Scene<'a> {
 }
 
 impl<'a> Scene<'a> {
-    ghost use Rattle.heuristic.specs.Ranges.{IsOffer, IsSpot};
+    ghost use Rattle.heuristic.specs.Offers.{IsOffer};
+    ghost use Rattle.voyage_state.specs.Ranges.{IsSpot};
 
     /// The hatch cover of a number.
     fn hatch(&self, cover: Option<u32>) -> Option<&'a Hatch> {
         let ship_state: &'a ShipState = self.ship_state;
-        ship_state.hatches.get(cover? as usize)
+        ship_state.find_hatch(cover)
     }
 
     /// Where a container would stand in a stack, if it fits there and the stack bears it.
@@ -170,7 +170,7 @@ impl<'a> Scene<'a> {
     {
         let facts = self.facts.find_stack(stack)?;
         let ship_state: &ShipState = self.ship_state;
-        let pile = ship_state.piles.get(stack as usize)?;
+        let pile = ship_state.find_pile(stack)?;
         let tier = ShipState::open_tier(pile, span)?;
         if tier >= facts.tiers || pile.kg.wrapping_add(request.kg) > facts.limit_kg {
             return None;

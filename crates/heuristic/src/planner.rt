@@ -3,14 +3,12 @@ ghost use Rattle.std.specs.Prelude.{◌≡◌, ◌<◌, All, IfOk, IfSome, IsSom
 ghost use Rattle.std.specs.Arc.{arc_value};
 ghost use Rattle.zero_one_rows.specs.Variables.{variables};
 
-use crate::facts::Facts;
-use crate::gathering::gather_facts;
 use crate::kept::Kept;
 use crate::sailing::Sailor;
-use crate::ship_state::Planned;
 use std::alloc::Global;
 use std::sync::Arc;
 use stow_data::{NoMemory, VarNo};
+use voyage_state::{Facts, Planned, gather_facts};
 use zero_one_model::{Box01, Model};
 
 /// What is asked of a planner at a node.
@@ -71,7 +69,7 @@ impl Planner {
     fn over(alloc: Global, facts: Arc<Facts, Global>) -> Result<Planner, NoMemory>
         ensures { IfOk result (λ p. p.sailor ≡ arc_value facts) }
     {
-        let kept = Kept::new(alloc, facts.sizes)?;
+        let kept = Kept::new(alloc, facts.sizes())?;
         Ok(Planner {
             sailor: Sailor::new(alloc, facts, 1)?,
             kept,

@@ -4,7 +4,6 @@ ghost use Rattle.std.specs.Arc.{arc_value};
 ghost use Rattle.zero_one_rows.specs.Variables.{variables};
 
 use crate::chance::Chance;
-use crate::facts::{Arrived, Facts, TIERS};
 use crate::guide::Guide;
 use crate::kept::Kept;
 use crate::leave::Leave;
@@ -12,13 +11,13 @@ use crate::lifting::{Lifting, lift_all};
 use crate::placing::{ONE, Offer, Request, Scene, Taste};
 use crate::rule::{DUG_RUNS, GUIDED_RUNS, WHOLE_RUNS};
 use crate::scope::Scope;
-use crate::ship_state::{Planned, ShipState, Stay};
 use crate::trade::Trade;
 use std::alloc::Global;
 use std::marker::Model;
 use std::ops::Range;
 use std::sync::Arc;
 use stow_data::NoMemory;
+use voyage_state::{Arrived, Facts, Planned, ShipState, Stay, TIERS};
 use zero_one_model::{Box01, Model as Program};
 
 /// What a run likes, by chance.
@@ -134,7 +133,7 @@ pub struct Sailor {
 }
 
 impl Model for Sailor {
-    ghost use Rattle.heuristic.specs.declared.sizes.Sizes.{Sizes};
+    ghost use Rattle.voyage_state.specs.declared.sizes.Sizes.{Sizes};
     ghost use Rattle.heuristic.specs.Sailors.{IsSailor};
 
     ghost Value = { Sizes };
@@ -145,7 +144,8 @@ impl Model for Sailor {
 }
 
 impl Sailor {
-    ghost use Rattle.heuristic.specs.Ranges.{IsArrived, IsOffer, IsPlanned};
+    ghost use Rattle.heuristic.specs.Offers.{IsOffer};
+    ghost use Rattle.voyage_state.specs.Ranges.{IsArrived, IsPlanned};
 
     /// A sailor who knows these facts.
     pub fn new(alloc: Global, facts: Arc<Facts, Global>, seed: u64) -> Result<Sailor, NoMemory>
@@ -157,7 +157,7 @@ impl Sailor {
         let guide = Guide::new(alloc, &facts)?;
         let ship_state = ShipState::new(alloc, &facts)?;
         let first = Turn { key: 0, kind: 0 };
-        let order = Vec::from_elem(alloc, first, facts.sizes.kinds as usize)?;
+        let order = Vec::from_elem(alloc, first, facts.sizes().kinds as usize)?;
         let mut chance = Chance::new(seed);
         let taste = draw_taste(&mut chance);
         Ok(Sailor {
@@ -252,9 +252,10 @@ impl Sailor {
     fn come_in(&mut self) -> Result<(), NoMemory>
         ensures { self.new ≡ self.old }
     {
-        self.ship_state.clear(&self.scope);
-        self.ship_state.clear_hatches(&self.facts, &self.scope);
-        if self.facts.arrived.is_empty() {
+        self.ship_state.clear(self.scope.stacks());
+        self.ship_state
+            .clear_hatches(&self.facts, self.scope.stacks());
+        if !self.facts.has_arrivals() {
             return Ok(());
         }
         for number in 0..self.scope.stacks().len() {
@@ -429,14 +430,14 @@ impl Sailor {
             &mut self.line,
         )?;
         'rounds: for _ in 0..TIERS {
-            let before = self.ship_state.waiting;
+            let before = self.ship_state.waiting();
             self.redeem_pledges(call)?;
             self.redeem_guide(call)?;
             self.put_waiting(call)?;
-            if self.ship_state.waiting == 0 {
+            if self.ship_state.waiting() == 0 {
                 return Ok(true);
             }
-            if self.ship_state.waiting == before {
+            if self.ship_state.waiting() == before {
                 return Ok(false);
             }
         }
@@ -469,9 +470,9 @@ impl Sailor {
             return Ok(false);
         }
         Ok(
-            self.ship_state.cost.wrapping_add(self.ship_state.doomed) < limit
+            self.ship_state.sure_cost() < limit
                 && self.put_all(call)?
-                && self.ship_state.cost.wrapping_add(self.ship_state.doomed) < limit,
+                && self.ship_state.sure_cost() < limit,
         )
     }
 
@@ -480,7 +481,7 @@ impl Sailor {
         ensures { self.new ≡ self.old }
     {
         let lifting = Lifting {
-            call: self.facts.sizes.calls,
+            call: self.facts.sizes().calls,
             dig: 0,
         };
         self.lift(lifting)
@@ -544,12 +545,12 @@ impl Sailor {
             &mut self.order,
         );
         self.come_in()?;
-        for call in 1..self.facts.sizes.calls {
+        for call in 1..self.facts.sizes().calls {
             if !self.visit(call, limit)? {
                 return Ok(false);
             }
         }
-        Ok(self.arrive()? && self.ship_state.cost < limit)
+        Ok(self.arrive()? && self.ship_state.cost() < limit)
     }
 
     /// Sails the whole ship. False where the run fails, or has so many rehandles.

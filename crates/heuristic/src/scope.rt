@@ -2,12 +2,12 @@
 ghost use Rattle.std.specs.Prelude.{◌≡◌, ◌<◌, All, IfOk};
 
 use crate::chance::Chance;
-use crate::facts::Facts;
 use crate::kept::Kept;
 use crate::rule::{FEWEST_FREED, FREED_SPREAD, REHANDLED_RUNS};
 use std::alloc::Global;
 use std::marker::Model;
 use stow_data::NoMemory;
+use voyage_state::Facts;
 
 /// The stacks that a run sails: all, or few, and then the others keep their stays. Contracts see the number of stacks.
 #[derive(Drop)]
@@ -37,12 +37,13 @@ impl Scope {
     pub fn new(alloc: Global, facts: &Facts) -> Result<Scope, NoMemory>
         ensures { IfOk result (λ s. s ≡ facts.now.stacks) }
     {
+        let count = facts.sizes().stacks;
         Ok(Scope {
-            count: facts.sizes.stacks,
+            count,
             is_whole: false,
             groups: 0,
             stacks: Vec::new(alloc),
-            is_sailed: Vec::from_elem(alloc, false, facts.sizes.stacks as usize)?,
+            is_sailed: Vec::from_elem(alloc, false, count as usize)?,
         })
     }
 
@@ -120,7 +121,7 @@ impl Scope {
             return Ok(());
         }
         self.groups = self.groups.saturating_add(1);
-        self.add_all(facts.bonds.with(stack))
+        self.add_all(facts.bound_to(stack))
     }
 
     /// Sails so many groups, as their stacks are drawn.
@@ -132,7 +133,7 @@ impl Scope {
             if self.groups >= enough {
                 return Ok(());
             }
-            self.free(facts, chance.below(facts.sizes.stacks))?;
+            self.free(facts, chance.below(facts.sizes().stacks))?;
         }
         Ok(())
     }

@@ -1,14 +1,12 @@
 //! What comes to the quay and leaves it, where few stacks are sailed: the net cargo.
 ghost use Rattle.std.specs.Prelude.{◌≡◌, ℕ, ◌+◌, ◌<◌, ◌≤◌, All, IfOk, length};
 
-use crate::facts::Facts;
 use crate::kept::Kept;
 use crate::scope::Scope;
-use crate::ship_state::{Planned, ShipState};
-use crate::sizes::Sizes;
 use std::alloc::Global;
 use std::marker::Model;
 use stow_data::NoMemory;
+use voyage_state::{Facts, Planned, ShipState, Sizes};
 
 /// The kinds of containers that a run handles, and the net cargo of its stacks: at each call what the other stacks don't take
 /// comes to the quay, and what they take is gone. Contracts see how much there is.
@@ -25,7 +23,7 @@ pub struct Trade {
 }
 
 impl Model for Trade {
-    ghost use Rattle.heuristic.specs.declared.sizes.Sizes.{Sizes};
+    ghost use Rattle.voyage_state.specs.declared.sizes.Sizes.{Sizes};
     ghost use Rattle.heuristic.specs.Trades.{IsTrade};
 
     ghost Value = { Sizes };
@@ -58,17 +56,17 @@ fn list_at(lists: &[Vec<u32>], call: u32) -> &[u32]
 }
 
 impl Trade {
-    ghost use Rattle.heuristic.specs.Ranges.{IsPlanned};
+    ghost use Rattle.voyage_state.specs.Ranges.{IsPlanned};
 
     /// No trade.
     pub fn new(alloc: Global, facts: &Facts) -> Result<Trade, NoMemory>
         ensures { IfOk result (λ t. t ≡ facts.now) }
     {
-        let sizes = facts.sizes;
+        let sizes = facts.sizes();
         Ok(Trade {
             sizes,
             kinds: Vec::new(alloc),
-            is_handled: Vec::from_elem(alloc, false, facts.sizes.kinds as usize)?,
+            is_handled: Vec::from_elem(alloc, false, sizes.kinds as usize)?,
             comes: empty_lists(alloc, sizes)?,
             goes: empty_lists(alloc, sizes)?,
         })

@@ -1,5 +1,5 @@
 use Rattle.std.proofs.Common.{◌≡◌, All, length}
-use Rattle.heuristic.specs.Ranges.{IsPlanned}
+use Rattle.voyage_state.specs.Ranges.{IsPlanned}
 use Rattle.heuristic.proofs.kept.Kept.new.Given as goal
 
 abbrev pub invariant-loop-stack : goal.invariant-loop-stack

@@ -1,5 +1,5 @@
 use Rattle.std.proofs.Common.{IfSome}
-use Rattle.heuristic.specs.Ranges.{IsOffer}
+use Rattle.heuristic.specs.Offers.{IsOffer}
 use Rattle.heuristic.proofs.placing.Scene.best.Given as goal
 
 abbrev pub invariant-loop-stack : goal.invariant-loop-stack

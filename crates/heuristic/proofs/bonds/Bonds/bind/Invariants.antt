@@ -1,5 +1,0 @@
-use Rattle.std.proofs.Common.{◌<◌, All}
-use Rattle.heuristic.proofs.bonds.Bonds.bind.Given as goal
-
-abbrev pub invariant-loop-group : goal.invariant-loop-group
-invariant-loop-group l = All (λ list. All (λ s. s < l.count) list.items) l.lists.items
