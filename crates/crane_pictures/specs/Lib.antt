@@ -1,0 +1,5 @@
+pub mod Lists
+pub mod Purposes
+pub mod Shapes
+pub mod Pictures
+pub mod Ends
