@@ -24,4 +24,4 @@ ChangedRowsWait m old new =
     (k : ℕ) → k < count m → waits_at new.waits.items k ≡ false
     → (waits_at old.waits.items k ≡ false)
     × ((number_at new.slack.items k ≡ number_at old.slack.items k)
-      ⊎ ((pos 0 ≤ℤ number_at new.slack.items k) × IsWide m (number_at new.slack.items k) k))
+    ⊎ ((pos 0 ≤ℤ number_at new.slack.items k) × IsWide m (number_at new.slack.items k) k))

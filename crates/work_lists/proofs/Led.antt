@@ -34,7 +34,7 @@ module _ (ship : Ship) (cargo : Cargo) where
   pub least_led : (call : ℕ) (before : Plan) (voyage : List (List Move)) (plans : List Plan) (sets : List (ℕ → Bool)) (lists : List (List ℕ)) (k : ℕ) (moves : List Move) → AreLeast ship before plans sets → AreListed before plans sets lists → LiftEachExactly ship cargo call before voyage plans lists
       → slice_get voyage k ≡ Some moves
       → (list : List ℕ) × (set : ℕ → Bool) × IsLeastClosed ship (slice_index_or (before ∷ plans) k []) (slice_index_or (before ∷ plans) (suc k) []) set × IsListed (slice_index_or (before ∷ plans) k []) set list
-          × LiftsExactly cargo (call + k) (start ship cargo (call + k) (slice_index_or (before ∷ plans) k [])) moves list
+      × LiftsExactly cargo (call + k) (start ship cargo (call + k) (slice_index_or (before ∷ plans) k [])) moves list
   least_led call before [] plans sets lists k moves least listed exact is = absurd (none-some moves is)
   least_led call before (ms ∷ voyage) [] sets lists k moves least listed exact is = absurd exact
   least_led call before (ms ∷ voyage) (p ∷ plans) [] lists k moves least listed exact is = absurd least
