@@ -1,6 +1,6 @@
 //! Workers to whom memory is wanting.
 use certificate::Node;
-use node_solver::{Desk, Solver, Worked};
+use node_solver::{NodeSolver, Solver, Worked};
 use parallel_search::search;
 use std::alloc::Global;
 use std::test::Fail;
@@ -24,10 +24,18 @@ impl Solver for Wanting {
 // The one that takes the root stops the other, which would else wait for nodes that nobody has.
 #[test]
 fn two_workers_without_memory_stop(rt: HostRuntime) -> Result<(), Fail> {
-    let mut desks = Vec::new(rt.alloc());
-    desks.push(Desk::of(Wanting {}))?;
-    desks.push(Desk::of(Wanting {}))?;
-    let found = search(&rt, rt.alloc(), desks, Desk::of(Wanting {}), 10, 1, &NoGate);
+    let mut solvers = Vec::new(rt.alloc());
+    solvers.push(NodeSolver::of(Wanting {}))?;
+    solvers.push(NodeSolver::of(Wanting {}))?;
+    let found = search(
+        &rt,
+        rt.alloc(),
+        solvers,
+        NodeSolver::of(Wanting {}),
+        10,
+        1,
+        &NoGate,
+    );
     assert!(rt; found.is_err_and(|no| no == NoMemory));
     Ok(())
 }

@@ -45,4 +45,4 @@ module _ (ship : Ship) (cargo : Cargo) where
   least_led call before (ms ∷ voyage) (p ∷ plans) (f ∷ sets) (l ∷ lists) (suc k) moves least listed exact is =
       let e : call + suc k ≡ suc call + k = omega arith in
       let at = least_led (suc call) p voyage plans sets lists k moves least.1 listed.1 exact.1 is in
-      (at.0, at.1.0, at.1.1.0, at.1.1.1.0, subst (λ (n : ℕ). LiftsExactly cargo n (start ship cargo n (slice_index_or (p ∷ plans) k [])) moves at.0) (sym e) at.1.1.1.1)
+      (at.0, at.1, at.2, at.3, subst (λ (n : ℕ). LiftsExactly cargo n (start ship cargo n (slice_index_or (p ∷ plans) k [])) moves at.0) (sym e) at.4)

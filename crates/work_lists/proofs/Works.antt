@@ -79,11 +79,11 @@ least_at ship cargo voyage plans lists call moves lifted exact from is =
     record {
       list = at.0;
       must = record {
-        set = at.1.0;
-        is_least = subst (λ (n : ℕ). IsLeastClosed ship (departure_of cargo plans (call - 1)) (departure_of cargo plans n) at.1.0) e at.1.1.0;
-        listed = at.1.1.1.0;
+        set = at.1;
+        is_least = subst (λ (n : ℕ). IsLeastClosed ship (departure_of cargo plans (call - 1)) (departure_of cargo plans n) at.1) e at.2;
+        listed = at.3;
       };
-      exact = subst (λ (n : ℕ). LiftsExactly cargo n (start ship cargo n (departure_of cargo plans (call - 1))) moves at.0) f at.1.1.1.1;
+      exact = subst (λ (n : ℕ). LiftsExactly cargo n (start ship cargo n (departure_of cargo plans (call - 1))) moves at.0) f at.4;
     }
 
 -- there are moves for each call before the last
