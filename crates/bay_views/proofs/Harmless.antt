@@ -1,10 +1,12 @@
 -- What stands for a byte begins and ends no tag and no quoted value.
-use Rattle.std.proofs.Common.{◌≡◌, ℕ, ◌+◌, ◌/◌, Bool, true, false, cond, ◌||◌, ◌==◌, List, [], ◌∷◌, ◌++◌, refl, ◌∙◌, arith, inl, inr}
+use Rattle.std.proofs.Common.{◌≡◌, ℕ, ◌/◌, Bool, true, false, cond, ◌||◌, ◌==◌, List, [], ◌∷◌, ◌++◌, refl, ◌∙◌, arith, inl, inr}
 use Rattle.std.specs.Prelude.{flat_map, nat_le, codes}
 use Rattle.std.specs.List.{list_any}
 use Rattle.std.proofs.lemmas.Bool.Decides.{nat_tests}
 use Rattle.stow_data.specs.Digits.{digit}
-use Rattle.bay_views.specs.Escapes.{breaks_out, is_markup, is_printable, entity, reference, written, written_text, escaped, escaped_text, IsEntity, IsWritten}
+use Rattle.bay_views.specs.declared.character_sets.CharacterSet.{CharacterSet}
+use Rattle.bay_views.specs.CharacterSets.{has_byte}
+use Rattle.bay_views.specs.Escapes.{breaks_out, is_markup, is_printable, entity, reference, written, written_in, written_text, escaped, escaped_in, escaped_text, IsEntity, IsWritten}
 
 any_append : (xs ys : List ℕ) → list_any breaks_out xs ≡ false → list_any breaks_out ys ≡ false → list_any breaks_out (xs ++ ys) ≡ false
 any_append [] ys p q = q
@@ -108,3 +110,21 @@ all_harmless (b ∷ bs) = any_append (written b) (flat_map written bs) (written_
 pub all_text_harmless : (text : List ℕ) → list_any breaks_out (escaped_text text) ≡ false
 all_text_harmless [] = refl
 all_text_harmless (b ∷ bs) = any_append (written_text b) (flat_map written_text bs) (text_harmless b) (all_text_harmless bs)
+
+in_harmless : (set : CharacterSet) (b : ℕ) → list_any breaks_out (written_in set b) ≡ false
+in_harmless set b = go (has_byte set b)
+  where
+    go : (t : Bool) → list_any breaks_out (cond t (written b) (codes "&#65533;")) ≡ false
+    go true = written_harmless b
+    go false = refl
+
+pub in_whole : (set : CharacterSet) (b : ℕ) → IsWritten b (written_in set b)
+in_whole set b = go (has_byte set b)
+  where
+    go : (t : Bool) → IsWritten b (cond t (written b) (codes "&#65533;"))
+    go true = written_whole b
+    go false = inr (record { name = codes "#65533"; text_is = refl; plain = refl })
+
+pub all_in_harmless : (set : CharacterSet) (text : List ℕ) → list_any breaks_out (escaped_in set text) ≡ false
+all_in_harmless set [] = refl
+all_in_harmless set (b ∷ bs) = any_append (written_in set b) (flat_map (written_in set) bs) (in_harmless set b) (all_in_harmless set bs)

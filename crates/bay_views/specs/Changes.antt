@@ -1,5 +1,5 @@
 -- What changed from one bay plan to another: which containers were loaded, discharged and rehandled.
-use Rattle.std.specs.Prelude.{ℕ, ◌+◌, ◌-◌, ◌==◌, Bool, true, false, ◌&&◌, not, codes, List, [], ◌++◌, find, count_by, flat_map, Option, Some, None, is_none}
+use Rattle.std.specs.Prelude.{ℕ, ◌+◌, ◌-◌, ◌==◌, Bool, false, ◌&&◌, not, codes, List, [], ◌++◌, find, count_by, flat_map, Option, Some, None, is_none}
 use Rattle.std.specs.Fmt.{decimal}
 use Rattle.baplie.specs.declared.parts.Facts.{Facts}
 use Rattle.baplie.specs.declared.parts.CellGroup.{CellGroup}

@@ -4,10 +4,10 @@ use Rattle.std.specs.Fmt.{decimal}
 use Rattle.std.specs.List.{sum_by}
 use Rattle.baplie.specs.declared.parts.CellGroup.{CellGroup}
 use Rattle.stow_data.specs.Digits.{digit}
-use Rattle.stow_report.specs.Listings.{holds, kilograms}
 use Rattle.bay_views.specs.declared.frames.Frame.{Frame}
 use Rattle.bay_views.specs.declared.sheets.Sheet.{Sheet}
-use Rattle.bay_views.specs.Escapes.{escaped}
+use Rattle.bay_views.specs.declared.character_sets.CharacterSet.{CharacterSet}
+use Rattle.bay_views.specs.CharacterSets.{character_set_of}
 use Rattle.bay_views.specs.Upto.{upto}
 use Rattle.bay_views.specs.Frames.{bay_width, bay_height, columns, deck_height, hold_height, hold_begin, top_of, row_of}
 use Rattle.bay_views.specs.Sheets.{sheet_of, bay_left, bay_top, sheet_width, sheet_height}
@@ -28,28 +28,29 @@ entry_left i = 14 + 206 * (i % 6)
 abbrev pub entry_top : ℕ → ℕ
 entry_top i = 72 + 22 * (min i (2 ^ 32) / 6)
 
-unfoldable pub port_name : List ℕ → List ℕ
-port_name port = whole 12 port ++ short 12 port
+unfoldable pub port_name : CharacterSet → List ℕ → List ℕ
+port_name set port = whole set 12 port ++ short set 12 port
 
-abbrev pub counts : List ℕ → ℕ → ℕ → List ℕ
-counts port containers kg = port_name port ++ raw (codes ": ") ++ decimal containers ++ raw (codes ", ") ++ tonnes kg ++ raw (codes " t</text>\n")
+abbrev pub counts : CharacterSet → List ℕ → ℕ → ℕ → List ℕ
+counts set port containers kg = port_name set port ++ raw (codes ": ") ++ decimal containers ++ raw (codes ", ") ++ tonnes kg ++ raw (codes " t</text>\n")
+
+-- the colour of a port, and where its text begins
+unfoldable pub entry_front : ℕ → ℕ → ℕ → List ℕ
+entry_front left top i = swatch left top 26 16 i ++ label (left + 32) (top + 13) (codes "l")
 
 -- a port with its colour, its containers and their tonnes; its mark stands in the colour
-abbrev pub entry_at : ℕ → ℕ → ℕ → List ℕ → ℕ → ℕ → List ℕ
-entry_at left top i port containers kg = swatch left top 26 16 i ++ label (left + 32) (top + 13) (codes "l") ++ counts port containers kg
+abbrev pub entry : CharacterSet → ℕ → List ℕ → ℕ → ℕ → List ℕ
+entry set i port containers kg = entry_front (entry_left i) (entry_top i) i ++ counts set port containers kg
 
-abbrev pub entry : ℕ → List ℕ → ℕ → ℕ → List ℕ
-entry i port containers kg = entry_at (entry_left i) (entry_top i) i port containers kg
+abbrev pub entry_in : CharacterSet → List CellGroup → ℕ → Option (List ℕ) → List ℕ
+entry_in set groups i None = []
+entry_in set groups i (Some port) = entry set i port (count_by (is_for port) groups) (sum_by (kg_for port) groups)
 
-abbrev pub entry_in : List CellGroup → ℕ → Option (List ℕ) → List ℕ
-entry_in groups i None = []
-entry_in groups i (Some port) = entry i port (count_by (is_for port) groups) (sum_by (kg_for port) groups)
+unfoldable pub entry_of : CharacterSet → List (List ℕ) → List (List ℕ) → List CellGroup → ℕ → List ℕ
+entry_of set ports marks groups i = entry_in set groups i (slice_get ports i) ++ letters set (entry_left i + 13) (entry_top i + 12) (mark_at marks i)
 
-unfoldable pub entry_of : List (List ℕ) → List (List ℕ) → List CellGroup → ℕ → List ℕ
-entry_of ports marks groups i = entry_in groups i (slice_get ports i) ++ letters (entry_left i + 13) (entry_top i + 12) (mark_at marks i)
-
-abbrev pub legend : List (List ℕ) → List (List ℕ) → List CellGroup → List ℕ
-legend ports marks groups = upto (entry_of ports marks groups) (length ports)
+abbrev pub legend : CharacterSet → List (List ℕ) → List (List ℕ) → List CellGroup → List ℕ
+legend set ports marks groups = upto (entry_of set ports marks groups) (length ports)
 
 -- ## What each bay is drawn on
 
@@ -134,11 +135,11 @@ unfoldable pub front : ℕ → ℕ → List ℕ
 front width height = opening width height ++ raw texts ++ raw boxes ++ raw colours ++ raw pattern ++ raw key
 
 -- the shape of each cell group, in their order
-unfoldable pub drawn : Sheet → List (List ℕ) → List (List ℕ) → CellGroup → List ℕ
-drawn s ports marks g = shape_text marks (shape_of s ports g)
+unfoldable pub drawn : CharacterSet → Sheet → List (List ℕ) → List (List ℕ) → CellGroup → List ℕ
+drawn set s ports marks g = shape_text set marks (shape_of s ports g)
 
-abbrev pub body : Sheet → List (List ℕ) → List (List ℕ) → List CellGroup → List ℕ
-body s ports marks groups = flat_map (λ g. drawn s ports marks g) groups
+abbrev pub body : CharacterSet → Sheet → List (List ℕ) → List (List ℕ) → List CellGroup → List ℕ
+body set s ports marks groups = flat_map (λ g. drawn set s ports marks g) groups
 
 -- where a bay stands, by its number from 0, for a page that shows it alone
 unfoldable pub view : ℕ → ℕ → ℕ → ℕ → ℕ → List ℕ
@@ -153,7 +154,7 @@ views s = upto (view_of s) (length s.bays)
 
 -- over the bays, but for the legend
 unfoldable pub over : Sheet → Message → Option (List CellGroup) → List ℕ
-over s m before = front (sheet_width s) (sheet_height s) ++ heading m.head m.groups ++ changes_since before m.groups
+over s m before = front (sheet_width s) (sheet_height s) ++ heading (character_set_of m) m.head m.groups ++ changes_since before m.groups
 
 -- the bays without their cells
 unfoldable pub base : Sheet → List CellGroup → List ℕ
@@ -161,7 +162,7 @@ base s groups = template s.frame ++ bays s ++ stacks s groups ++ views s
 
 abbrev pub drawing : Sheet → List (List ℕ) → List (List ℕ) → Message → Option (List CellGroup) → Option (List CellGroup) → List ℕ
 drawing s ports marks m before after =
-    over s m before ++ legend ports marks m.groups ++ base s m.groups ++ body s ports marks m.groups ++ all_changes s before after m.groups ++ raw (codes "</svg>\n")
+    over s m before ++ legend (character_set_of m) ports marks m.groups ++ base s m.groups ++ body (character_set_of m) s ports marks m.groups ++ all_changes s before after m.groups ++ raw (codes "</svg>\n")
 
 -- the picture of a message, beside the groups of the bay plan before it and of the one behind it, where there are such
 unfoldable pub picture : List (List ℕ) → Message → Option (List CellGroup) → Option (List CellGroup) → List ℕ

@@ -2,6 +2,8 @@
 use Rattle.std.specs.Prelude.{◌≡◌, ◌⊎◌, ℕ, ◌/◌, Bool, false, ◌&&◌, ◌||◌, ◌==◌, nat_le, codes, List, [], ◌∷◌, ◌++◌, flat_map, if◌then◌else◌}
 use Rattle.std.specs.List.{list_any}
 use Rattle.stow_data.specs.Digits.{digit}
+use Rattle.bay_views.specs.declared.character_sets.CharacterSet.{CharacterSet}
+use Rattle.bay_views.specs.CharacterSets.{has_byte}
 
 -- the characters that have a meaning of their own: `"` `&` `'` `<` `>`
 abbrev pub is_markup : ℕ → Bool
@@ -24,6 +26,14 @@ written b = if is_markup b then entity b else (if is_printable b then b ∷ [] e
 
 abbrev pub escaped : List ℕ → List ℕ
 escaped text = flat_map written text
+
+-- a byte of a text in this character set
+abbrev pub written_in : CharacterSet → ℕ → List ℕ
+written_in set b = if has_byte set b then written b else codes "&#65533;"
+
+-- a text of the file in its character set
+abbrev pub escaped_in : CharacterSet → List ℕ → List ℕ
+escaped_in set text = flat_map (written_in set) text
 
 -- a byte of a text in UTF-8, whose bytes from 128 on stay
 abbrev pub written_text : ℕ → List ℕ

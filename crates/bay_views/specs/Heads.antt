@@ -1,5 +1,5 @@
 -- The head of a picture: what the message tells of its voyage (SMDG BAPLIE 2.2), and the totals.
-use Rattle.std.specs.Prelude.{ℕ, ◌/◌, ◌%◌, ◌+◌, Bool, true, false, ◌&&◌, nat_lt, codes, List, [], ◌∷◌, ◌++◌, length, take, find, count_by, Option, Some, None, if◌then◌else◌}
+use Rattle.std.specs.Prelude.{ℕ, Bool, true, false, ◌&&◌, codes, List, [], ◌++◌, find, count_by, Option, Some, None, if◌then◌else◌}
 use Rattle.std.specs.Fmt.{decimal}
 use Rattle.std.specs.List.{sum_by}
 use Rattle.edifact_segments.specs.declared.segments.Segment.{Segment}
@@ -7,11 +7,11 @@ use Rattle.baplie.specs.Segments.{component, has_tag, is_coded, same_text, is_em
 use Rattle.baplie.specs.declared.parts.Message.{Message}
 use Rattle.baplie.specs.declared.parts.Facts.{Facts}
 use Rattle.baplie.specs.declared.parts.CellGroup.{CellGroup}
-use Rattle.stow_data.specs.Digits.{digit}
 use Rattle.stow_data.specs.declared.geometry.Length.{Length}
 use Rattle.stow_data.specs.declared.geometry.Length.TheVariants.{Twenty, Forty}
 use Rattle.stow_report.specs.Listings.{holds, kilograms}
-use Rattle.bay_views.specs.Marks.{raw, when, label, whole, short, tonnes}
+use Rattle.bay_views.specs.declared.character_sets.CharacterSet.{CharacterSet}
+use Rattle.bay_views.specs.Marks.{raw, label, whole, short, tonnes}
 
 -- ## What the message tells
 
@@ -47,16 +47,16 @@ same_voyage a b = same_text (vessel a.head) (vessel b.head) && same_text (voyage
 -- ## Its line
 
 -- a word and a name
-unfoldable pub named : List ℕ → List ℕ → List ℕ
-named word text = raw (codes "<tspan dx='10'>") ++ whole 24 text ++ raw word ++ short 24 text ++ raw (codes "</tspan>")
+unfoldable pub named : CharacterSet → List ℕ → List ℕ → List ℕ
+named set word text = raw (codes "<tspan dx='10'>") ++ whole set 24 text ++ raw word ++ short set 24 text ++ raw (codes "</tspan>")
 
 -- a word and what the message tells, where it tells it
-unfoldable pub part : List ℕ → List ℕ → List ℕ
-part word text = if is_empty_text text then [] else named word text
+unfoldable pub part : CharacterSet → List ℕ → List ℕ → List ℕ
+part set word text = if is_empty_text text then [] else named set word text
 
-abbrev pub call_line : List Segment → List ℕ
-call_line head =
-    label 4 22 (codes "h") ++ part [] (vessel head) ++ part (codes "Voyage ") (voyage head) ++ part (codes "From ") (port head) ++ part (codes "to ") (next_port head) ++ part (codes "Bay plan ") (number_in head) ++ raw (codes "</text>\n")
+abbrev pub call_line : CharacterSet → List Segment → List ℕ
+call_line set head =
+    label 4 22 (codes "h") ++ part set [] (vessel head) ++ part set (codes "Voyage ") (voyage head) ++ part set (codes "From ") (port head) ++ part set (codes "to ") (next_port head) ++ part set (codes "Bay plan ") (number_in head) ++ raw (codes "</text>\n")
 
 -- ## Totals
 
@@ -91,5 +91,5 @@ abbrev pub total_line : List CellGroup → List ℕ
 total_line groups =
     label 14 42 (codes "l") ++ amount (count_by holds groups) (sum_by kilograms groups) ++ length_amount (codes "; 20 foot: ") Twenty groups ++ length_amount (codes "; 40 foot: ") Forty groups ++ raw (codes "</text>\n")
 
-unfoldable pub heading : List Segment → List CellGroup → List ℕ
-heading head groups = call_line head ++ total_line groups
+unfoldable pub heading : CharacterSet → List Segment → List CellGroup → List ℕ
+heading set head groups = call_line set head ++ total_line groups

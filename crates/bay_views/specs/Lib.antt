@@ -1,3 +1,4 @@
+pub mod CharacterSets
 pub mod Escapes
 pub mod Upto
 pub mod Frames
@@ -6,6 +7,7 @@ pub mod Sheets
 pub mod Ports
 pub mod PortMarks
 pub mod Cells
+pub mod Layout
 pub mod Marks
 pub mod Heads
 pub mod Stacks

@@ -1,11 +1,12 @@
 -- The text of a cell (SVG 1.1).
-use Rattle.std.specs.Prelude.{ℕ, ◌+◌, ◌-◌, ◌/◌, ◌%◌, nat_le, nat_lt, Bool, is_some, codes, List, [], ◌∷◌, ◌++◌, length, drop, take, slice_index_or, Option, Some, None, if◌then◌else◌}
+use Rattle.std.specs.Prelude.{ℕ, ◌+◌, ◌-◌, ◌/◌, ◌%◌, nat_le, nat_lt, Bool, is_some, codes, List, [], ◌∷◌, ◌++◌, length, take, Option, Some, None, if◌then◌else◌}
 use Rattle.std.specs.Fmt.{decimal}
 use Rattle.baplie.specs.declared.parts.Facts.{Facts}
 use Rattle.stow_data.specs.Digits.{digit}
 use Rattle.stow_report.specs.Listings.{length_text}
 use Rattle.bay_views.specs.declared.cells.Cell.{Cell}
-use Rattle.bay_views.specs.Escapes.{escaped}
+use Rattle.bay_views.specs.declared.character_sets.CharacterSet.{CharacterSet}
+use Rattle.bay_views.specs.Escapes.{escaped_in}
 use Rattle.bay_views.specs.PortMarks.{mark_at}
 use Rattle.bay_views.specs.Cells.{Shape, Vacant, Filled}
 
@@ -20,12 +21,12 @@ abbrev pub only_if : Bool → List ℕ → List ℕ
 only_if on text = when on (raw text)
 
 -- a text of more than so many bytes as the title of what it stands in
-unfoldable pub whole : ℕ → List ℕ → List ℕ
-whole most text = when (nat_lt most (length text)) (raw (codes "<title>") ++ escaped text ++ raw (codes "</title>"))
+unfoldable pub whole : CharacterSet → ℕ → List ℕ → List ℕ
+whole set most text = when (nat_lt most (length text)) (raw (codes "<title>") ++ escaped_in set text ++ raw (codes "</title>"))
 
 -- such a text is cut
-unfoldable pub short : ℕ → List ℕ → List ℕ
-short most text = if nat_lt most (length text) then escaped (take most text) ++ raw (codes "&#8230;") else escaped text
+unfoldable pub short : CharacterSet → ℕ → List ℕ → List ℕ
+short set most text = if nat_lt most (length text) then escaped_in set (take most text) ++ raw (codes "&#8230;") else escaped_in set text
 
 -- tenths of a tonne, rounded
 abbrev pub tenths : ℕ → ℕ
@@ -54,32 +55,32 @@ label left base class = raw (codes "<text x='") ++ decimal left ++ raw (codes "'
 unfoldable pub classes : Facts → List ℕ
 classes f = only_if f.empty (codes "e ") ++ only_if f.reefer (codes "r ") ++ only_if (is_some f.class) (codes "d ")
 
-abbrev pub class_text : Option (List ℕ) → List ℕ
-class_text None = []
-class_text (Some class) = escaped class
+abbrev pub class_text : CharacterSet → Option (List ℕ) → List ℕ
+class_text set None = []
+class_text set (Some class) = escaped_in set class
 
 abbrev pub weight : Facts → List ℕ
 weight f = raw (codes " ") ++ decimal f.kg ++ raw (codes " kg")
 
-abbrev pub told : Facts → List ℕ
-told f = only_if f.reefer (codes ", reefer") ++ only_if f.empty (codes ", empty") ++ only_if (is_some f.class) (codes ", class ") ++ class_text f.class
+abbrev pub told : CharacterSet → Facts → List ℕ
+told set f = only_if f.reefer (codes ", reefer") ++ only_if f.empty (codes ", empty") ++ only_if (is_some f.class) (codes ", class ") ++ class_text set f.class
 
 -- what hovering shows: the cell, the id, the length, the port of discharge, the kilograms and what else is told
-unfoldable pub title : Cell → Facts → List ℕ
-title cell f = cell.number ++ raw (codes " ") ++ escaped f.id ++ length_text f.long ++ escaped f.dest ++ weight f ++ told f
+unfoldable pub title : CharacterSet → Cell → Facts → List ℕ
+title set cell f = cell.number ++ raw (codes " ") ++ escaped_in set f.id ++ length_text f.long ++ escaped_in set f.dest ++ weight f ++ told set f
 
 -- the mark of the port, in the middle of its field
-unfoldable pub letters : ℕ → ℕ → List ℕ → List ℕ
-letters middle base mark = label middle base (codes "t") ++ escaped mark ++ raw (codes "</text>")
+unfoldable pub letters : CharacterSet → ℕ → ℕ → List ℕ → List ℕ
+letters set middle base mark = label middle base (codes "t") ++ escaped_in set mark ++ raw (codes "</text>")
 
 -- the class of dangerous goods, cut where it is long
-abbrev pub short_class : Option (List ℕ) → List ℕ
-short_class None = []
-short_class (Some class) = short 4 class
+abbrev pub short_class : CharacterSet → Option (List ℕ) → List ℕ
+short_class set None = []
+short_class set (Some class) = short set 4 class
 
 -- R for a reefer, E for an empty container, and the class of dangerous goods
-unfoldable pub marks : Cell → Facts → List ℕ
-marks cell f = label (cell.left + 2) (cell.top + 9) (codes "m") ++ only_if f.reefer (codes "R ") ++ only_if f.empty (codes "E ") ++ short_class f.class ++ raw (codes "</text>")
+unfoldable pub marks : CharacterSet → Cell → Facts → List ℕ
+marks set cell f = label (cell.left + 2) (cell.top + 9) (codes "m") ++ only_if f.reefer (codes "R ") ++ only_if f.empty (codes "E ") ++ short_class set f.class ++ raw (codes "</text>")
 
 -- the weight class: whole tonnes, rounded
 abbrev pub weight_class : ℕ → ℕ
@@ -89,17 +90,17 @@ unfoldable pub weight_mark : Cell → ℕ → List ℕ
 weight_mark cell kg = label (cell.left + cell.width - 2) (cell.top + 9) (codes "g") ++ decimal (weight_class kg) ++ raw (codes "</text>")
 
 -- what is drawn in a cell: the colour and the mark of the port, what is marked of the container, and its weight class
-unfoldable pub inside : Cell → ℕ → List ℕ → Facts → List ℕ
-inside cell port mark f =
-    swatch cell.left cell.top cell.width 24 port ++ letters (cell.left + cell.width / 2) (cell.top + 20) mark ++ marks cell f ++ weight_mark cell f.kg
+unfoldable pub inside : CharacterSet → Cell → ℕ → List ℕ → Facts → List ℕ
+inside set cell port mark f =
+    swatch cell.left cell.top cell.width 24 port ++ letters set (cell.left + cell.width / 2) (cell.top + 20) mark ++ marks set cell f ++ weight_mark cell f.kg
 
-abbrev pub filled_text : Cell → ℕ → List ℕ → Facts → List ℕ
-filled_text cell port mark f =
-    raw (codes "<g class='") ++ classes f ++ raw (codes "'><title>") ++ title cell f ++ raw (codes "</title>") ++ inside cell port mark f ++ raw (codes "</g>\n")
+abbrev pub filled_text : CharacterSet → Cell → ℕ → List ℕ → Facts → List ℕ
+filled_text set cell port mark f =
+    raw (codes "<g class='") ++ classes f ++ raw (codes "'><title>") ++ title set cell f ++ raw (codes "</title>") ++ inside set cell port mark f ++ raw (codes "</g>\n")
 
 abbrev pub vacant_text : Cell → List ℕ
 vacant_text cell = rect cell.left cell.top cell.width 24 ++ raw (codes "v'><title>") ++ cell.number ++ raw (codes " empty</title></rect>\n")
 
-abbrev pub shape_text : List (List ℕ) → Shape → List ℕ
-shape_text marks (Vacant cell) = vacant_text cell
-shape_text marks (Filled cell port f) = filled_text cell port (mark_at marks port) f
+abbrev pub shape_text : CharacterSet → List (List ℕ) → Shape → List ℕ
+shape_text set marks (Vacant cell) = vacant_text cell
+shape_text set marks (Filled cell port f) = filled_text set cell port (mark_at marks port) f

@@ -1,7 +1,7 @@
 -- The mark of two letters that stands for each port.
-use Rattle.std.specs.Prelude.{ℕ, ◌+◌, ◌-◌, ◌/◌, ◌%◌, Bool, not, codes, List, [], ◌∷◌, ◌++◌, length, drop, find, fold, Option, Some, None, slice_index_or}
+use Rattle.std.specs.Prelude.{◌≡◌, ◌≢◌, ◌≤◌, ℕ, ◌+◌, ◌-◌, ◌/◌, ◌%◌, Bool, true, not, codes, List, [], ◌∷◌, ◌++◌, length, drop, find, fold, Option, Some, None, slice_index_or}
 use Rattle.std.specs.List.{list_any, range_with_len}
-use Rattle.bay_views.specs.Ports.{same_text}
+use Rattle.bay_views.specs.Ports.{same_text, is_port, number_of}
 
 -- one of the last three characters of a name, or `-`
 abbrev pub letter : List ℕ → ℕ → ℕ
@@ -55,3 +55,11 @@ marks_of ports = fold with_mark [] ports
 
 abbrev pub mark_at : List (List ℕ) → ℕ → List ℕ
 mark_at marks port = slice_index_or marks port no_mark
+
+-- the mark of a port by its name
+abbrev pub mark_for : List (List ℕ) → List ℕ → List ℕ
+mark_for ports port = mark_at (marks_of ports) (number_of ports port)
+
+-- of up to 676 ports any two that differ have marks that differ
+abbrev pub MarksDiffer : Type 0
+MarksDiffer = (ports : List (List ℕ)) (a b : List ℕ) → length ports ≤ 676 → is_port ports a ≡ true → is_port ports b ≡ true → a ≢ b → mark_for ports a ≢ mark_for ports b

@@ -1,5 +1,5 @@
 -- The ports of discharge, and what stands for each.
-use Rattle.std.specs.Prelude.{ℕ, ◌+◌, ◌%◌, ◌++◌, Bool, false, List, [], ◌∷◌, nat_eq, fold, Option, Some, None, if◌then◌else◌}
+use Rattle.std.specs.Prelude.{ℕ, ◌%◌, ◌++◌, Bool, false, List, [], ◌∷◌, nat_eq, fold, Option, Some, None, if◌then◌else◌}
 use Rattle.std.specs.List.{list_any, position_or_len}
 use Rattle.std.specs.Cmp.Lexicographic.{pointwise}
 use Rattle.baplie.specs.declared.parts.Facts.{Facts}

@@ -3,10 +3,12 @@ ghost use Rattle.std.specs.Prelude.{◌≡◌, ◌<◌, ◌≤◌, ◌^◌, ◌+
 ghost use Rattle.stow_report.specs.Listings.{IsCell, AreListable};
 ghost use Rattle.bay_views.specs.Frames.{IsFrame, columns};
 ghost use Rattle.bay_views.specs.Sheets.{IsSheet, sheet_width, sheet_height};
+ghost use Rattle.bay_views.specs.CharacterSets.{character_set_of};
 ghost use Rattle.bay_views.specs.Drawings.{two_digits, row_label, row_labels, tier_label, tier_labels, low_rows, deck_tiers, hold_tiers, area, areas, ground, template, bay_digits, use_at, bay, bay_of, bays, opening, texts, boxes, colours, pattern, key, front, view, view_of, views, over, base, drawn, body, drawing, picture};
 
 use crate::cells::cell_of;
 use crate::changes::{write_changes, write_changes_since};
+use crate::character_sets::{CharacterSet, character_set_of};
 use crate::frames::Frame;
 use crate::heading::write_heading;
 use crate::legend::{number_of, write_legend};
@@ -37,13 +39,14 @@ pub fn picture(
     ensures { IfOk result (λ text. text ≡ picture ports.now message.now (option_copied before.entry) (option_copied after.entry)) }
 {
     let groups = message.groups.as_slice();
+    let set = character_set_of(message);
     let marks = marks_of(alloc, ports)?;
     let sheet = sheet_of(alloc, ports.len(), groups)?;
     let mut out = Bytes::new(alloc);
     write_over(&mut out, &sheet, message, before)?;
-    write_legend(&mut out, ports, &marks, groups)?;
+    write_legend(&mut out, set, ports, &marks, groups)?;
     write_base(&mut out, &sheet, groups)?;
-    write_body(&mut out, &sheet, ports, &marks, groups)?;
+    write_body(&mut out, set, &sheet, ports, &marks, groups)?;
     write_changes(&mut out, &sheet, before, after, groups)?;
     write_raw(&mut out, b"</svg>\n")?;
     Ok(out)
@@ -63,7 +66,12 @@ fn write_over(
 {
     let groups = message.groups.as_slice();
     write_front(out, sheet.width(), sheet.height())?;
-    write_heading(out, message.head.as_slice(), groups)?;
+    write_heading(
+        out,
+        character_set_of(message),
+        message.head.as_slice(),
+        groups,
+    )?;
     write_changes_since(out, before, groups)
 }
 
@@ -122,6 +130,7 @@ fn write_views(out: &mut Bytes, sheet: &Sheet) -> Result<(), NoMemory>
 /// Appends the shape of each group.
 fn write_body(
     out: &mut Bytes,
+    set: CharacterSet,
     sheet: &Sheet,
     ports: &NameList,
     marks: &PortMarkList,
@@ -129,10 +138,10 @@ fn write_body(
 ) -> Result<(), NoMemory>
     requires sheet { IsSheet sheet.now }
     requires cells { All IsCell groups.now }
-    ensures { OnOk result (out.new ≡ out.old ++ body sheet.now ports.now marks.now groups.now) }
+    ensures { OnOk result (out.new ≡ out.old ++ body set sheet.now ports.now marks.now groups.now) }
 {
     for group in groups {
-        write_shape(out, sheet, ports, marks, group)?;
+        write_shape(out, set, sheet, ports, marks, group)?;
     }
     Ok(())
 }
@@ -140,6 +149,7 @@ fn write_body(
 #[tactic(auto, unfolding(crate::specs::Drawings::drawn))]
 fn write_shape(
     out: &mut Bytes,
+    set: CharacterSet,
     sheet: &Sheet,
     ports: &NameList,
     marks: &PortMarkList,
@@ -147,13 +157,13 @@ fn write_shape(
 ) -> Result<(), NoMemory>
     requires sheet { IsSheet sheet.now }
     requires cell { IsCell group.now }
-    ensures { OnOk result (out.new ≡ out.old ++ drawn sheet.now ports.now marks.now group.now) }
+    ensures { OnOk result (out.new ≡ out.old ++ drawn set sheet.now ports.now marks.now group.now) }
 {
     let cell = cell_of(sheet, group);
     match &group.facts {
         Some(facts) => {
             let port = number_of(ports, &facts.dest);
-            write_filled(out, &cell, port, mark_at(marks, port), facts)
+            write_filled(out, set, &cell, port, mark_at(marks, port), facts)
         }
         None => write_vacant(out, &cell),
     }

@@ -1,7 +1,9 @@
 //! Texts of a file inside a document.
 ghost use Rattle.std.specs.Prelude.{◌≡◌, ◌++◌, ◌∷◌, [], OnOk};
-ghost use Rattle.bay_views.specs.Escapes.{is_markup, entity, reference, is_printable, written, written_text, escaped, escaped_text};
+ghost use Rattle.bay_views.specs.Escapes.{is_markup, entity, reference, is_printable, written, written_in, written_text, escaped, escaped_in, escaped_text};
+ghost use Rattle.bay_views.specs.CharacterSets.{has_byte};
 
+use crate::character_sets::{CharacterSet, has_byte};
 use stow_data::{Bytes, NoMemory, digit};
 
 /// Appends a text of the file, in ISO 8859-1: each character with a meaning of its own in a document
@@ -14,6 +16,26 @@ pub fn escape(out: &mut Bytes, text: &[u8]) -> Result<(), NoMemory>
         write_byte(out, *byte)?;
     }
     Ok(())
+}
+
+/// Appends a text of the file, in its character set: a byte that stands for none of its characters is written as
+/// the replacement character.
+pub(crate) fn escape_in(out: &mut Bytes, set: CharacterSet, text: &[u8]) -> Result<(), NoMemory>
+    ensures { OnOk result (out.new ≡ out.old ++ escaped_in set text.now) }
+{
+    for byte in text {
+        write_byte_in(out, set, *byte)?;
+    }
+    Ok(())
+}
+
+fn write_byte_in(out: &mut Bytes, set: CharacterSet, byte: u8) -> Result<(), NoMemory>
+    ensures { OnOk result (out.new ≡ out.old ++ written_in set byte) }
+{
+    if has_byte(set, byte) {
+        return write_byte(out, byte);
+    }
+    out.extend(b"&#65533;")
 }
 
 /// Appends a text in UTF-8, whose bytes from 128 on stay as they are.

@@ -4,6 +4,7 @@ ghost use Rattle.std.specs.List.{sum_by};
 ghost use Rattle.baplie.specs.Segments.{component, has_tag, is_coded, is_one, element, same_text, is_empty_text};
 ghost use Rattle.bay_views.specs.Heads.{text_of, said, number_in, same_voyage, vessel, voyage, port, next_port, named, part, call_line, same_length, is_of, kg_of, containers_of, kilograms_of, amount, length_amount, total_line, heading};
 
+use crate::character_sets::CharacterSet;
 use crate::marks::{write_label, write_number, write_raw, write_short, write_tonnes, write_whole};
 use baplie::{CellGroup, Facts, Message};
 use edifact_segments::Segment;
@@ -112,36 +113,36 @@ pub fn same_voyage(a: &Message, b: &Message) -> bool
 
 /// Appends a word and what the message tells, where it tells it.
 #[tactic(auto, unfolding(crate::specs::Heads::part))]
-fn write_part(out: &mut Bytes, word: &[u8], text: &[u8]) -> Result<(), NoMemory>
-    ensures { OnOk result (out.new ≡ out.old ++ part word.now text.now) }
+fn write_part(out: &mut Bytes, set: CharacterSet, word: &[u8], text: &[u8]) -> Result<(), NoMemory>
+    ensures { OnOk result (out.new ≡ out.old ++ part set word.now text.now) }
 {
     if text.is_empty() {
         return Ok(());
     }
-    write_named(out, word, text)
+    write_named(out, set, word, text)
 }
 
 /// Appends a word and a name.
 #[tactic(auto, unfolding(crate::specs::Heads::named))]
-fn write_named(out: &mut Bytes, word: &[u8], text: &[u8]) -> Result<(), NoMemory>
-    ensures { OnOk result (out.new ≡ out.old ++ named word.now text.now) }
+fn write_named(out: &mut Bytes, set: CharacterSet, word: &[u8], text: &[u8]) -> Result<(), NoMemory>
+    ensures { OnOk result (out.new ≡ out.old ++ named set word.now text.now) }
 {
     write_raw(out, b"<tspan dx='10'>")?;
-    write_whole(out, MOST, text)?;
+    write_whole(out, set, MOST, text)?;
     write_raw(out, word)?;
-    write_short(out, MOST, text)?;
+    write_short(out, set, MOST, text)?;
     write_raw(out, b"</tspan>")
 }
 
-fn write_call_line(out: &mut Bytes, head: &[Segment]) -> Result<(), NoMemory>
-    ensures { OnOk result (out.new ≡ out.old ++ call_line head.now) }
+fn write_call_line(out: &mut Bytes, set: CharacterSet, head: &[Segment]) -> Result<(), NoMemory>
+    ensures { OnOk result (out.new ≡ out.old ++ call_line set head.now) }
 {
     write_label(out, 4, 22, b"h")?;
-    write_part(out, b"", vessel(head))?;
-    write_part(out, b"Voyage ", voyage(head))?;
-    write_part(out, b"From ", port(head))?;
-    write_part(out, b"to ", next_port(head))?;
-    write_part(out, b"Bay plan ", number_in(head))?;
+    write_part(out, set, b"", vessel(head))?;
+    write_part(out, set, b"Voyage ", voyage(head))?;
+    write_part(out, set, b"From ", port(head))?;
+    write_part(out, set, b"to ", next_port(head))?;
+    write_part(out, set, b"Bay plan ", number_in(head))?;
     write_raw(out, b"</text>\n")
 }
 
@@ -235,12 +236,13 @@ fn write_total_line(out: &mut Bytes, groups: &[CellGroup]) -> Result<(), NoMemor
 #[tactic(auto, unfolding(crate::specs::Heads::heading))]
 pub(crate) fn write_heading(
     out: &mut Bytes,
+    set: CharacterSet,
     head: &[Segment],
     groups: &[CellGroup],
 ) -> Result<(), NoMemory>
     requires { length groups.now < 2 ^ 32 }
-    ensures { OnOk result (out.new ≡ out.old ++ heading head.now groups.now) }
+    ensures { OnOk result (out.new ≡ out.old ++ heading set head.now groups.now) }
 {
-    write_call_line(out, head)?;
+    write_call_line(out, set, head)?;
     write_total_line(out, groups)
 }

@@ -2,8 +2,9 @@
 ghost use Rattle.std.specs.Prelude.{◌≡◌, ◌<◌, ◌≤◌, ◌^◌, ◌++◌, ◌*◌, length, count_by, OnOk};
 ghost use Rattle.std.specs.List.{sum_by};
 ghost use Rattle.bay_views.specs.Ports.{same_text, is_port, with_port, with_facts, with_ports, number_of, goes_to, is_for, kg_to, kg_for};
-ghost use Rattle.bay_views.specs.Drawings.{port_name, counts, entry_left, entry_top, entry_at, entry, entry_of, legend};
+ghost use Rattle.bay_views.specs.Drawings.{port_name, counts, entry_left, entry_top, entry_front, entry, entry_of, legend};
 
+use crate::character_sets::CharacterSet;
 use crate::marks::{
     put, write_label, write_letters, write_raw, write_short, write_swatch, write_tonnes,
     write_whole,
@@ -102,22 +103,16 @@ fn kilograms_for(name: &Name, groups: &[CellGroup]) -> u64
 
 fn write_entry(
     out: &mut Bytes,
+    set: CharacterSet,
     i: usize,
     port: &Name,
     containers: u64,
     kilograms: u64,
 ) -> Result<(), NoMemory>
-    ensures { OnOk result (out.new ≡ out.old ++ entry i port.now containers kilograms) }
+    ensures { OnOk result (out.new ≡ out.old ++ entry set i port.now containers kilograms) }
 {
-    write_entry_at(
-        out,
-        entry_left(i),
-        entry_top(i),
-        i,
-        port,
-        containers,
-        kilograms,
-    )
+    write_entry_front(out, entry_left(i), entry_top(i), i)?;
+    write_counts(out, set, port, containers, kilograms)
 }
 
 fn entry_left(i: usize) -> u64
@@ -134,26 +129,19 @@ fn entry_top(i: usize) -> u64
     72 + 22 * ((i as u64).min(4_294_967_296) / 6)
 }
 
-fn write_entry_at(
-    out: &mut Bytes,
-    left: u64,
-    top: u64,
-    i: usize,
-    port: &Name,
-    containers: u64,
-    kilograms: u64,
-) -> Result<(), NoMemory>
+#[tactic(auto, unfolding(crate::specs::Drawings::entry_front))]
+fn write_entry_front(out: &mut Bytes, left: u64, top: u64, i: usize) -> Result<(), NoMemory>
     requires left { left < 2000 }
     requires top { top < 2 ^ 40 }
-    ensures { OnOk result (out.new ≡ out.old ++ entry_at left top i port.now containers kilograms) }
+    ensures { OnOk result (out.new ≡ out.old ++ entry_front left top i) }
 {
     write_swatch(out, left, top, 26, 16, i)?;
-    write_label(out, left + 32, top + 13, b"l")?;
-    write_counts(out, port, containers, kilograms)
+    write_label(out, left + 32, top + 13, b"l")
 }
 
 fn write_entry_of(
     out: &mut Bytes,
+    set: CharacterSet,
     ports: &NameList,
     marks: &PortMarkList,
     groups: &[CellGroup],
@@ -161,14 +149,15 @@ fn write_entry_of(
 ) -> Result<(), NoMemory>
     requires port { i < length ports.now }
     requires groups { length groups.now < 2 ^ 32 }
-    ensures { OnOk result (out.new ≡ out.old ++ entry_of ports.now marks.now groups.now i) }
+    ensures { OnOk result (out.new ≡ out.old ++ entry_of set ports.now marks.now groups.now i) }
 {
     let port = ports.at(i);
     let containers = containers_for(port, groups);
     let kilograms = kilograms_for(port, groups);
-    write_entry(out, i, port, containers, kilograms)?;
+    write_entry(out, set, i, port, containers, kilograms)?;
     write_letters(
         out,
+        set,
         entry_left(i) + 13,
         entry_top(i) + 12,
         mark_at(marks, i),
@@ -177,22 +166,23 @@ fn write_entry_of(
 
 /// Appends the name of a port.
 #[tactic(auto, unfolding(crate::specs::Drawings::port_name))]
-fn write_port(out: &mut Bytes, port: &[u8]) -> Result<(), NoMemory>
-    ensures { OnOk result (out.new ≡ out.old ++ port_name port.now) }
+fn write_port(out: &mut Bytes, set: CharacterSet, port: &[u8]) -> Result<(), NoMemory>
+    ensures { OnOk result (out.new ≡ out.old ++ port_name set port.now) }
 {
-    write_whole(out, 12, port)?;
-    write_short(out, 12, port)
+    write_whole(out, set, 12, port)?;
+    write_short(out, set, 12, port)
 }
 
 fn write_counts(
     out: &mut Bytes,
+    set: CharacterSet,
     port: &Name,
     containers: u64,
     kilograms: u64,
 ) -> Result<(), NoMemory>
-    ensures { OnOk result (out.new ≡ out.old ++ counts port.now containers kilograms) }
+    ensures { OnOk result (out.new ≡ out.old ++ counts set port.now containers kilograms) }
 {
-    write_port(out, port.bytes())?;
+    write_port(out, set, port.bytes())?;
     put(out, b": ", containers)?;
     write_raw(out, b", ")?;
     write_tonnes(out, kilograms)?;
@@ -203,15 +193,16 @@ fn write_counts(
 #[tactic(auto, using(crate::proofs::Uptos::upto_more))]
 pub(crate) fn write_legend(
     out: &mut Bytes,
+    set: CharacterSet,
     ports: &NameList,
     marks: &PortMarkList,
     groups: &[CellGroup],
 ) -> Result<(), NoMemory>
     requires { length groups.now < 2 ^ 32 }
-    ensures { OnOk result (out.new ≡ out.old ++ legend ports.now marks.now groups.now) }
+    ensures { OnOk result (out.new ≡ out.old ++ legend set ports.now marks.now groups.now) }
 {
     for i in 0..ports.len() {
-        write_entry_of(out, ports, marks, groups, i)?;
+        write_entry_of(out, set, ports, marks, groups, i)?;
     }
     Ok(())
 }

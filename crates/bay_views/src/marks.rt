@@ -2,11 +2,12 @@
 ghost use Rattle.std.specs.Prelude.{◌≡◌, ◌<◌, ◌≤◌, ◌^◌, ◌+◌, ◌++◌, ◌∷◌, ◌%◌, [], nat_le, codes, length, OnOk};
 ghost use Rattle.std.specs.Fmt.{decimal};
 ghost use Rattle.stow_report.specs.Listings.{length_text};
-ghost use Rattle.bay_views.specs.Escapes.{escaped};
+ghost use Rattle.bay_views.specs.Escapes.{escaped_in};
 ghost use Rattle.bay_views.specs.Marks.{raw, when, only_if, whole, short, tenths, tonnes, rect, swatch, label, classes, class_text, weight, told, title, letters, short_class, marks, weight_mark, inside, filled_text, vacant_text};
 
 use crate::cells::Cell;
-use crate::escaping::escape;
+use crate::character_sets::CharacterSet;
+use crate::escaping::escape_in;
 use crate::port_marks::PortMark;
 use baplie::Facts;
 use itoa::Buffer;
@@ -36,10 +37,10 @@ pub(crate) fn write_number(out: &mut Bytes, number: u64) -> Result<(), NoMemory>
 }
 
 /// Appends a name of the file.
-pub(crate) fn write_name(out: &mut Bytes, name: &Name) -> Result<(), NoMemory>
-    ensures { OnOk result (out.new ≡ out.old ++ escaped name.now) }
+pub(crate) fn write_name(out: &mut Bytes, set: CharacterSet, name: &Name) -> Result<(), NoMemory>
+    ensures { OnOk result (out.new ≡ out.old ++ escaped_in set name.now) }
 {
-    escape(out, name.bytes())
+    escape_in(out, set, name.bytes())
 }
 
 /// Appends a text where it is to stand.
@@ -51,26 +52,36 @@ pub(crate) fn put_if(out: &mut Bytes, on: bool, text: &[u8]) -> Result<(), NoMem
 
 /// Appends a text of more than so many bytes as the title of what it stands in.
 #[tactic(auto, unfolding(crate::specs::Marks::whole))]
-pub(crate) fn write_whole(out: &mut Bytes, most: usize, text: &[u8]) -> Result<(), NoMemory>
-    ensures { OnOk result (out.new ≡ out.old ++ whole most text.now) }
+pub(crate) fn write_whole(
+    out: &mut Bytes,
+    set: CharacterSet,
+    most: usize,
+    text: &[u8],
+) -> Result<(), NoMemory>
+    ensures { OnOk result (out.new ≡ out.old ++ whole set most text.now) }
 {
     if text.len() <= most {
         return Ok(());
     }
     write_raw(out, b"<title>")?;
-    escape(out, text)?;
+    escape_in(out, set, text)?;
     write_raw(out, b"</title>")
 }
 
 /// Appends a text, cut where it has more than so many bytes.
 #[tactic(auto, unfolding(crate::specs::Marks::short))]
-pub(crate) fn write_short(out: &mut Bytes, most: usize, text: &[u8]) -> Result<(), NoMemory>
-    ensures { OnOk result (out.new ≡ out.old ++ short most text.now) }
+pub(crate) fn write_short(
+    out: &mut Bytes,
+    set: CharacterSet,
+    most: usize,
+    text: &[u8],
+) -> Result<(), NoMemory>
+    ensures { OnOk result (out.new ≡ out.old ++ short set most text.now) }
 {
     if text.len() <= most {
-        return escape(out, text);
+        return escape_in(out, set, text);
     }
-    escape(out, &text[..most])?;
+    escape_in(out, set, &text[..most])?;
     write_raw(out, b"&#8230;")
 }
 
@@ -161,11 +172,11 @@ fn write_classes(out: &mut Bytes, facts: &Facts) -> Result<(), NoMemory>
     put_if(out, facts.class.is_some(), b"d ")
 }
 
-fn write_class(out: &mut Bytes, class: &Option<Name>) -> Result<(), NoMemory>
-    ensures { OnOk result (out.new ≡ out.old ++ class_text class.now) }
+fn write_class(out: &mut Bytes, set: CharacterSet, class: &Option<Name>) -> Result<(), NoMemory>
+    ensures { OnOk result (out.new ≡ out.old ++ class_text set class.now) }
 {
     match class {
-        Some(class) => write_name(out, class),
+        Some(class) => write_name(out, set, class),
         None => Ok(()),
     }
 }
@@ -193,13 +204,13 @@ fn write_weight(out: &mut Bytes, facts: &Facts) -> Result<(), NoMemory>
     write_raw(out, b" kg")
 }
 
-fn write_told(out: &mut Bytes, facts: &Facts) -> Result<(), NoMemory>
-    ensures { OnOk result (out.new ≡ out.old ++ told facts.now) }
+fn write_told(out: &mut Bytes, set: CharacterSet, facts: &Facts) -> Result<(), NoMemory>
+    ensures { OnOk result (out.new ≡ out.old ++ told set facts.now) }
 {
     put_if(out, facts.reefer, b", reefer")?;
     put_if(out, facts.empty, b", empty")?;
     put_if(out, facts.class.is_some(), b", class ")?;
-    write_class(out, &facts.class)
+    write_class(out, set, &facts.class)
 }
 
 fn write_cell_number(out: &mut Bytes, cell: &Cell) -> Result<(), NoMemory>
@@ -208,38 +219,48 @@ fn write_cell_number(out: &mut Bytes, cell: &Cell) -> Result<(), NoMemory>
     out.extend(&cell.number)
 }
 
-fn write_title(out: &mut Bytes, cell: &Cell, facts: &Facts) -> Result<(), NoMemory>
-    ensures { OnOk result (out.new ≡ out.old ++ title cell.now facts.now) }
+fn write_title(
+    out: &mut Bytes,
+    set: CharacterSet,
+    cell: &Cell,
+    facts: &Facts,
+) -> Result<(), NoMemory>
+    ensures { OnOk result (out.new ≡ out.old ++ title set cell.now facts.now) }
 {
     write_cell_number(out, cell)?;
     write_raw(out, b" ")?;
-    write_name(out, &facts.id)?;
+    write_name(out, set, &facts.id)?;
     write_length(out, facts.long)?;
-    write_name(out, &facts.dest)?;
+    write_name(out, set, &facts.dest)?;
     write_weight(out, facts)?;
-    write_told(out, facts)
+    write_told(out, set, facts)
 }
 
 /// Appends the mark of a port.
 #[tactic(auto, unfolding(crate::specs::Marks::letters))]
 pub(crate) fn write_letters(
     out: &mut Bytes,
+    set: CharacterSet,
     middle: u64,
     base: u64,
     mark: PortMark,
 ) -> Result<(), NoMemory>
-    ensures { OnOk result (out.new ≡ out.old ++ letters middle base mark) }
+    ensures { OnOk result (out.new ≡ out.old ++ letters set middle base mark) }
 {
     write_label(out, middle, base, b"t")?;
-    escape(out, mark.as_slice())?;
+    escape_in(out, set, mark.as_slice())?;
     write_raw(out, b"</text>")
 }
 
-fn write_short_class(out: &mut Bytes, class: &Option<Name>) -> Result<(), NoMemory>
-    ensures { OnOk result (out.new ≡ out.old ++ short_class class.now) }
+fn write_short_class(
+    out: &mut Bytes,
+    set: CharacterSet,
+    class: &Option<Name>,
+) -> Result<(), NoMemory>
+    ensures { OnOk result (out.new ≡ out.old ++ short_class set class.now) }
 {
     match class {
-        Some(class) => write_short(out, 4, class.bytes()),
+        Some(class) => write_short(out, set, 4, class.bytes()),
         None => Ok(()),
     }
 }
@@ -260,6 +281,7 @@ fn write_weight_mark(out: &mut Bytes, cell: &Cell, kg: u32) -> Result<(), NoMemo
 #[tactic(auto, unfolding(crate::specs::Marks::inside))]
 fn write_inside(
     out: &mut Bytes,
+    set: CharacterSet,
     cell: &Cell,
     port: usize,
     mark: PortMark,
@@ -269,30 +291,36 @@ fn write_inside(
     requires top { cell.now.top < 2 ^ 42 }
     requires width { cell.now.width ≤ 56 }
     requires some { 28 ≤ cell.now.width }
-    ensures { OnOk result (out.new ≡ out.old ++ inside cell.now port mark facts.now) }
+    ensures { OnOk result (out.new ≡ out.old ++ inside set cell.now port mark facts.now) }
 {
     write_swatch(out, cell.left, cell.top, cell.width, 24, port)?;
-    write_letters(out, cell.left + cell.width / 2, cell.top + 20, mark)?;
-    write_marks(out, cell, facts)?;
+    write_letters(out, set, cell.left + cell.width / 2, cell.top + 20, mark)?;
+    write_marks(out, set, cell, facts)?;
     write_weight_mark(out, cell, facts.kg)
 }
 
 #[tactic(auto, unfolding(crate::specs::Marks::marks))]
-fn write_marks(out: &mut Bytes, cell: &Cell, facts: &Facts) -> Result<(), NoMemory>
+fn write_marks(
+    out: &mut Bytes,
+    set: CharacterSet,
+    cell: &Cell,
+    facts: &Facts,
+) -> Result<(), NoMemory>
     requires left { cell.now.left < 2 ^ 33 }
     requires top { cell.now.top < 2 ^ 42 }
-    ensures { OnOk result (out.new ≡ out.old ++ marks cell.now facts.now) }
+    ensures { OnOk result (out.new ≡ out.old ++ marks set cell.now facts.now) }
 {
     write_label(out, cell.left + 2, cell.top + 9, b"m")?;
     put_if(out, facts.reefer, b"R ")?;
     put_if(out, facts.empty, b"E ")?;
-    write_short_class(out, &facts.class)?;
+    write_short_class(out, set, &facts.class)?;
     write_raw(out, b"</text>")
 }
 
 /// Appends a container with the number and the mark of its port.
 pub(crate) fn write_filled(
     out: &mut Bytes,
+    set: CharacterSet,
     cell: &Cell,
     port: usize,
     mark: PortMark,
@@ -302,14 +330,14 @@ pub(crate) fn write_filled(
     requires top { cell.now.top < 2 ^ 42 }
     requires width { cell.now.width ≤ 56 }
     requires some { 28 ≤ cell.now.width }
-    ensures { OnOk result (out.new ≡ out.old ++ filled_text cell.now port mark facts.now) }
+    ensures { OnOk result (out.new ≡ out.old ++ filled_text set cell.now port mark facts.now) }
 {
     write_raw(out, b"<g class='")?;
     write_classes(out, facts)?;
     write_raw(out, b"'><title>")?;
-    write_title(out, cell, facts)?;
+    write_title(out, set, cell, facts)?;
     write_raw(out, b"</title>")?;
-    write_inside(out, cell, port, mark, facts)?;
+    write_inside(out, set, cell, port, mark, facts)?;
     write_raw(out, b"</g>\n")
 }
 
