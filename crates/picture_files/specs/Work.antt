@@ -1,5 +1,5 @@
 -- What is written and printed for the bay plans.
-use Rattle.std.specs.Prelude.{◌≡◌, ℕ, ◌+◌, ◌-◌, ◌==◌, codes, List, [], ◌∷◌, ◌++◌, length, map, fold, flat_map, slice_get, option_to_list, All, Option, Some, None, if◌then◌else◌}
+use Rattle.std.specs.Prelude.{◌≡◌, ℕ, Bool, ◌+◌, codes, List, [], ◌∷◌, ◌++◌, length, take, drop, reverse, find, map, fold, flat_map, slice_get, option_to_list, All, Option, Some, None, if◌then◌else◌}
 use Rattle.stow_report.specs.Listings.{AreListable}
 use Rattle.baplie.specs.declared.parts.CellGroup.{CellGroup}
 use Rattle.bay_views.specs.Heads.{same_voyage}
@@ -18,24 +18,32 @@ AreDrawable views = All (λ v. AreListable v.message.groups) views
 abbrev pub ports_of : List View → List (List ℕ)
 ports_of views = fold (λ ports v. with_ports ports v.message.groups) [] views
 
--- the groups of the bay plan beside another one, where both are of one voyage
-abbrev pub groups_beside : View → Option View → Option (List CellGroup)
-groups_beside v None = None
-groups_beside v (Some other) = if same_voyage v.message other.message then Some other.message.groups else None
+-- of one voyage
+abbrev pub is_beside : View → View → Bool
+is_beside v other = same_voyage v.message other.message
 
-abbrev pub view_before : List View → ℕ → Option View
-view_before views i = if i == 0 then None else slice_get views (i - 1)
+-- the last bay plan of a voyage before a place, whichever other ones stand between
+abbrev pub view_before : List View → View → ℕ → Option View
+view_before views v i = find (is_beside v) (reverse (take i views))
 
--- the picture of a bay plan, beside the one before it and the one behind it
+-- the first one of it behind the place
+abbrev pub view_after : List View → View → ℕ → Option View
+view_after views v i = find (is_beside v) (drop (i + 1) views)
+
+abbrev pub groups_in : Option View → Option (List CellGroup)
+groups_in None = None
+groups_in (Some v) = Some v.message.groups
+
+-- the picture of a bay plan, beside the one of its voyage before it and the one behind it
 abbrev pub file_of : List (List ℕ) → View → Option View → Option View → NamedFile
-file_of ports v before after = record { name = picture_name v.name; bytes = picture ports v.message (groups_beside v before) (groups_beside v after) }
+file_of ports v before after = record { name = picture_name v.name; bytes = picture ports v.message (groups_in before) (groups_in after) }
 
-abbrev pub file_in : List (List ℕ) → Option View → Option View → Option View → List NamedFile
-file_in ports None before after = []
-file_in ports (Some v) before after = file_of ports v before after ∷ []
+abbrev pub file_in : List (List ℕ) → List View → ℕ → Option View → List NamedFile
+file_in ports views i None = []
+file_in ports views i (Some v) = file_of ports v (view_before views v i) (view_after views v i) ∷ []
 
 unfoldable pub file_at : List (List ℕ) → List View → ℕ → List NamedFile
-file_at ports views i = file_in ports (slice_get views i) (view_before views i) (slice_get views (i + 1))
+file_at ports views i = file_in ports views i (slice_get views i)
 
 -- a picture for each bay plan
 abbrev pub files_of : List (List ℕ) → List View → List NamedFile

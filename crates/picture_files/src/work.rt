@@ -1,7 +1,7 @@
 //! What is written and printed for the bay plans.
-ghost use Rattle.std.specs.Prelude.{◌≡◌, ◌++◌, ◌∷◌, ◌<◌, [], length, flat_map, option_copied, All, IfOk, OnOk};
+ghost use Rattle.std.specs.Prelude.{◌≡◌, ◌++◌, ◌∷◌, ◌<◌, ◌≤◌, [], length, flat_map, option_copied, All, IfOk, OnOk};
 ghost use Rattle.stow_report.specs.Listings.{AreListable};
-ghost use Rattle.picture_files.specs.Work.{ports_of, groups_beside, view_before, file_of, file_at, files_of, line_of, report_of, HasPages, IsWorkOf, AreDrawable};
+ghost use Rattle.picture_files.specs.Work.{ports_of, is_beside, groups_in, view_before, view_after, file_of, file_at, files_of, line_of, report_of, HasPages, IsWorkOf, AreDrawable};
 
 use crate::naming::{base_of, picture_name};
 use crate::reading::{View, ViewList};
@@ -22,17 +22,23 @@ fn ports_of(alloc: Global, views: &[View]) -> Result<NameList, NoMemory>
     Ok(ports)
 }
 
-/// The groups of the bay plan beside another one, where both are of one voyage.
-fn groups_beside<'a>(view: &View, other: Option<&'a View>) -> Option<&'a GroupList>
-    ensures { option_copied result ≡ groups_beside view.now (option_copied other.entry) }
+/// Whether two bay plans are of one voyage.
+fn is_beside(view: &View, other: &View) -> bool
+    ensures { result ≡ is_beside view.now other.now }
 {
-    match other {
-        Some(other) if same_voyage(&view.message, &other.message) => Some(&other.message.groups),
-        _ => None,
+    same_voyage(&view.message, &other.message)
+}
+
+fn groups_in(view: Option<&View>) -> Option<&GroupList>
+    ensures { option_copied result ≡ groups_in (option_copied view.entry) }
+{
+    match view {
+        Some(view) => Some(&view.message.groups),
+        None => None,
     }
 }
 
-/// The picture of a bay plan, under its name, beside the one before it and the one behind it.
+/// The picture of a bay plan, under its name, beside the one of its voyage before it and the one behind it.
 fn file_of(
     alloc: Global,
     ports: &NameList,
@@ -43,18 +49,29 @@ fn file_of(
     requires { AreListable view.now.message.groups }
     ensures { IfOk result (λ file. file ≡ file_of ports.now view.now (option_copied before.entry) (option_copied after.entry)) }
 {
-    let before = groups_beside(view, before);
-    let after = groups_beside(view, after);
+    let before = groups_in(before);
+    let after = groups_in(after);
     Ok(NamedFile {
         name: picture_name(alloc, view.name.as_str())?,
         bytes: picture(alloc, ports, &view.message, before, after)?,
     })
 }
 
-fn view_before(views: &[View], i: usize) -> Option<&View>
-    ensures { option_copied result ≡ view_before views.now i }
+/// The last bay plan of a voyage before a place.
+fn view_before<'a>(views: &'a [View], view: &View, i: usize) -> Option<&'a View>
+    requires { i ≤ length views.now }
+    ensures { option_copied result ≡ view_before views.now view.now i }
 {
-    if i == 0 { None } else { views.get(i - 1) }
+    views[..i].iter().rev().find(|other| is_beside(view, other))
+}
+
+/// The first bay plan of a voyage behind a place.
+fn view_after<'a>(views: &'a [View], view: &View, i: usize) -> Option<&'a View>
+    requires { i < length views.now }
+    ensures { option_copied result ≡ view_after views.now view.now i }
+{
+    let (_, behind) = views.split_at(i + 1);
+    behind.iter().find(|other| is_beside(view, other))
 }
 
 /// The picture of the bay plan at this place.
@@ -64,9 +81,10 @@ fn file_at(alloc: Global, ports: &NameList, views: &[View], i: usize) -> Result<
     requires place { i < length views.now }
     ensures { IfOk result (λ file. file ∷ [] ≡ file_at ports.now views.now i) }
 {
-    let before = view_before(views, i);
-    let after = views.get(i + 1);
-    file_of(alloc, ports, &views[i], before, after)
+    let view = &views[i];
+    let before = view_before(views, view, i);
+    let after = view_after(views, view, i);
+    file_of(alloc, ports, view, before, after)
 }
 
 /// A picture for each bay plan.

@@ -8,6 +8,18 @@ use stow_io::{MemFolder, MemSink};
 const PLAN: &str =
     "UNB+UNOA:2+LINE+SHIP+260131:0900+77'UNH+1+BAPLIE:D:95B:UN:SMDG22'LOC+147+0020102::5'MEA+WT++KGM:18400'LOC+11+SEGOT:139:6'EQD+CN+ABCU7654321+42G1+++5'UNT+6+1'UNZ+1+77'";
 
+/// A plan in ISO 8859-1, whose port of discharge has a letter that ASCII lacks.
+const ACCENTED: &[u8] =
+    b"UNB+UNOC:2+LINE+SHIP+260131:0900+77'UNH+1+BAPLIE:D:95B:UN:SMDG22'LOC+147+0020102::5'MEA+WT++KGM:18400'LOC+11+G\xD6T:139:6'EQD+CN+ABCU7654321+42G1+++5'UNT+6+1'UNZ+1+77'";
+
+/// The same, whose interchange says that it is ASCII.
+const ASCII: &[u8] =
+    b"UNB+UNOA:2+LINE+SHIP+260131:0900+77'UNH+1+BAPLIE:D:95B:UN:SMDG22'LOC+147+0020102::5'MEA+WT++KGM:18400'LOC+11+G\xD6T:139:6'EQD+CN+ABCU7654321+42G1+++5'UNT+6+1'UNZ+1+77'";
+
+/// A plan of another voyage.
+const OTHER: &[u8] =
+    b"UNB+UNOA:2+LINE+SHIP+260131:0900+77'UNH+1+BAPLIE:D:95B:UN:SMDG22'TDT+20+8++++++:::OTHER'UNT+3+1'UNZ+1+77'";
+
 fn words_of(alloc: Global, first: &str, second: &str) -> Result<WordList, NoMemory> {
     let mut words = WordList::new(alloc);
     words.push(Word::of(alloc, "stow-view")?)?;
@@ -72,6 +84,49 @@ fn draws_two_calls(rt: HostRuntime) -> Result<(), Fail> {
     assert!(rt; ran.status == Status::Fine);
     assert!(rt; ran.report.as_slice() == report);
     assert!(rt; ran.has_picture && ran.has_page);
+    Ok(())
+}
+
+/// Whether the picture of a file holds this text.
+fn shows(folder: &MemFolder, name: &str, part: &[u8]) -> bool {
+    match folder.file(name) {
+        Some(text) => {
+            let text = text.as_slice();
+            (0..text.len()).any(|front| text[front..].starts_with(part))
+        }
+        None => false,
+    }
+}
+
+/// Whether the picture of this plan holds this text.
+fn drawn_with(alloc: Global, plan: &[u8], part: &[u8]) -> Result<bool, NoMemory> {
+    let mut folder = folder_of(alloc)?;
+    folder.lay("a/one.edi", plan)?;
+    let ran = run_in(alloc, "a/one.edi", "a/two.edi", &mut folder);
+    let shown = shows(&folder, "a/one.edi.svg", part);
+    drop(folder);
+    drop(ran?);
+    Ok(shown)
+}
+
+#[test]
+fn reads_bytes_by_level(rt: HostRuntime) -> Result<(), Fail> {
+    assert!(rt; drawn_with(rt.alloc(), ACCENTED, b" G&#214;T ")?);
+    assert!(rt; drawn_with(rt.alloc(), ASCII, b" G&#65533;T ")?);
+    Ok(())
+}
+
+#[test]
+fn compares_within_a_voyage(rt: HostRuntime) -> Result<(), Fail> {
+    let mut folder = folder_of(rt.alloc())?;
+    folder.lay("a/other.edi", OTHER)?;
+    let mut words = words_of(rt.alloc(), "a/one.edi", "a/other.edi")?;
+    words.push(Word::of(rt.alloc(), "a/two.edi")?)?;
+    let ran = run_on(rt.alloc(), &words, &mut folder)?;
+    let line: &[u8] = b"&#9650; 0 loaded, &#9660; 0 discharged, &#9670; 0 rehandled";
+    assert!(rt; ran.status == Status::Fine);
+    assert!(rt; shows(&folder, "a/two.edi.svg", line));
+    assert!(rt; !shows(&folder, "a/other.edi.svg", b"Since the bay plan before"));
     Ok(())
 }
 
