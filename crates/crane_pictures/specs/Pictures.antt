@@ -1,12 +1,12 @@
 -- The picture of a crane list (SVG 1.1): cranes across, rounds down.
-use Rattle.std.specs.Prelude.{ℕ, ◌+◌, ◌*◌, max, codes, List, ◌++◌, length, flat_map, count_by}
+use Rattle.std.specs.Prelude.{ℕ, ◌+◌, ◌*◌, nat_lt, max, codes, List, ◌++◌, length, take, flat_map, count_by, if◌then◌else◌}
 use Rattle.std.specs.Fmt.{decimal}
 use Rattle.baplie.specs.Texts.{cell_digits}
 use Rattle.stow_report.specs.declared.crane_lists.CraneMove.{CraneMove}
 use Rattle.stow_report.specs.declared.crane_lists.CraneMove.TheVariants.{Lift, Put, Off, On}
 use Rattle.stow_report.specs.declared.crane_lists.CraneReport.{CraneReport}
 use Rattle.bay_views.specs.Escapes.{escaped, escaped_text}
-use Rattle.bay_views.specs.Marks.{raw, short}
+use Rattle.bay_views.specs.Marks.{raw}
 use Rattle.bay_views.specs.Upto.{upto}
 use Rattle.crane_pictures.specs.declared.purposes.Purpose.{Purpose}
 use Rattle.crane_pictures.specs.declared.purposes.Purpose.TheVariants.{Discharge, Load, MoveAside, PutBack, CoverOff, CoverOn}
@@ -32,10 +32,14 @@ words PutBack = codes "put back"
 words CoverOff = codes "cover taken off"
 words CoverOn = codes "cover put on"
 
--- the number of a container, cut where it is long, or that of a cover
+-- the number of a container, cut where it has more than thirteen bytes
+unfoldable pub short : List ℕ → List ℕ
+short id = if nat_lt 13 (length id) then escaped (take 13 id) ++ raw (codes "&#8230;") else escaped id
+
+-- that number, or that of a cover
 abbrev pub named : CraneMove → List ℕ
-named (Lift cell id) = short 13 id
-named (Put cell id) = short 13 id
+named (Lift cell id) = short id
+named (Put cell id) = short id
 named (Off cover) = raw (codes "cover ") ++ decimal cover
 named (On cover) = raw (codes "cover ") ++ decimal cover
 

@@ -2,9 +2,9 @@
 ghost use Rattle.std.specs.Prelude.{◌≡◌, ◌≤◌, ◌<◌, ◌^◌, ◌+◌, ◌*◌, ◌++◌, length, count_by, IfOk, OnOk};
 ghost use Rattle.std.specs.Fmt.{decimal};
 ghost use Rattle.baplie.specs.Texts.{cell_digits};
-ghost use Rattle.bay_views.specs.Marks.{raw, short};
+ghost use Rattle.bay_views.specs.Marks.{raw};
 ghost use Rattle.crane_pictures.specs.Lists.{IsDrawable};
-ghost use Rattle.crane_pictures.specs.Pictures.{letter, words, named, told, place, shape_spot, turn, shape_front, shape_title, shape_box, shape_label, shape_text, body, width, height, picture_mark, opening, view_box, texts, colours, named_list, totals, least_line, head, front, spot, entry_front, entry_box, entry_count, entry, legend, column_front, column_ground, column, columns, row, rows, grid, over, work_picture};
+ghost use Rattle.crane_pictures.specs.Pictures.{letter, words, short, named, told, place, shape_spot, turn, shape_front, shape_title, shape_box, shape_label, shape_text, body, width, height, picture_mark, opening, view_box, texts, colours, named_list, totals, least_line, head, front, spot, entry_front, entry_box, entry_count, entry, legend, column_front, column_ground, column, columns, row, rows, grid, over, work_picture};
 ghost use Rattle.crane_pictures.specs.Shapes.{has_purpose};
 
 use crate::purposes::Purpose;
@@ -42,9 +42,9 @@ fn put(out: &mut Bytes, text: &[u8], number: u64) -> Result<(), NoMemory>
 }
 
 /// Appends a text of the file, cut where it is long.
-#[tactic(auto, unfolding(bay_views::specs::Marks::short))]
+#[tactic(auto, unfolding(crate::specs::Pictures::short))]
 fn write_short(out: &mut Bytes, text: &[u8]) -> Result<(), NoMemory>
-    ensures { OnOk result (out.new ≡ out.old ++ short 13 text.now) }
+    ensures { OnOk result (out.new ≡ out.old ++ short text.now) }
 {
     if text.len() <= MOST {
         return escape(out, text);
