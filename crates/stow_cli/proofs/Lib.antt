@@ -5,7 +5,7 @@ pub mod WrittenFiles
 pub mod OneCheck
 pub mod Alike
 pub mod OneCall
-pub mod Sharing
+pub mod SharedOut
 pub mod OneAnswer
 pub mod Limits
 pub mod Agreement

@@ -1,5 +1,5 @@
 use Rattle.std.proofs.Common.{inr}
-use Rattle.stow_cli.proofs.Sharing.{in_rotation, refused_at, share_stops, shares, taken_at}
+use Rattle.stow_cli.proofs.SharedOut.{in_rotation, refused_at, share_stops, shares, taken_at}
 use Rattle.stow_cli.proofs.cranes.cranes.Goals as goal
 
 pub share_voyage-answer-requires-clause-to : goal.share_voyage-answer-requires-clause-to
