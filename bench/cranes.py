@@ -113,7 +113,11 @@ def main():
                 told(group, sum(found, []))
         told(f"all {voyages} voyages", everything)
         for ship in list(large(folder)):
-            told(ship, lists_of(folder, f"{ship}.ship.toml", f"{ship}.cargo.toml", ship))
+            found = lists_of(folder, f"{ship}.ship.toml", f"{ship}.cargo.toml", ship)
+            if not found:
+                print(f"{ship}: no plan was found")
+                continue
+            told(ship, found)
             worst, check = slowest(folder, ship)
             print(f"  slowest list {worst:.2f} s, a check of the same files {check:.2f} s")
 
