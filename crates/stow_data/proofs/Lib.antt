@@ -14,3 +14,4 @@ pub mod KindJoins
 pub mod KindLemmas
 pub mod PlanLookups
 pub mod Nines
+pub mod Prices

@@ -1,9 +1,9 @@
-//! The cargo of a voyage: the rotation, the containers and the arrival.
-ghost use Rattle.std.specs.Prelude.{◌≡◌, ◌<◌, ◌≤◌, ◌-◌, ◌*◌, ◌↔◌, IsTrue, Some, length, slice_get};
-ghost use Rattle.stow_data.specs.Shipment.{IsAboard, IsCargo, is_aboard};
+//! The cargo of a voyage: the rotation, the tariff, the containers and the arrival.
+ghost use Rattle.std.specs.Prelude.{◌≡◌, ◌<◌, ◌≤◌, ◌-◌, ◌^◌, ◌↔◌, IsTrue, Some, length, slice_get, sum};
+ghost use Rattle.stow_data.specs.Shipment.{IsAboard, IsCargo, is_aboard, most_cost, price};
 
 use crate::geometry::Length;
-use crate::list::Seq;
+use crate::list::{NumberList, Seq};
 use crate::names::{Name, NameList};
 use crate::numbers::{CallNo, ContainerNo};
 use crate::plans::Plan;
@@ -46,10 +46,20 @@ impl Container {
 /// A list of containers.
 pub type ContainerList = Seq<Container>;
 
-/// A cargo: the ports of the calls from 1, the containers, and the plan of the ship at arrival.
+/// The sum of prices.
+fn sum_of(prices: &[u32]) -> u64
+    requires { length prices.now < 2 ^ 32 }
+    ensures { result ≡ sum prices.now }
+{
+    prices.iter().map(|&price| u64::from(price)).sum()
+}
+
+/// A cargo: the ports of the calls from 1, the prices of a rehandle at the calls from 1 to the last but one, the containers, and the plan
+/// of the ship at arrival.
 #[derive(Drop)]
 pub struct Cargo {
     rotation: NameList,
+    tariff: NumberList,
     containers: ContainerList,
     arrival: Plan,
 }
@@ -67,13 +77,20 @@ impl Model for Cargo {
 }
 
 impl Cargo {
-    /// A cargo of these parts: 2 to 12 calls, fewer than 2^32 containers with ids that differ, each bound for a later call than it loads at.
-    pub fn new(rotation: NameList, containers: ContainerList, arrival: Plan) -> Cargo
-        requires { IsCargo (record { rotation = rotation; containers = containers; arrival = arrival }) }
-        ensures { result ≡ record { rotation = rotation; containers = containers; arrival = arrival } }
+    /// A cargo of these parts: 2 to 12 calls, a price of at most 1,000 for each call but the last, at most 5,000 containers with ids that
+    /// differ, each bound for a later call than it loads at.
+    pub fn new(
+        rotation: NameList,
+        tariff: NumberList,
+        containers: ContainerList,
+        arrival: Plan,
+    ) -> Cargo
+        requires { IsCargo (record { rotation = rotation; tariff = tariff; containers = containers; arrival = arrival }) }
+        ensures { result ≡ record { rotation = rotation; tariff = tariff; containers = containers; arrival = arrival } }
     {
         Cargo {
             rotation,
+            tariff,
             containers,
             arrival,
         }
@@ -101,6 +118,17 @@ impl Cargo {
         ensures { slice_get self.now.rotation (c - 1) ≡ Some result }
     {
         self.rotation.at(c.0 as usize - 1).copy()
+    }
+
+    /// The price of a rehandle at a call; nothing at the arrival and at the last call.
+    pub fn tariff(&self, c: CallNo) -> u32
+        ensures value { result ≡ price self.now c }
+        ensures small { result ≤ 1000 }
+    {
+        if c.0 == 0 || c.0 as usize > self.tariff.len() {
+            return 0;
+        }
+        *self.tariff.at(c.0 as usize - 1)
     }
 
     /// A container.
@@ -132,10 +160,10 @@ impl Cargo {
         &self.arrival
     }
 
-    /// The greatest number of rehandles that a voyage needs: each container once at each call but the last.
+    /// The most that a voyage needs to cost: each container lifted once at each call but the last.
     pub fn limit(&self) -> u64
-        ensures { result ≡ length self.now.containers * (length self.now.rotation - 1) }
+        ensures { result ≡ most_cost self.now }
     {
-        self.containers.len() as u64 * (self.rotation.len() as u64 - 1)
+        self.containers.len() as u64 * sum_of(self.tariff.as_slice())
     }
 }
