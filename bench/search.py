@@ -2,7 +2,7 @@
 """Measures how far the search of `stow plan` comes on made ships, perhaps beside another program.
 
     bench/search.py INSTANCES [--numbers FIRST COUNT] [--budget N] [--groups NAME,..] [--workers N] [--beside PROGRAM] [--at-once N]
-        [--each] [--into FILE]
+        [--tariff LEAST MOST] [--each] [--into FILE]
 
 INSTANCES is a folder with `instances.py`, which makes the ships (`instances.py list` names the groups, `instances.py GROUP FIRST
 COUNT FOLDER` writes them), and perhaps `cbc.csv`, with what CBC found on some of them (group, number, calls, containers,
@@ -10,16 +10,18 @@ variables, first plan, status, best, bound, seconds). The group `literature` has
 `literature.py` makes: transportation matrices of one bay in the form of the literature. The other columns of that file, what other
 methods find, are summed below the table, over the ships that have them all.
 
-Ships that `plan` refuses are left out. For each group the table has the sums of rehandles with a budget of one node, of the search, and
+Ships that `plan` refuses are left out. For each group the table has the sums of costs with a budget of one node, of the search, and
 of CBC where it was run on all the ships; how many optima the search proved, and CBC; and the mean and the slowest run, in a
 processor's seconds. With --beside each search is made by the other program too, right before, and its sum, proofs and times stand
-beside.
+beside. With --tariff each ship's bookings get a tariff, drawn by the ship's name, the same on every machine; what CBC found is then
+read from `cbc-LEAST-MOST.csv`, in the columns of `cbc.csv`.
 
 --numbers FIRST COUNT   the ships of each group (0 6 where it is missing); all of `literature`
 --budget N              the nodes of each search (1000 where it is missing)
 --groups NAME,..        these groups alone
 --workers N             so many workers
 --beside PROGRAM        another program
+--tariff LEAST MOST     a price from LEAST to MOST for each call but the last
 --at-once N             runs N ships side by side (1 where it is missing, since times count)
 --each                  prints each ship
 --into FILE             writes the table between the two lines '<!-- search table .. -->' of FILE
@@ -28,6 +30,7 @@ import argparse
 import concurrent.futures
 import csv
 import os
+import random
 import subprocess
 import tempfile
 
@@ -48,6 +51,7 @@ def run(program, folder, ship, budget, workers):
         _, status, used = os.wait4(child.pid, 0)
         child.returncode = os.waitstatus_to_exitcode(status)
     said = dict(line.split(" ", 1) for line in text.splitlines() if " " in line)
+    said.setdefault("cost", said.get("rehandles"))
     if child.returncode == 6:
         return None
     if "outcome" not in said:
@@ -55,14 +59,14 @@ def run(program, folder, ship, budget, workers):
     return said, used.ru_utime + used.ru_stime
 
 
-def rehandles(said):
-    """The rehandles of a report, 0 where there is no plan."""
-    return 0 if said["rehandles"] == "none" else int(said["rehandles"])
+def cost(said):
+    """The cost of a report, 0 where there is no plan."""
+    return 0 if said["cost"] == "none" else int(said["cost"])
 
 
-def known(folder):
+def known(folder, tariff):
     """What CBC found, by group and number."""
-    path = f"{folder}/cbc.csv"
+    path = f"{folder}/cbc-{tariff[0]}-{tariff[1]}.csv" if tariff else f"{folder}/cbc.csv"
     if not os.path.exists(path):
         return {}
     with open(path, encoding="utf-8") as file:
@@ -70,7 +74,7 @@ def known(folder):
 
 
 def cbc_of(row):
-    """The rehandles of CBC's best plan, and whether it is proved; None where CBC found none."""
+    """The cost of CBC's best plan, and whether it is proved; None where CBC found none."""
     if row[6] == "loader":
         return 0, True
     best = float(row[7]) if row[7] else None
@@ -83,7 +87,27 @@ def peers(folder):
         return list(csv.DictReader(file))
 
 
+def priced(path, ship, least, most):
+    """Gives the bookings of a ship a tariff with prices from least to most."""
+    with open(path, encoding="utf-8") as file:
+        lines = file.read().splitlines(keepends=True)
+    place = next(k for k, line in enumerate(lines) if line.startswith("rotation = "))
+    draw = random.Random(f"tariff {least} {most} {ship}")
+    prices = [draw.randint(least, most) for _ in lines[place].split(",")[1:]]
+    lines.insert(place + 1, f"tariff = {prices}\n")
+    with open(path, "w", encoding="utf-8") as file:
+        file.writelines(lines)
+
+
 def made(args, group, folder):
+    """Makes the ships of a group, with a tariff where one is asked for; answers their names, with their numbers."""
+    ships = made_plainly(args, group, folder)
+    for _, ship in ships if args.tariff else []:
+        priced(f"{folder}/{ship}.cargo.toml", ship, *args.tariff)
+    return ships
+
+
+def made_plainly(args, group, folder):
     """Makes the ships of a group; answers their names, with their numbers."""
     if group == LITERATURE:
         names = [row["name"] for row in peers(args.instances)]
@@ -104,7 +128,7 @@ def searched(args, folder, ship):
     beside = run(args.beside, folder, ship, args.budget, args.workers) if args.beside else None
     found = run(PROGRAM, folder, ship, args.budget, args.workers)
     if args.each:
-        told = [ship] + [f"{said['outcome']} {said['rehandles']} {said['bound']} {took:.2f}" for said, took in filter(None, (beside, found))]
+        told = [ship] + [f"{said['outcome']} {said['cost']} {said['bound']} {took:.2f}" for said, took in filter(None, (beside, found))]
         print("  " + " | ".join(told), flush=True)
     return begun, beside, found
 
@@ -123,7 +147,7 @@ def times(found):
 
 
 def total(found):
-    return str(sum(rehandles(said) for said, _ in found))
+    return str(sum(cost(said) for said, _ in found))
 
 
 def measured(args, group, cbc, folder):
@@ -173,6 +197,7 @@ def main():
     asked.add_argument("--groups")
     asked.add_argument("--workers", type=int, default=1)
     asked.add_argument("--beside")
+    asked.add_argument("--tariff", nargs=2, type=int)
     asked.add_argument("--at-once", type=int, default=1)
     asked.add_argument("--each", action="store_true")
     asked.add_argument("--into")
@@ -182,7 +207,7 @@ def main():
     listed = subprocess.run(["python3", f"{args.instances}/instances.py", "list"], stdout=subprocess.PIPE, text=True, check=True)
     whole = listed.stdout.split() + ([LITERATURE] if os.path.exists(f"{args.instances}/literature.csv") else [])
     groups = args.groups.split(",") if args.groups else whole
-    cbc, rows = known(args.instances), []
+    cbc, rows = known(args.instances, args.tariff), []
     with tempfile.TemporaryDirectory() as folder:
         for group in groups:
             rows.append(measured(args, group, cbc, folder))
