@@ -58,12 +58,14 @@ cargo_has_rules ship b h =
     record {
       calls_from = h.calls_from;
       calls_to = h.calls_to;
+      each_priced = h.each_priced;
+      prices_to = h.prices_to;
       few_containers = omega (arith, count, few);
       ids_differ = ids_kept 0 b.containers h.ids_differ;
       each_shipped = all_containers (IsBooking (length b.rotation)) (IsShipped (length b.rotation)) (λ i c k. record { later = k.later; in_rotation = k.in_rotation; kg_to = k.kg_to }) 0 b.containers h.each_booking;
     }
 
 -- a cargo of such parts is that of the bookings
-pub same_cargo : (ship : Ship) (b : Bookings) (rotation : List (List ℕ)) (containers : List Container) (arrival : List (Option ℕ)) → rotation ≡ b.rotation → containers ≡ map container_of (enumerate_from 0 b.containers) → arrival ≡ replicate (length (places ship)) None
-    → record { rotation = rotation; containers = containers; arrival = arrival } ≡ booked_cargo ship b
-same_cargo ship b rotation containers arrival r c a = rw (r, c, a) refl
+pub same_cargo : (ship : Ship) (b : Bookings) (rotation : List (List ℕ)) (tariff : List ℕ) (containers : List Container) (arrival : List (Option ℕ)) → rotation ≡ b.rotation → tariff ≡ b.tariff → containers ≡ map container_of (enumerate_from 0 b.containers) → arrival ≡ replicate (length (places ship)) None
+    → record { rotation = rotation; tariff = tariff; containers = containers; arrival = arrival } ≡ booked_cargo ship b
+same_cargo ship b rotation tariff containers arrival r t c a = rw (r, t, c, a) refl

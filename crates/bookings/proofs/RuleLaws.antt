@@ -1,9 +1,10 @@
 -- Bookings that were read obey the rules.
 use Rattle.std.proofs.Common.{◌≡◌, ◌≢◌, ℕ, suc, ◌+◌, ◌<◌, ◌≤◌, Bool, true, false, ◌||◌, List, Ok, Err, [], ◌∷◌, ◌++◌, length, Option, Some, None, Result, refl, sym, ap, subst, ◌∙◌, arith}
-use Rattle.std.specs.Prelude.{All, AllPairs, IfOk, IfSome, ℤ, ◌≤ℤ◌, codes, nat_le, nat_lt, negsuc, not, ok_or, pos}
+use Rattle.std.specs.Prelude.{All, AllPairs, IfOk, IfSome, ℤ, ◌-◌, ◌==◌, ◌≤ℤ◌, codes, nat_le, nat_lt, negsuc, not, ok_or, pos, replicate}
 use Rattle.std.specs.Str.{bytes_eq}
-use Rattle.std.proofs.lemmas.Bool.{false≢true, leb-true}
-use Rattle.std.proofs.lemmas.List.Elements.{All-cons, All-get_or, All-nil, All-push}
+use Rattle.std.proofs.lemmas.Bool.{eqb-true, false≢true, leb-true}
+use Rattle.std.proofs.lemmas.List.{length-replicate}
+use Rattle.std.proofs.lemmas.List.Elements.{All-cons, All-get_or, All-nil, All-push, All-replicate}
 use Rattle.std.proofs.lemmas.List.Quantifiers.{all_pairs_push}
 use Rattle.std.proofs.lemmas.Slice.Eq.{bytes_eq-Decides}
 use Rattle.toml.specs.Data.{Data, Items, Members, no_items}
@@ -22,7 +23,7 @@ use Rattle.bookings.specs.declared.shipment.Booking.{Booking}
 use Rattle.bookings.specs.declared.shipment.Bookings.{Bookings}
 use Rattle.stow_data.specs.declared.limits.Limit.TheVariants as limit
 use Rattle.bookings.specs.Spelling.{spelling}
-use Rattle.bookings.specs.Reading.{Gives, booking_at, booking_of, bookings_in, bookings_of, containers_in, ensure, has_id, may, need, of_key, or_else, ports_of, rotation_in}
+use Rattle.bookings.specs.Reading.{Gives, booking_at, booking_of, bookings_in, bookings_of, containers_in, ensure, has_id, may, need, of_key, or_else, ports_of, prices_of, rotation_in, tariff_in}
 use Rattle.bookings.specs.Rules.{IsBooking, IsBookings}
 use Rattle.bookings.proofs.BookingLaws.{key_read}
 
@@ -247,6 +248,32 @@ rotation_is top ports h =
       each_port = subst (All (λ port. is_code 35 port ≡ true)) (passed (λ ports. nat_le 2 (length ports)) all.value read.value all.goes_on) each;
     }
 
+-- what is true of a tariff
+pub record IsTariff (calls : ℕ) (prices : List ℕ) : Type 0 where
+  pub each_priced : length prices + 1 ≡ calls
+  pub prices_to : All (λ price. price ≤ 1000) prices
+
+prices_are : (calls : ℕ) (items : Option Items) (prices : List ℕ) → 1 ≤ calls → prices_of calls items ≡ Ok prices → IsTariff calls prices
+prices_are calls (Some items) prices some h =
+    let all = bound (each_of (number_of 0 1000) items) _ prices h in
+    let count = eqb-true (length prices) (calls - 1) (passes (λ ps. length ps == calls - 1) all.value prices all.goes_on) in
+    let each = each_keeps (λ _. number_of 0 1000) (All (λ price. price ≤ 1000)) (λ before d price so_far k. All-push (λ price. price ≤ 1000) before price so_far (number_within 0 1000 d price k).1) [] items all.value (All-nil (λ price. price ≤ 1000)) all.is in
+    record {
+      each_priced = omega (arith, count, some);
+      prices_to = subst (All (λ price. price ≤ 1000)) (passed (λ ps. length ps == calls - 1) all.value prices all.goes_on) each;
+    }
+prices_are calls None prices some h =
+    subst (IsTariff calls) (same_Ok (replicate (calls - 1) 1) prices h) record {
+      each_priced = omega (arith, length-replicate (calls - 1) 1, some);
+      prices_to = All-replicate (λ price. price ≤ 1000) (calls - 1) 1 (omega arith);
+    }
+
+pub tariff_is : (calls : ℕ) (top : Members) (prices : List ℕ) → 1 ≤ calls → tariff_in calls top ≡ Ok prices → IsTariff calls prices
+unfolding tariff_in
+tariff_is calls top prices some h =
+    let items = bound (may key.Tariff array_of 0 top) _ prices h in
+    prices_are calls items.value prices some (key_read key.Tariff 0 (prices_of calls items.value) prices items.goes_on)
+
 -- what is true of the containers
 record AreContainers (calls : ℕ) (bs : List Booking) : Type 0 where
   pub few : length bs ≤ 2000
@@ -270,8 +297,11 @@ bookings_in_are top b h =
     let recipient = bound (or_else (codes "STOW") key.Recipient (text_that is_name) 0 top) _ b sender.goes_on in
     let date = bound (need key.Date (text_that (is_digits 10)) 0 top) _ b recipient.goes_on in
     let rotation = bound (rotation_in top) _ b date.goes_on in
-    let containers = bound (containers_in (length rotation.value) top) _ b rotation.goes_on in
+    let tariff = bound (tariff_in (length rotation.value) top) _ b rotation.goes_on in
+    let containers = bound (containers_in (length rotation.value) top) _ b tariff.goes_on in
     let calls = rotation_is top rotation.value rotation.is in
+    let from = calls.calls_from in
+    let priced = tariff_is (length rotation.value) top tariff.value (omega (arith, from)) tariff.is in
     let booked = containers_are (length rotation.value) top containers.value containers.is in
     subst IsBookings (same_Ok _ b containers.goes_on) record {
       vessel_named = needed (λ s. is_name s ≡ true) key.Vessel (text_that is_name) (text_passes is_name) 0 top vessel.value vessel.is;
@@ -282,6 +312,8 @@ bookings_in_are top b h =
       calls_from = calls.calls_from;
       calls_to = calls.calls_to;
       each_port = calls.each_port;
+      each_priced = priced.each_priced;
+      prices_to = priced.prices_to;
       few = booked.few;
       ids_differ = booked.list.ids_differ;
       each_booking = booked.list.each;

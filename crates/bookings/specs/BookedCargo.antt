@@ -14,4 +14,4 @@ container_of b = record { id = b.1.id; load = b.1.load; dest = b.1.dest; long = 
 
 -- the cargo of bookings: their containers in order, and a ship on which nothing stands at arrival
 abbrev pub booked_cargo : Ship → Bookings → Cargo
-booked_cargo ship b = record { rotation = b.rotation; containers = map container_of (enumerate_from 0 b.containers); arrival = replicate (length (places ship)) None }
+booked_cargo ship b = record { rotation = b.rotation; tariff = b.tariff; containers = map container_of (enumerate_from 0 b.containers); arrival = replicate (length (places ship)) None }

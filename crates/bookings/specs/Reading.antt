@@ -1,5 +1,5 @@
 -- The bookings of a text, or its first fault: key after key, and entry after entry.
-use Rattle.std.specs.Prelude.{Bool, Err, List, MatchResult, Ok, Option, Result, [], false, codes, if◌then◌else◌, length, nat_le, nat_lt, negsuc, not, ok_or, pos, ℕ, ◌+◌, ◌≡◌, ◌≢◌}
+use Rattle.std.specs.Prelude.{Bool, Err, List, MatchResult, None, Ok, Option, Result, Some, [], false, codes, if◌then◌else◌, length, nat_le, nat_lt, negsuc, not, ok_or, pos, replicate, ℕ, ◌+◌, ◌-◌, ◌==◌, ◌≡◌, ◌≢◌}
 use Rattle.std.specs.List.{list_any}
 use Rattle.std.specs.Str.{bytes_eq}
 use Rattle.toml.specs.Data.{Data, Items, Members, no_items}
@@ -52,6 +52,17 @@ rotation_in top = do
   few ← ensure (nat_le (length ports) 12) (TooLarge limit.Calls (length ports))
   Ok ports
 
+-- the prices of a list, one for each call but the last; all 1 where there is no list
+abbrev pub prices_of : ℕ → Option Items → Result (List ℕ) Unread
+prices_of calls (Some items) = each_of (number_of 0 1000) items >>= passing (λ prices. length prices == calls - 1)
+prices_of calls None = Ok (replicate (calls - 1) 1)
+
+-- the tariff of a rotation of so many calls, which may be missing
+unfoldable pub tariff_in : ℕ → Members → Result (List ℕ) BookingFault
+tariff_in calls top = do
+  items ← may key.Tariff array_of 0 top
+  of_key key.Tariff 0 (prices_of calls items)
+
 abbrev pub has_id : List ℕ → List Booking → Bool
 has_id id bookings = list_any (λ b. bytes_eq b.id id) bookings
 
@@ -92,8 +103,9 @@ bookings_in top = do
   recipient ← or_else (codes "STOW") key.Recipient (text_that is_name) 0 top
   date ← need key.Date (text_that (is_digits 10)) 0 top
   rotation ← rotation_in top
+  tariff ← tariff_in (length rotation) top
   containers ← containers_in (length rotation) top
-  Ok (record { vessel = vessel; voyage = voyage; sender = sender; recipient = recipient; date = date; rotation = rotation; containers = containers })
+  Ok (record { vessel = vessel; voyage = voyage; sender = sender; recipient = recipient; date = date; rotation = rotation; tariff = tariff; containers = containers })
 
 -- the bookings of a text
 unfoldable pub bookings_of : List ℕ → Result Bookings BookingFault

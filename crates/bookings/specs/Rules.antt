@@ -1,5 +1,5 @@
 -- What bookings obey that were read.
-use Rattle.std.specs.Prelude.{All, AllPairs, IfSome, IsTrue, Some, length, negsuc, pos, ℕ, ◌<◌, ◌≡◌, ◌≢◌, ◌≤ℤ◌, ◌≤◌}
+use Rattle.std.specs.Prelude.{All, AllPairs, IfSome, IsTrue, Some, length, negsuc, pos, ℕ, ◌+◌, ◌<◌, ◌≡◌, ◌≢◌, ◌≤ℤ◌, ◌≤◌}
 use Rattle.stow_data.specs.Profile.{is_class, is_name}
 use Rattle.stow_data.specs.Types.{length_of_type}
 use Rattle.toml_values.specs.Values.{is_code, is_digits}
@@ -30,6 +30,8 @@ pub record IsBookings (b : Bookings) : Type 0 where
   pub calls_from : 2 ≤ length b.rotation
   pub calls_to : length b.rotation ≤ 12
   pub each_port : All (λ port. IsTrue (is_code 35 port)) b.rotation
+  pub each_priced : length b.tariff + 1 ≡ length b.rotation
+  pub prices_to : All (λ price. price ≤ 1000) b.tariff
   pub few : length b.containers ≤ 2000
   pub ids_differ : AllPairs (λ c d. c.id ≢ d.id) b.containers
   pub each_booking : All (IsBooking (length b.rotation)) b.containers

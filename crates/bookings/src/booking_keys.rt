@@ -17,6 +17,8 @@ pub enum BookingKey {
     Date,
     /// At least two ports of 1 to 35 capital letters and digits.
     Rotation,
+    /// The prices of a rehandle: a list of one number from 0 to 1,000 for each call but the last; may be missing, then all are 1.
+    Tariff,
     /// An array of tables; may be missing, then there are none. The keys below are those of its entries.
     Container,
     /// 1 to 17 capital letters and digits.
@@ -53,6 +55,7 @@ impl BookingKey {
             BookingKey::Recipient => "recipient",
             BookingKey::Date => "date",
             BookingKey::Rotation => "rotation",
+            BookingKey::Tariff => "tariff",
             BookingKey::Container => "container",
             BookingKey::Id => "id",
             BookingKey::From => "from",

@@ -50,7 +50,8 @@ pub fn cargo_of(alloc: Global, ship: &Ship, bookings: &Bookings) -> Result<Cargo
     ensures { IfOk result (λ cargo. cargo ≡ booked_cargo ship.now bookings.now) }
 {
     let rotation = names_copied(alloc, bookings.rotation.as_slice())?;
+    let tariff = bookings.tariff.copy(alloc)?;
     let containers = containers_of(alloc, bookings.containers.as_slice())?;
     let arrival = Plan::empty(alloc, ship)?;
-    Ok(Cargo::new(rotation, containers, arrival))
+    Ok(Cargo::new(rotation, tariff, containers, arrival))
 }

@@ -2,11 +2,11 @@
 ghost use Rattle.std.specs.Prelude.{◌≡◌, ◌^◌, ◌≤◌, IfOk, codes, length, nat_le};
 ghost use Rattle.toml.specs.Data.{no_items};
 ghost use Rattle.toml.specs.View.{array_view, table_view, view};
-ghost use Rattle.toml_values.specs.Values.{is_code, seen, text_that};
+ghost use Rattle.toml_values.specs.Values.{is_code, number_of, seen, text_that};
 ghost use Rattle.toml_values.specs.Arrays.{each_of, item_count, tables_of};
 ghost use Rattle.stow_data.specs.Profile.{is_name};
 ghost use Rattle.bookings.specs.declared.booking_keys.BookingKey.TheVariants as key;
-ghost use Rattle.bookings.specs.Reading.{Gives, bookings_in, bookings_of, containers_in, need, of_key, or_else, ports_of, rotation_in};
+ghost use Rattle.bookings.specs.Reading.{Gives, bookings_in, bookings_of, containers_in, need, of_key, or_else, ports_of, rotation_in, tariff_in};
 ghost use Rattle.bookings.specs.Rules.{IsBookings};
 
 use crate::booking_keys::BookingKey;
@@ -14,10 +14,12 @@ use crate::faults::BookingFault;
 use crate::shipment::{BookingList, Bookings};
 use crate::{entries, keyed};
 use std::alloc::Global;
-use stow_data::{Limit, Name, NameList};
+use stow_data::{Limit, Name, NameList, NumberList};
 use toml::Table;
 use toml::value::Array;
-use toml_values::{NoDocument, array_at, code_of, count_of, document, if_there, tables_at};
+use toml_values::{
+    NoDocument, array_at, code_of, count_of, document, if_there, number_of, tables_at,
+};
 
 const MOST_CALLS: usize = 12;
 
@@ -52,6 +54,35 @@ fn rotation_in(alloc: Global, top: &Table) -> Result<NameList, BookingFault>
         });
     }
     Ok(ports)
+}
+
+/// The prices of a list, of which there may be any number.
+fn prices_of(alloc: Global, items: &Array) -> Result<NumberList, BookingFault>
+    ensures { Gives result (of_key key.Tariff 0 (each_of (number_of 0 1000) (array_view items.now))) }
+{
+    let mut prices = NumberList::new(alloc);
+    for item in items {
+        let price = keyed::of_key(number_of(item, 0, 1_000), BookingKey::Tariff, 0)?;
+        prices.push(price)?;
+    }
+    Ok(prices)
+}
+
+#[tactic(auto, unfolding(crate::specs::Reading::tariff_in))]
+fn tariff_in(alloc: Global, top: &Table, calls: u32) -> Result<NumberList, BookingFault>
+    requires { 1 ≤ calls }
+    ensures { Gives result (tariff_in calls (table_view top.now)) }
+{
+    let key = BookingKey::Tariff;
+    let items = keyed::of_key(if_there(array_at(top, key.spelling())), key, 0)?;
+    let Some(items) = items else {
+        return Ok(NumberList::filled(alloc, 1, calls as usize - 1)?);
+    };
+    let prices = prices_of(alloc, items)?;
+    if prices.len() != calls as usize - 1 {
+        return Err(BookingFault::BadValue { key, index: 0 });
+    }
+    Ok(prices)
 }
 
 #[tactic(auto, unfolding(crate::specs::Reading::containers_in))]
@@ -91,6 +122,7 @@ fn bookings_in(alloc: Global, top: &Table) -> Result<Bookings, BookingFault>
     let date = keyed::digits(top, 0, BookingKey::Date, 10)?;
     let rotation = rotation_in(alloc, top)?;
     let calls = rotation.len() as u32;
+    let tariff = tariff_in(alloc, top, calls)?;
     let containers = containers_in(alloc, top, calls)?;
     Ok(Bookings {
         vessel,
@@ -99,12 +131,13 @@ fn bookings_in(alloc: Global, top: &Table) -> Result<Bookings, BookingFault>
         recipient,
         date,
         rotation,
+        tariff,
         containers,
     })
 }
 
 /// The bookings of a text (TOML), whole, or its first fault. Keys are looked at in the order of `BookingKey`, and the entries of
-/// containers one after the other. Too many calls come before the containers are looked at, and too many containers before the first
+/// containers one after the other. Too many calls come before the tariff is looked at, and too many containers before the first
 /// entry; after the keys of an entry come the order of its calls, its length and its id. Keys that aren't known are left unread.
 #[tactic(auto, unfolding(crate::specs::Reading::bookings_of))]
 pub fn read_bookings(alloc: Global, bytes: &[u8]) -> Result<Bookings, BookingFault>

@@ -1,5 +1,5 @@
 //! Bookings and their containers.
-use stow_data::{CallNo, Length, Name, NameList, Seq};
+use stow_data::{CallNo, Length, Name, NameList, NumberList, Seq};
 
 /// The booking of a container.
 #[derive(Drop)]
@@ -44,6 +44,8 @@ pub struct Bookings {
     pub date: Name,
     /// The ports of the calls, from call 1: 2 to 12, of which one may stand twice.
     pub rotation: NameList,
+    /// The price of a rehandle at each call but the last, from call 1, at most 1,000; all 1 where the text doesn't say.
+    pub tariff: NumberList,
     /// The booked containers, in the order of the text.
     pub containers: BookingList,
 }
