@@ -13,6 +13,7 @@ use Rattle.stow_data.specs.declared.geometry.Length.{Length}
 use Rattle.stow_data.specs.declared.geometry.Length.TheVariants.{Twenty, Forty}
 use Rattle.stow_data.specs.declared.geometry.Place.{Place}
 use Rattle.stow_data.specs.declared.cargoes.Container.{Container}
+use Rattle.stow_data.specs.Profile.{IsShip}
 use Rattle.stow_data.specs.Ship.{Ship}
 use Rattle.stow_data.specs.Shipment.{Cargo, IsAboard, IsCargo, IsShipped}
 use Rattle.stow_data.specs.Plans.{Plan}
@@ -32,7 +33,7 @@ use Rattle.baplie.specs.declared.parts.CellGroup.{CellGroup}
 use Rattle.arrival_plan.specs.declared.stowage.Stowage.{Stowage}
 use Rattle.arrival_plan.specs.Arriving.{arriving, cargo_with, nothing}
 use Rattle.arrival_plan.specs.Settled.{AreRead, KeepsAsked}
-use Rattle.arrival_plan.proofs.Sound.{IsArrived, IsSound, get_kept, sound_first, sound_groups}
+use Rattle.arrival_plan.proofs.Sound.{IsArrived, IsSound, filled_low, get_kept, sound_first, sound_groups}
 
 -- ## Lists
 
@@ -86,15 +87,20 @@ module _ (ship : Ship) (bookings : Bookings) (rules : IsBookings bookings) (s : 
   apart_from_booked = all_mapped (λ (c : Container). has_id c.id bookings.containers ≡ false) (λ (c : Container). All (λ d. c.id ≢ d.id) booked) s.containers
       (λ c h. all_containers (λ b. c.id ≢ b.id) (λ d. c.id ≢ d.id) (λ i b ne. ne) 0 bookings.containers (others c.id bookings.containers h)) sound.not_booked
 
-  pub cargo_obeys : length s.containers ≤ 2 ^ 29 → IsCargo (cargo_with ship bookings s)
-  cargo_obeys few =
+  pub cargo_obeys : IsShip ship → IsCargo (cargo_with ship bookings s)
+  cargo_obeys lawful =
       let base = cargo_has_rules ship bookings rules in
       let small = rules.few in
+      let few = lawful.few_places in
+      let each = sound.each_place in
+      let stands = sound.each_stands in
       let count = booked_count 0 bookings.containers in
       record {
         calls_from = rules.calls_from;
         calls_to = rules.calls_to;
-        few_containers = omega (arith, few, small, count, length-append s.containers booked);
+        each_priced = rules.each_priced;
+        prices_to = rules.prices_to;
+        few_containers = omega (arith, few, each, stands, filled_low s.plan, small, count, length-append s.containers booked);
         ids_differ = pairs_joined (λ (c d : Container). c.id ≢ d.id) s.containers booked sound.ids_differ base.ids_differ apart_from_booked;
         each_shipped = All-append (IsShipped (length bookings.rotation)) s.containers booked (all_mapped (IsArrived (length bookings.rotation)) (IsShipped (length bookings.rotation)) s.containers (λ c a. record { later = let l = a.load in let d = a.dest_from in omega (arith, l, d); in_rotation = a.dest_to; kg_to = a.kg_to }) sound.each) base.each_shipped;
       }

@@ -65,6 +65,29 @@ put_from plan p c q d h = ⊎_elim
     (λ (ne : q ≡ p → ⊥). inr (ne, sym (slice_get-set_other plan p q (Some c) ne) ∙ h))
     (cases_eq q p)
 
+-- how many places are filled
+abbrev pub filled : Plan → ℕ
+filled [] = 0
+filled (None ∷ os) = filled os
+filled (Some c ∷ os) = suc (filled os)
+
+filled_nowhere : (n : ℕ) → filled (replicate n None) ≡ 0
+filled_nowhere zero = refl
+filled_nowhere (suc n) = filled_nowhere n
+
+pub filled_low : (plan : Plan) → filled plan ≤ length plan
+filled_low [] = omega arith
+filled_low (None ∷ os) = omega (arith, filled_low os)
+filled_low (Some c ∷ os) = omega (arith, filled_low os)
+
+-- a put at an empty place fills one more
+filled_put : (plan : Plan) (p c : ℕ) → p < length plan → ((d : ℕ) → Holds plan p d → ⊥) → filled (slice_set plan p (Some c)) ≡ suc (filled plan)
+filled_put [] p c l none = absurd (omega arith)
+filled_put (None ∷ os) zero c l none = refl
+filled_put (Some d ∷ os) zero c l none = absurd (none d refl)
+filled_put (None ∷ os) (suc p) c l none = filled_put os p c (omega arith) (λ d h. none d h)
+filled_put (Some d ∷ os) (suc p) c l none = ap suc (filled_put os p c (omega arith) (λ e h. none e h))
+
 or_false : (a b : Bool) → (a || b) ≡ false → (a ≡ false) × (b ≡ false)
 or_false true b h = absurd (both_ways true h refl)
 or_false false b h = (refl, h)
@@ -86,6 +109,7 @@ pub record IsArrived (calls : ℕ) (c : Container) : Type 0 where
 pub record IsSound (ship : Ship) (bookings : Bookings) (s : Stowage) : Type 0 where
   pub each_place : length s.plan ≡ length (places ship)
   pub known : (p c : ℕ) → Holds s.plan p c → c < length s.containers
+  pub each_stands : length s.containers ≡ filled s.plan
   pub fits : (p c : ℕ) (place : Place) (x : Container) → slice_get (places ship) p ≡ Some place → Holds s.plan p c → slice_get s.containers c ≡ Some x → Takes place x.long
   pub apart : (h : Half) (c d : ℕ) (x : Fills ship s.plan h c) (y : Fills ship s.plan h d) → x.number ≡ y.number
   pub once : (p q c : ℕ) → Holds s.plan p c → Holds s.plan q c → p ≡ q
@@ -98,6 +122,7 @@ pub sound_first : (ship : Ship) (bookings : Bookings) → IsSound ship bookings 
 sound_first ship bookings = record {
   each_place = length_replicated (length (places ship)) None;
   known = λ p c h. absurd (empty p c h);
+  each_stands = sym (filled_nowhere (length (places ship)));
   fits = λ p c place x is h e. absurd (empty p c h);
   apart = λ h c d x y. absurd (empty x.number c x.holds);
   once = λ p q c h k. absurd (empty p c h);
@@ -176,12 +201,16 @@ module _ (ship : Ship) (bookings : Bookings) (s : Stowage) (f : Facts) (p : Plac
       (put_from s.plan p.place (length s.containers) r d k))
       (put_from s.plan p.place (length s.containers) q d h)
 
-  -- what stood elsewhere stands on: the new place was empty
+  -- the new place was empty
+  empty_before : (d : ℕ) → Holds s.plan p.place d → ⊥
+  empty_before d h =
+      let side = some_side (place_at ship p.place).span in
+      no_half (half_at (place_at ship p.place) side.0) d (record { same_stack = refl; same_tier = refl; side = side.1 }) (record { number = p.place; place = place_at ship p.place; is_place = is_place ship p.place free.inside; has_half = record { same_stack = refl; same_tier = refl; side = side.1 }; holds = h })
+
+  -- what stood elsewhere stands on
   pub stands_on : (q d : ℕ) → Holds s.plan q d → Holds after q d
   stands_on q d h = ⊎_elim
-      (λ (e : q ≡ p.place).
-      let side = some_side (place_at ship p.place).span in
-      absurd (no_half (half_at (place_at ship p.place) side.0) d (record { same_stack = refl; same_tier = refl; side = side.1 }) (record { number = q; place = place_at ship p.place; is_place = ap (slice_get (places ship)) e ∙ is_place ship p.place free.inside; has_half = record { same_stack = refl; same_tier = refl; side = side.1 }; holds = h })))
+      (λ (e : q ≡ p.place). absurd (empty_before d (subst (λ (n : ℕ). Holds s.plan n d) e h)))
       (λ (ne : q ≡ p.place → ⊥). slice_get-set_other s.plan p.place q (Some (length s.containers)) ne ∙ h)
       (cases_eq q p.place)
 
@@ -203,6 +232,7 @@ module _ (ship : Ship) (bookings : Bookings) (s : Stowage) (f : Facts) (p : Plac
   sound_more = record {
     each_place = length-set s.plan p.place (Some (length s.containers)) ∙ sound.each_place;
     known = known_now;
+    each_stands = let put = filled_put s.plan p.place (length s.containers) (omega (arith, free.inside, sound.each_place)) empty_before in omega (arith, put, sound.each_stands, length-append s.containers (p.container ∷ []));
     fits = fits_now;
     apart = apart_now;
     once = once_now;

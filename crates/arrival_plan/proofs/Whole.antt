@@ -1,6 +1,7 @@
 -- The answer of the whole, from its parts.
 use Rattle.std.proofs.Common.{◌≡◌, ◌≢◌, ℕ, ◌<◌, ◌≤◌, ◌^◌, List, length, Ok, Err, refl, sym, ap, subst}
 use Rattle.stow_data.specs.declared.limits.Limit.TheVariants.{Containers}
+use Rattle.stow_data.specs.Profile.{IsShip}
 use Rattle.stow_data.specs.Ship.{Ship}
 use Rattle.stow_data.specs.Shipment.{Cargo, IsCargo}
 use Rattle.stowage_rules.specs.declared.faults.RuleBroken.{RuleBroken}
@@ -37,8 +38,8 @@ module _ (ship : Ship) (bookings : Bookings) (groups : List CellGroup) where
       by_kind NoMemory h k = tt
 
   module _ (rules : IsBookings bookings) (read : AreRead groups) (s : Stowage) (said : arriving ship bookings groups ≡ Ok s) where
-    pub obeys : length s.containers ≤ 2 ^ 29 → IsCargo (cargo_with ship bookings s)
-    obeys few = cargo_obeys ship bookings rules s (told_sound ship bookings groups s read said) few
+    pub obeys : IsShip ship → IsCargo (cargo_with ship bookings s)
+    obeys lawful = cargo_obeys ship bookings rules s (told_sound ship bookings groups s read said) lawful
 
     module _ (cargo : Cargo) (is : cargo ≡ cargo_with ship bookings s) where
       pub is_told : told ship bookings groups ≡ Ok cargo

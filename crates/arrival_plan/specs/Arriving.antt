@@ -59,4 +59,4 @@ arriving ship bookings groups = with_groups ship bookings (nothing ship) 0 group
 
 -- the cargo: what stands aboard, and then the containers of the bookings
 abbrev pub cargo_with : Ship → Bookings → Stowage → Cargo
-cargo_with ship bookings s = record { rotation = bookings.rotation; containers = s.containers ++ (booked_cargo ship bookings).containers; arrival = s.plan }
+cargo_with ship bookings s = record { rotation = bookings.rotation; tariff = bookings.tariff; containers = s.containers ++ (booked_cargo ship bookings).containers; arrival = s.plan }

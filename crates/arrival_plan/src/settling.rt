@@ -73,8 +73,9 @@ fn cargo_with(
 {
     let rotation = names_copied(alloc, bookings.rotation.as_slice())?;
     let booked = cargo_of(alloc, ship, bookings)?;
+    let tariff = bookings.tariff.copy(alloc)?;
     add_all(&mut stowage.containers, &booked)?;
-    Ok(Cargo::new(rotation, stowage.containers, stowage.plan))
+    Ok(Cargo::new(rotation, tariff, stowage.containers, stowage.plan))
 }
 
 /// The first of the rules of support, of twenty on forty foot and of plugs that a cargo's arrival breaks.
@@ -105,6 +106,7 @@ fn settle_groups(
     requires read { AreRead groups.now }
     ensures { Settles ship.now bookings.now groups.now result }
 {
+    ship.obeys_rules();
     let stowage = arriving(alloc, ship, bookings, groups)?;
     let cargo = cargo_with(alloc, ship, bookings, stowage)?;
     if let Some(rule) = broken_rule(ship, &cargo) {

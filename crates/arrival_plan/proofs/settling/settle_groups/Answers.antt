@@ -9,7 +9,7 @@ returns-in_err-stowage c =
     rw (p.1, p.2) (fault_settles c.args.ship.now c.args.bookings.now c.args.groups.now c.in_err-stowage.field-0.0 c.in_err-stowage.ensures.told)
 
 pub cargo_with-requires-clause-obeys : goal.cargo_with-requires-clause-obeys
-cargo_with-requires-clause-obeys c = obeys c.args.ship.now c.args.bookings.now c.args.groups.now c.requires.rules c.requires.read c.in_ok-stowage.stowage c.in_ok-stowage.ensures.told c.in_ok-stowage.ensures.few
+cargo_with-requires-clause-obeys c = obeys c.args.ship.now c.args.bookings.now c.args.groups.now c.requires.rules c.requires.read c.in_ok-stowage.stowage c.in_ok-stowage.ensures.told c.obeys_rules.ensures
 
 pub broken_rule-requires : goal.broken_rule-requires
 broken_rule-requires c = formed c.args.ship.now c.args.bookings.now c.args.groups.now c.requires.rules c.requires.read c.in_ok-stowage.stowage c.in_ok-stowage.ensures.told c.in_ok-cargo.cargo c.in_ok-cargo.ensures
