@@ -24,6 +24,7 @@ ship = record {
 abbrev cargo : Cargo
 cargo = record {
   rotation = (65 ∷ []) ∷ (66 ∷ []) ∷ (67 ∷ []) ∷ [];
+  tariff = 1 ∷ 1 ∷ [];
   containers = record { id = 65 ∷ []; load = 1; dest = 2; long = long.Forty; kg = 20500; reefer = true; class = None; origin = origin.Booked 0 } ∷ record { id = 66 ∷ []; load = 1; dest = 3; long = long.Forty; kg = 10000; reefer = false; class = None; origin = origin.Booked 1 } ∷ [];
   arrival = None ∷ None ∷ [];
 }
