@@ -10,7 +10,7 @@ use Rattle.stow_data.specs.Shipment.{Cargo}
 use Rattle.voyage_meaning.specs.declared.moves.Move.{Move}
 use Rattle.voyage_meaning.specs.declared.moves.Move.TheVariants.{OffCover, OnCover, Lift, Put}
 use Rattle.voyage_meaning.specs.Moves.{end_of}
-use Rattle.voyage_meaning.specs.Voyage.{start, count}
+use Rattle.voyage_meaning.specs.Voyage.{start, cost}
 
 -- A hold stack of one tier with a plug, a deck stack of one, a cover between; a reefer 1 to 2 and a plain container 1 to 3.
 abbrev ship : Ship
@@ -25,6 +25,7 @@ ship = record {
 abbrev cargo : Cargo
 cargo = record {
   rotation = (65 ∷ []) ∷ (66 ∷ []) ∷ (67 ∷ []) ∷ [];
+  tariff = 1 ∷ 7 ∷ [];
   containers = record { id = 65 ∷ []; load = 1; dest = 2; long = long.Forty; kg = 20500; reefer = true; class = None; origin = origin.Booked 0 } ∷ record { id = 66 ∷ []; load = 1; dest = 3; long = long.Forty; kg = 10000; reefer = false; class = None; origin = origin.Booked 1 } ∷ [];
   arrival = None ∷ None ∷ [];
 }
@@ -45,6 +46,6 @@ after_first = refl
 after_second : end_of cargo 2 (start ship cargo 2 (Some 0 ∷ Some 1 ∷ [])) second ≡ record { plan = None ∷ Some 1 ∷ []; quay = false ∷ false ∷ []; off = false ∷ [] }
 after_second = refl
 
--- the plain container is lifted at call 2 to let the reefer out
-one_rehandle : count ship cargo 1 (None ∷ None ∷ []) (first ∷ second ∷ []) ((Some 0 ∷ Some 1 ∷ []) ∷ (None ∷ Some 1 ∷ []) ∷ []) ≡ 1
+-- the plain container is lifted at call 2 to let the reefer out, and that costs the price of call 2
+one_rehandle : cost ship cargo 1 (None ∷ None ∷ []) (first ∷ second ∷ []) ((Some 0 ∷ Some 1 ∷ []) ∷ (None ∷ Some 1 ∷ []) ∷ []) ≡ 7
 one_rehandle = refl

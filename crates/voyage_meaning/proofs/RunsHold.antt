@@ -1,5 +1,5 @@
 -- A run of moves, one move longer.
-use Rattle.std.specs.Prelude.{◌≡◌, ℕ, ◌<◌, ◌≤◌, ◌+◌, suc, zero, Bool, true, false, List, [], ◌∷◌, length, take, Option, Some, MatchOption, slice_get}
+use Rattle.std.specs.Prelude.{◌≡◌, ℕ, ◌<◌, ◌≤◌, ◌+◌, ◌*◌, suc, zero, Bool, true, false, List, [], ◌∷◌, length, take, Option, Some, MatchOption, slice_get}
 use Rattle.std.proofs.Common.{refl, sym, ◌∙◌, ap, subst, arith, ⊎_elim}
 use Rattle.std.proofs.lemmas.Bool.{both_ways, cases_lt, false_from_ne_true}
 use Rattle.std.proofs.lemmas.Option.{slice_get_within, slice_get_past, same_Some, none-some}
@@ -7,7 +7,7 @@ use Rattle.stow_data.specs.Ship.{Ship}
 use Rattle.stow_data.specs.Shipment.{Cargo}
 use Rattle.voyage_meaning.specs.declared.moves.Move.{Move}
 use Rattle.stow_data.specs.Plans.{Plan}
-use Rattle.voyage_meaning.specs.Moves.{State, Allowed, AllAllowed, after, end_of, rehandles, rehandles_of}
+use Rattle.voyage_meaning.specs.Moves.{State, Allowed, AllAllowed, after, end_of, cost_of_moves, cost_of_move}
 use Rattle.voyage_meaning.specs.declared.berth.Unfinished.{Unfinished}
 use Rattle.voyage_meaning.specs.declared.berth.Unfinished.TheVariants.{Quay, Off}
 use Rattle.voyage_meaning.specs.Berths.{Berth, BelongsTo, IsFirstUnfinished, NoneSet}
@@ -32,27 +32,27 @@ end_more cargo call [] s i m is = absurd (none-some m is)
 end_more cargo call (x ∷ xs) s zero m is = ap (after cargo call s) (same_Some x m is)
 end_more cargo call (x ∷ xs) s (suc i) m is = end_more cargo call xs (after cargo call s x) i m is
 
-sum_more : (cargo : Cargo) (call : ℕ) (moves : List Move) (s : State) (i : ℕ) (m : Move) → slice_get moves i ≡ Some m → rehandles cargo call s (take (suc i) moves) ≡ rehandles cargo call s (take i moves) + rehandles_of cargo call (end_of cargo call s (take i moves)) m
+sum_more : (cargo : Cargo) (call : ℕ) (moves : List Move) (s : State) (i : ℕ) (m : Move) → slice_get moves i ≡ Some m → cost_of_moves cargo call s (take (suc i) moves) ≡ cost_of_moves cargo call s (take i moves) + cost_of_move cargo call (end_of cargo call s (take i moves)) m
 sum_more cargo call [] s i m is = absurd (none-some m is)
-sum_more cargo call (x ∷ xs) s zero m is = let e = ap (rehandles_of cargo call s) (same_Some x m is) in omega (arith, e)
+sum_more cargo call (x ∷ xs) s zero m is = let e = ap (cost_of_move cargo call s) (same_Some x m is) in omega (arith, e)
 sum_more cargo call (x ∷ xs) s (suc i) m is = omega (arith, sum_more cargo call xs (after cargo call s x) i m is)
 
 -- the run so far
-pub record RunsTo (ship : Ship) (cargo : Cargo) (call : ℕ) (s : State) (moves : List Move) (i : ℕ) (t : State) (count : ℕ) : Type 0 where
+pub record RunsTo (ship : Ship) (cargo : Cargo) (call : ℕ) (s : State) (moves : List Move) (i : ℕ) (t : State) (cost : ℕ) : Type 0 where
   pub allowed : AllAllowed ship cargo call s (take i moves)
   pub leads : t ≡ end_of cargo call s (take i moves)
-  pub counts : count ≡ rehandles cargo call s (take i moves)
-  pub small : count ≤ i
+  pub costs : cost ≡ cost_of_moves cargo call s (take i moves)
+  pub small : cost ≤ 1000 * i
   pub belongs : BelongsTo ship cargo t
 
-pub run_more : (ship : Ship) (cargo : Cargo) (call : ℕ) (s : State) (moves : List Move) (i : ℕ) (t u : State) (count more : ℕ) (m : Move) → RunsTo ship cargo call s moves i t count → slice_get moves i ≡ Some m → Allowed ship cargo t m → u ≡ after cargo call t m → more ≡ rehandles_of cargo call t m → more ≤ 1 → RunsTo ship cargo call s moves (i + 1) u (count + more)
-run_more ship cargo call s moves i t u count more m r is can done counted low =
+pub run_more : (ship : Ship) (cargo : Cargo) (call : ℕ) (s : State) (moves : List Move) (i : ℕ) (t u : State) (cost more : ℕ) (m : Move) → RunsTo ship cargo call s moves i t cost → slice_get moves i ≡ Some m → Allowed ship cargo t m → u ≡ after cargo call t m → more ≡ cost_of_move cargo call t m → more ≤ 1000 → RunsTo ship cargo call s moves (i + 1) u (cost + more)
+run_more ship cargo call s moves i t u cost more m r is can done priced low =
     let e : i + 1 ≡ suc i = omega arith in
-    let here : more ≡ rehandles_of cargo call (end_of cargo call s (take i moves)) m = counted ∙ ap (λ (x : State). rehandles_of cargo call x m) r.leads in
+    let here : more ≡ cost_of_move cargo call (end_of cargo call s (take i moves)) m = priced ∙ ap (λ (x : State). cost_of_move cargo call x m) r.leads in
     record {
       allowed = subst (λ (n : ℕ). AllAllowed ship cargo call s (take n moves)) (sym e) (all_more ship cargo call moves s i m is r.allowed (subst (λ (x : State). Allowed ship cargo x m) r.leads can));
       leads = done ∙ (ap (λ (x : State). after cargo call x m) r.leads ∙ (sym (end_more cargo call moves s i m is) ∙ ap (λ (n : ℕ). end_of cargo call s (take n moves)) (sym e)));
-      counts = (let a = sum_more cargo call moves s i m is in let b = r.counts in let d : count + more ≡ rehandles cargo call s (take (suc i) moves) = omega (arith, a, b, here) in d) ∙ ap (λ (n : ℕ). rehandles cargo call s (take n moves)) (sym e);
+      costs = (let a = sum_more cargo call moves s i m is in let b = r.costs in let d : cost + more ≡ cost_of_moves cargo call s (take (suc i) moves) = omega (arith, a, b, here) in d) ∙ ap (λ (n : ℕ). cost_of_moves cargo call s (take n moves)) (sym e);
       small = omega (arith, r.small, low);
       belongs = subst (λ (x : State). BelongsTo ship cargo x) (sym done) (belongs_after ship cargo call t m r.belongs can);
     }
@@ -85,7 +85,7 @@ stuck ship cargo call (x ∷ xs) s (suc i) m is all = stuck ship cargo call xs (
 pub stops_not : (ship : Ship) (cargo : Cargo) (call : ℕ) (moves : List Move) (s t : State) (n : ℕ) → StopsAt ship cargo call s moves t n → AllAllowed ship cargo call s moves → ⊥
 stops_not ship cargo call moves s t n stops all = stops.refused (subst (λ (x : State). Allowed ship cargo x stops.move) (sym stops.leads) (stuck ship cargo call moves s n stops.move stops.is_move all))
 
-pub leads_from : (ship : Ship) (cargo : Cargo) (call : ℕ) (before : Plan) (moves : List Move) (new : Plan) (s t : State) (n : ℕ) → s ≡ start ship cargo call before → Runs ship cargo call s moves t n → EndsAt ship t new → IsDeparture ship cargo call new → LeadsTo ship cargo call before moves new × (n ≡ rehandles cargo call (start ship cargo call before) moves)
+pub leads_from : (ship : Ship) (cargo : Cargo) (call : ℕ) (before : Plan) (moves : List Move) (new : Plan) (s t : State) (n : ℕ) → s ≡ start ship cargo call before → Runs ship cargo call s moves t n → EndsAt ship t new → IsDeparture ship cargo call new → LeadsTo ship cargo call before moves new × (n ≡ cost_of_moves cargo call (start ship cargo call before) moves)
 leads_from ship cargo call before moves new s t n is runs ends departs =
     let at : t ≡ end_of cargo call (start ship cargo call before) moves = runs.leads ∙ ap (λ (x : State). end_of cargo call x moves) is in (
       record {
@@ -95,7 +95,7 @@ leads_from ship cargo call before moves new s t n is runs ends departs =
         covers_on = λ k cover is. sym (ap (λ (x : State). slice_get x.off k) at) ∙ ends.covers_on k cover is;
         departure = departs;
       },
-      runs.counts ∙ ap (λ (x : State). rehandles cargo call x moves) is,
+      runs.costs ∙ ap (λ (x : State). cost_of_moves cargo call x moves) is,
     )
 
 pub ends_from : (ship : Ship) (cargo : Cargo) (call : ℕ) (before : Plan) (moves : List Move) (new : Plan) (s t : State) (n : ℕ) → s ≡ start ship cargo call before → Runs ship cargo call s moves t n → LeadsTo ship cargo call before moves new → EndsAt ship t new
@@ -122,11 +122,11 @@ runs_at_berth ship cargo call before moves b t n is runs = subst (λ (x : Berth)
 pub leads_at_berth : (ship : Ship) (cargo : Cargo) (call : ℕ) (before new : Plan) (moves : List Move) (b : Berth) (t : State) (n : ℕ) → b ≡ berth_of call (start ship cargo call before) → Runs ship cargo b.call b.state moves t n → EndsAt ship t new → IsDeparture ship cargo call new → LeadsBy ship cargo call before moves new n
 leads_at_berth ship cargo call before new moves b t n is runs ends departs =
     let r = leads_from ship cargo call before moves new (start ship cargo call before) t n refl (runs_at_berth ship cargo call before moves b t n is runs) ends departs in
-    record { leads = r.0; counts = r.1 }
+    record { leads = r.0; costs = r.1 }
 
 pub ends_at_berth : (ship : Ship) (cargo : Cargo) (call : ℕ) (before new : Plan) (moves : List Move) (b : Berth) (t : State) (n : ℕ) → b ≡ berth_of call (start ship cargo call before) → Runs ship cargo b.call b.state moves t n → LeadsTo ship cargo call before moves new → EndsAt ship t new
 ends_at_berth ship cargo call before new moves b t n is runs leads = ends_from ship cargo call before moves new (start ship cargo call before) t n refl (runs_at_berth ship cargo call before moves b t n is runs) leads
 
--- the departure of a call that is counted is well formed
+-- the departure of a call that is priced is well formed
 pub departs_well : (ship : Ship) (cargo : Cargo) (call : ℕ) (before : Plan) (moves : List Move) (new : Plan) (o : Option ℕ) (here : ℕ) → o ≡ Some here → MatchOption o (LeadsTo ship cargo call before moves new → ⊥) (λ n. LeadsBy ship cargo call before moves new n) → IsWellFormed ship cargo new
 departs_well ship cargo call before moves new o here is told = (subst (λ (z : Option ℕ). MatchOption z (LeadsTo ship cargo call before moves new → ⊥) (λ n. LeadsBy ship cargo call before moves new n)) is told).leads.departure.stowed.well_formed

@@ -5,7 +5,7 @@ use Rattle.stow_data.specs.declared.geometry.Length.{Length}
 use Rattle.stow_data.specs.declared.geometry.Length.TheVariants.{Twenty, Forty}
 use Rattle.stow_data.specs.declared.cargoes.Container.{Container}
 use Rattle.stow_data.specs.Ship.{Ship, places, TakesSide, half_at, half_over, Fits, LiesUnder, StandsOn}
-use Rattle.stow_data.specs.Shipment.{Cargo}
+use Rattle.stow_data.specs.Shipment.{Cargo, price}
 use Rattle.voyage_meaning.specs.declared.moves.Move.{Move}
 use Rattle.voyage_meaning.specs.declared.moves.Move.TheVariants.{OffCover, OnCover, Lift, Put}
 use Rattle.stow_data.specs.Plans.{Plan}
@@ -90,18 +90,19 @@ abbrev pub end_of : Cargo → ℕ → State → List Move → State
 end_of cargo call s [] = s
 end_of cargo call s (m ∷ ms) = end_of cargo call (after cargo call s m) ms
 
--- a lift counts 1 where the container doesn't leave at this call
-abbrev pub lift_count : Cargo → ℕ → Option ℕ → ℕ
-lift_count cargo call None = 0
-lift_count cargo call (Some c) = cond (leaves cargo call c) 0 1
+-- a lift costs the price of its call where the container doesn't leave there, and else nothing
+abbrev pub lift_cost : Cargo → ℕ → Option ℕ → ℕ
+lift_cost cargo call None = 0
+lift_cost cargo call (Some c) = cond (leaves cargo call c) 0 (price cargo call)
 
-abbrev pub rehandles_of : Cargo → ℕ → State → Move → ℕ
-rehandles_of cargo call s (Lift p) = lift_count cargo call (slice_index_or s.plan p None)
-rehandles_of cargo call s (Put c p) = 0
-rehandles_of cargo call s (OffCover k) = 0
-rehandles_of cargo call s (OnCover k) = 0
+-- only lifts cost
+abbrev pub cost_of_move : Cargo → ℕ → State → Move → ℕ
+cost_of_move cargo call s (Lift p) = lift_cost cargo call (slice_index_or s.plan p None)
+cost_of_move cargo call s (Put c p) = 0
+cost_of_move cargo call s (OffCover k) = 0
+cost_of_move cargo call s (OnCover k) = 0
 
--- the rehandles of a list of moves: the lifts of containers at a call other than their destination
-abbrev pub rehandles : Cargo → ℕ → State → List Move → ℕ
-rehandles cargo call s [] = 0
-rehandles cargo call s (m ∷ ms) = rehandles_of cargo call s m + rehandles cargo call (after cargo call s m) ms
+-- the cost of a list of moves: the price of the call for each lift of a container at a call other than its destination
+abbrev pub cost_of_moves : Cargo → ℕ → State → List Move → ℕ
+cost_of_moves cargo call s [] = 0
+cost_of_moves cargo call s (m ∷ ms) = cost_of_move cargo call s m + cost_of_moves cargo call (after cargo call s m) ms

@@ -1,4 +1,4 @@
--- Legal voyages with given departures, and the rehandle count (Avriel, Penn, Shpirer and Witteboon 1998).
+-- Legal voyages with given departures, and their cost (after Avriel, Penn, Shpirer and Witteboon 1998).
 use Rattle.std.specs.Prelude.{◌≡◌, ℕ, ◌+◌, ◌≤◌, suc, Bool, true, false, List, [], ◌∷◌, Some, slice_get, length, map, ◌==◌}
 use Rattle.stow_data.specs.declared.geometry.Cover.{Cover}
 use Rattle.stow_data.specs.Ship.{Ship}
@@ -6,7 +6,7 @@ use Rattle.stow_data.specs.Shipment.{Cargo}
 use Rattle.voyage_meaning.specs.declared.moves.Move.{Move}
 use Rattle.stow_data.specs.Plans.{Plan}
 use Rattle.stowage_rules.specs.Departure.{IsDeparture}
-use Rattle.voyage_meaning.specs.Moves.{State, AllAllowed, end_of, rehandles}
+use Rattle.voyage_meaning.specs.Moves.{State, AllAllowed, end_of, cost_of_moves}
 
 -- all covers are on
 abbrev pub AllOn : Ship → List Bool → Type 0
@@ -31,23 +31,23 @@ IsVoyage ship cargo call before (moves ∷ rest) (after ∷ departures) = LeadsT
 IsVoyage ship cargo call before [] (after ∷ departures) = ⊥
 IsVoyage ship cargo call before (moves ∷ rest) [] = ⊥
 
--- its rehandle count
-abbrev pub count : Ship → Cargo → ℕ → Plan → List (List Move) → List Plan → ℕ
-count ship cargo call before [] departures = 0
-count ship cargo call before (moves ∷ rest) [] = 0
-count ship cargo call before (moves ∷ rest) (after ∷ departures) = rehandles cargo call (start ship cargo call before) moves + count ship cargo (suc call) after rest departures
+-- its cost
+abbrev pub cost : Ship → Cargo → ℕ → Plan → List (List Move) → List Plan → ℕ
+cost ship cargo call before [] departures = 0
+cost ship cargo call before (moves ∷ rest) [] = 0
+cost ship cargo call before (moves ∷ rest) (after ∷ departures) = cost_of_moves cargo call (start ship cargo call before) moves + cost ship cargo (suc call) after rest departures
 
--- a legal voyage of a cargo: calls 1 to N-1, from the arrival; at the last call all leaves, and nothing there counts
+-- a legal voyage of a cargo: calls 1 to N-1, from the arrival; at the last call all leaves, and nothing there costs
 pub record IsLegalVoyage (ship : Ship) (cargo : Cargo) (moves : List (List Move)) (departures : List Plan) : Type 0 where
   pub each_call : length departures + 1 ≡ length cargo.rotation
   pub voyage : IsVoyage ship cargo 1 cargo.arrival moves departures
 
-abbrev pub voyage_count : Ship → Cargo → List (List Move) → List Plan → ℕ
-voyage_count ship cargo moves departures = count ship cargo 1 cargo.arrival moves departures
+abbrev pub voyage_cost : Ship → Cargo → List (List Move) → List Plan → ℕ
+voyage_cost ship cargo moves departures = cost ship cargo 1 cargo.arrival moves departures
 
--- the count of a list of departures: there is a legal voyage of this count with them, and none has fewer
-pub record HasCount (ship : Ship) (cargo : Cargo) (departures : List Plan) (number : ℕ) : Type 0 where
+-- the cost of a list of departures: there is a legal voyage of this cost with them, and none costs less
+pub record HasCost (ship : Ship) (cargo : Cargo) (departures : List Plan) (number : ℕ) : Type 0 where
   pub moves : List (List Move)
   pub is_legal : IsLegalVoyage ship cargo moves departures
-  pub is_number : voyage_count ship cargo moves departures ≡ number
-  pub least : (other : List (List Move)) → IsLegalVoyage ship cargo other departures → number ≤ voyage_count ship cargo other departures
+  pub is_number : voyage_cost ship cargo moves departures ≡ number
+  pub least : (other : List (List Move)) → IsLegalVoyage ship cargo other departures → number ≤ voyage_cost ship cargo other departures

@@ -2,7 +2,7 @@
 ghost use Rattle.std.specs.Prelude.{◌≡◌, ◌↔◌, ◌<◌, ◌≤◌, ◌^◌, ◌==◌, IfOk, IsTrue, MatchOption, MatchResult, Some, length, map, slice_get};
 ghost use Rattle.stow_data.specs.Ship.{places};
 ghost use Rattle.stowage_rules.specs.Plan.{IsWellFormed};
-ghost use Rattle.voyage_meaning.specs.Moves.{Allowed, after, leaves, quay_with, rehandles_of};
+ghost use Rattle.voyage_meaning.specs.Moves.{Allowed, after, leaves, quay_with, cost_of_move};
 ghost use Rattle.voyage_meaning.specs.Moves as words;
 ghost use Rattle.voyage_meaning.specs.Voyage.{start};
 ghost use Rattle.voyage_meaning.specs.Berths.{BelongsTo, IsFinished, IsFirstSet, IsFirstUnfinished, IsInRange, NoneSet};
@@ -71,14 +71,20 @@ fn is_bound(cargo: &Cargo, call: CallNo, c: ContainerNo) -> bool
     c.0 < cargo.len() && cargo.container(c).dest == call
 }
 
-/// What a lift counts: 1 where the container doesn't leave at the call.
-fn lift_count(cargo: &Cargo, call: CallNo, o: Option<ContainerNo>) -> u64
-    ensures value { result ≡ words.lift_count cargo.now call o }
-    ensures small { result ≤ 1 }
+/// What a lift costs: the price of the call where the container doesn't leave there.
+fn lift_cost(cargo: &Cargo, call: CallNo, o: Option<ContainerNo>) -> u128
+    ensures value { result ≡ words.lift_cost cargo.now call o }
+    ensures small { result ≤ 1000 }
 {
     match o {
         None => 0,
-        Some(c) => { if is_bound(cargo, call, c) { 0 } else { 1 } }
+        Some(c) => {
+            if is_bound(cargo, call, c) {
+                0
+            } else {
+                u128::from(cargo.tariff(call))
+            }
+        }
     }
 }
 
@@ -205,14 +211,14 @@ impl Berth {
         }
     }
 
-    /// The rehandles of a move: 1 for a lift of a container at a call other than its destination.
-    pub(crate) fn rehandles_by(&self, cargo: &Cargo, m: Move) -> u64
+    /// The cost of a move: the price of the call for a lift of a container at a call other than its destination.
+    pub(crate) fn cost_of(&self, cargo: &Cargo, m: Move) -> u128
         requires { IsInRange self.now.state m }
-        ensures value { result ≡ rehandles_of cargo.now self.now.call self.now.state m }
-        ensures small { result ≤ 1 }
+        ensures value { result ≡ cost_of_move cargo.now self.now.call self.now.state m }
+        ensures small { result ≤ 1000 }
     {
         match m {
-            Move::Lift(p) => lift_count(cargo, self.call, self.plan.at(p)),
+            Move::Lift(p) => lift_cost(cargo, self.call, self.plan.at(p)),
             Move::Put(_, _) => 0,
             Move::OffCover(_) => 0,
             Move::OnCover(_) => 0,

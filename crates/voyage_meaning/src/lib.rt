@@ -12,7 +12,7 @@ mod refusals;
 mod standing;
 
 pub use berth::{Berth, Unfinished};
-pub use crane::{MoveList, count_call, count_voyage, run};
+pub use crane::{MoveList, cost_of_call, cost_of_voyage, run};
 pub use laws::allowed_without_fault;
 pub use moves::Move;
 pub use refusals::MoveFault;

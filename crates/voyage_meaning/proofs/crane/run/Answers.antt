@@ -1,6 +1,6 @@
 use Rattle.std.proofs.Common.{ap, sym, ◌∙◌, Some, arith, ℕ, subst}
 use Rattle.std.proofs.lemmas.Option.{slice_get-get_or}
-use Rattle.voyage_meaning.specs.Moves.{State, Allowed, after, rehandles_of}
+use Rattle.voyage_meaning.specs.Moves.{State, Allowed, after, cost_of_move}
 use Rattle.voyage_meaning.specs.Berths.{Berth}
 use Rattle.voyage_meaning.proofs.RunsHold.{run_more}
 use Rattle.voyage_meaning.proofs.crane.run.Goals as goal
@@ -12,9 +12,9 @@ loop-i-preserved c =
     let inv = c.loop-i.invariant in
     let did = c.in-Some.ensures.does in
     record {
-      runs = run_more c.args.ship.now c.args.cargo.now c.args.berth.now.call c.args.berth.now.state c.args.moves.now c.loop-i.i c.loop-i.berth.state c.try_move.new.berth.state c.loop-i.count c.in-Some.more m inv.runs is did.0
+      runs = run_more c.args.ship.now c.args.cargo.now c.args.berth.now.call c.args.berth.now.state c.args.moves.now c.loop-i.i c.loop-i.berth.state c.try_move.new.berth.state c.loop-i.cost c.in-Some.more m inv.runs is did.0
           (ap (λ (b : Berth). b.state) did.1 ∙ ap (λ (k : ℕ). after c.args.cargo.now k c.loop-i.berth.state m) inv.same_call)
-          (did.2 ∙ ap (λ (k : ℕ). rehandles_of c.args.cargo.now k c.loop-i.berth.state m) inv.same_call) did.3;
+          (did.2 ∙ ap (λ (k : ℕ). cost_of_move c.args.cargo.now k c.loop-i.berth.state m) inv.same_call) did.3;
       same_call = ap (λ (b : Berth). b.call) did.1 ∙ inv.same_call;
     }
 
