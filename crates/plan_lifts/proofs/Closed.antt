@@ -1,4 +1,4 @@
--- Each closed set of filled places is lifted by some legal moves, which count it exactly.
+-- Each closed set of filled places is lifted by some legal moves, which cost exactly what it does.
 use Rattle.std.specs.Prelude.{◌≡◌, ℕ, Bool, true, false, List, [], ◌∷◌, Option, Some, None, slice_get, ◌||◌, ◌&&◌, not, ◌==◌, length, ◌<◌, suc, zero, nat_eq}
 use Rattle.std.specs.List.{list_any}
 use Rattle.std.proofs.Common.{refl, sym, ◌∙◌, ap, arith, inl, inr, ⊎_elim}
@@ -15,12 +15,12 @@ use Rattle.stow_data.specs.Shipment.{Cargo}
 use Rattle.stow_data.specs.Plans.{Plan}
 use Rattle.stowage_rules.specs.Plan.{Holds}
 use Rattle.stowage_rules.specs.Departure.{IsStowed, IsDeparture}
-use Rattle.voyage_meaning.specs.Moves.{lift_count, rehandles}
+use Rattle.voyage_meaning.specs.Moves.{lift_cost, cost_of_moves}
 use Rattle.voyage_meaning.specs.Voyage.{LeadsTo, start}
 use Rattle.plan_lifts.specs.Least.{IsClosed, IsDivided, counted}
 use Rattle.plan_lifts.proofs.Order.{over_is_later}
 use Rattle.plan_lifts.proofs.Upper.{Facts, moves, moves_reach}
-use Rattle.plan_lifts.proofs.Exact.{moves_count}
+use Rattle.plan_lifts.proofs.Exact.{moves_cost}
 
 -- tests of two cells, and of one
 abbrev pub same_cell : Option (Option ℕ) → Option (Option ℕ) → Bool
@@ -102,18 +102,18 @@ under_from ship k None o is h = absurd (both_ways false refl h)
 under_from ship k (Some c) None is h = absurd (both_ways false refl h)
 under_from ship k (Some c) (Some p) is h = (p, refl, record { cover = c; is_cover = is; named = Contains-from_any {eq = nat_eq} (λ x y. eqb-true x y) p.stack c.under h })
 
--- the moves of a closed set of filled places lead from the old plan to the new one, and count the set
+-- the moves of a closed set of filled places lead from the old plan to the new one, and cost what the set does
 pub closed_leads : (ship : Ship) (cargo : Cargo) (earlier : ℕ) (old new : Plan) (lifted : ℕ → Bool)
     → IsDivided ship
     → ((c : ℕ) (container : Container) → slice_get cargo.containers c ≡ Some container → container.load < container.dest)
     → IsStowed ship cargo earlier old → IsDeparture ship cargo (suc earlier) new
     → IsClosed ship old new lifted → ((p : ℕ) → lifted p ≡ true → (c : ℕ) × Holds old p c)
-    → (ms : List Move) × LeadsTo ship cargo (suc earlier) old ms new × (rehandles cargo (suc earlier) (start ship cargo (suc earlier) old) ms ≡ counted (lift_count cargo (suc earlier)) lifted old)
+    → (ms : List Move) × LeadsTo ship cargo (suc earlier) old ms new × (cost_of_moves cargo (suc earlier) (start ship cargo (suc earlier) old) ms ≡ counted (lift_cost cargo (suc earlier)) lifted old)
 closed_leads ship cargo earlier old new lifted divided in_order before departs closed only =
     let reach = moves_reach ship cargo (suc earlier) old new lifted moved deck opened due facts in (
       moves ship cargo (suc earlier) old new lifted moved deck opened due facts,
       record { allowed = reach.0; plan = reach.1.plan; quay_empty = reach.1.quay_empty; covers_on = reach.1.covers_on; departure = departs },
-      moves_count ship cargo (suc earlier) old new lifted moved deck opened due facts,
+      moves_cost ship cargo (suc earlier) old new lifted moved deck opened due facts,
     )
   where
     moved : ℕ → Bool

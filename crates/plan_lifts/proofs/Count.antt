@@ -1,4 +1,4 @@
--- Every allowed list of moves counts at least what it must lift.
+-- Every allowed list of moves costs at least what it must lift.
 use Rattle.std.specs.Prelude.{◌≡◌, ℕ, Bool, true, false, List, [], ◌∷◌, Option, Some, None, slice_set, slice_index_or, ◌||◌, ◌==◌, ◌≤◌, suc, zero, ◌+◌, cond}
 use Rattle.std.proofs.Common.{refl, arith, ⊎_elim}
 use Rattle.std.proofs.lemmas.Bool.{both_ways, or_cases, or_left, or_right, eq-eqb, eqb-true}
@@ -8,7 +8,7 @@ use Rattle.stow_data.specs.Ship.{Ship}
 use Rattle.stow_data.specs.Shipment.{Cargo}
 use Rattle.stow_data.specs.Plans.{Plan}
 use Rattle.stowage_rules.specs.Plan.{Holds}
-use Rattle.voyage_meaning.specs.Moves.{State, AllAllowed, after, lift_count, rehandles}
+use Rattle.voyage_meaning.specs.Moves.{State, AllAllowed, after, lift_cost, cost_of_moves}
 use Rattle.plan_lifts.specs.Least.{counted}
 use Rattle.plan_lifts.proofs.Lower.{put_elsewhere, is_lifted}
 
@@ -62,12 +62,12 @@ empty_counts_none w (None ∷ os) zero e no_one = e
 empty_counts_none w (Some c ∷ os) zero e no_one = absurd (no_one c refl)
 empty_counts_none w (o ∷ os) (suc q) e no_one = empty_counts_none w os q e no_one
 
--- what is lifted is counted
-pub lifted_counts : (ship : Ship) (cargo : Cargo) (call : ℕ) (ms : List Move) (s : State) → AllAllowed ship cargo call s ms → counted (lift_count cargo call) (is_lifted ms) s.plan ≤ rehandles cargo call s ms
-lifted_counts ship cargo call [] s all = none_counted (lift_count cargo call) s.plan
-lifted_counts ship cargo call (Lift q ∷ ms) s all =
-    omega (arith, counted_with (lift_count cargo call) (is_lifted ms) s.plan q refl, lifted_counts ship cargo call ms (after cargo call s (Lift q)) all.1)
-lifted_counts ship cargo call (Put c q ∷ ms) s all =
-    omega (arith, counted_fill (lift_count cargo call) (is_lifted ms) s.plan q (Some c) (empty_counts_none (lift_count cargo call) s.plan q refl (λ d held. put_elsewhere ship cargo call s q q d c held all.0 refl)), lifted_counts ship cargo call ms (after cargo call s (Put c q)) all.1)
-lifted_counts ship cargo call (OffCover k ∷ ms) s all = omega (arith, lifted_counts ship cargo call ms (after cargo call s (OffCover k)) all.1)
-lifted_counts ship cargo call (OnCover k ∷ ms) s all = omega (arith, lifted_counts ship cargo call ms (after cargo call s (OnCover k)) all.1)
+-- what is lifted is paid
+pub lifted_costs : (ship : Ship) (cargo : Cargo) (call : ℕ) (ms : List Move) (s : State) → AllAllowed ship cargo call s ms → counted (lift_cost cargo call) (is_lifted ms) s.plan ≤ cost_of_moves cargo call s ms
+lifted_costs ship cargo call [] s all = none_counted (lift_cost cargo call) s.plan
+lifted_costs ship cargo call (Lift q ∷ ms) s all =
+    omega (arith, counted_with (lift_cost cargo call) (is_lifted ms) s.plan q refl, lifted_costs ship cargo call ms (after cargo call s (Lift q)) all.1)
+lifted_costs ship cargo call (Put c q ∷ ms) s all =
+    omega (arith, counted_fill (lift_cost cargo call) (is_lifted ms) s.plan q (Some c) (empty_counts_none (lift_cost cargo call) s.plan q refl (λ d held. put_elsewhere ship cargo call s q q d c held all.0 refl)), lifted_costs ship cargo call ms (after cargo call s (Put c q)) all.1)
+lifted_costs ship cargo call (OffCover k ∷ ms) s all = omega (arith, lifted_costs ship cargo call ms (after cargo call s (OffCover k)) all.1)
+lifted_costs ship cargo call (OnCover k ∷ ms) s all = omega (arith, lifted_costs ship cargo call ms (after cargo call s (OnCover k)) all.1)

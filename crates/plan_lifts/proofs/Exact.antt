@@ -1,4 +1,4 @@
--- The moves of a call count exactly the set.
+-- The moves of a call cost exactly what the set does.
 use Rattle.std.specs.Prelude.{◌≡◌, ℕ, Bool, true, false, List, [], ◌∷◌, ◌++◌, Option, Some, None, slice_get, slice_set, slice_index_or, ◌&&◌, not, length, ◌<◌, suc, zero, ◌+◌, cond}
 use Rattle.std.proofs.Common.{refl, sym, ◌∙◌, ap, arith}
 use Rattle.std.proofs.lemmas.Bool.{and_parts, or_from, and_right, not-true}
@@ -10,7 +10,7 @@ use Rattle.voyage_meaning.specs.declared.moves.Move.TheVariants.{OffCover, OnCov
 use Rattle.stow_data.specs.Ship.{Ship, places}
 use Rattle.stow_data.specs.Shipment.{Cargo}
 use Rattle.stow_data.specs.Plans.{Plan}
-use Rattle.voyage_meaning.specs.Moves.{State, after, end_of, lift_count, rehandles, rehandles_of}
+use Rattle.voyage_meaning.specs.Moves.{State, after, end_of, lift_cost, cost_of_moves, cost_of_move}
 use Rattle.voyage_meaning.specs.Voyage.{start}
 use Rattle.plan_lifts.specs.Least.{counted}
 use Rattle.plan_lifts.specs.Lifted.{lift_weight, lifts_weight}
@@ -118,17 +118,17 @@ moves_weigh w ship cargo call old new lifted moved deck opened due facts =
       whole,
     )
 
--- what moves count is what they weigh where a container weighs what its lift counts
-count_one : (cargo : Cargo) (call : ℕ) (s : State) (m : Move) → rehandles_of cargo call s m ≡ lift_weight (lift_count cargo call) s m
-count_one cargo call s (Lift p) = refl
-count_one cargo call s (Put c p) = refl
-count_one cargo call s (OffCover k) = refl
-count_one cargo call s (OnCover k) = refl
+-- what moves cost is what they weigh where a container weighs what its lift costs
+cost_one : (cargo : Cargo) (call : ℕ) (s : State) (m : Move) → cost_of_move cargo call s m ≡ lift_weight (lift_cost cargo call) s m
+cost_one cargo call s (Lift p) = refl
+cost_one cargo call s (Put c p) = refl
+cost_one cargo call s (OffCover k) = refl
+cost_one cargo call s (OnCover k) = refl
 
-count_all : (cargo : Cargo) (call : ℕ) (ms : List Move) (s : State) → rehandles cargo call s ms ≡ lifts_weight (lift_count cargo call) cargo call s ms
-count_all cargo call [] s = refl
-count_all cargo call (m ∷ ms) s = omega (arith, count_one cargo call s m, count_all cargo call ms (after cargo call s m))
+cost_all : (cargo : Cargo) (call : ℕ) (ms : List Move) (s : State) → cost_of_moves cargo call s ms ≡ lifts_weight (lift_cost cargo call) cargo call s ms
+cost_all cargo call [] s = refl
+cost_all cargo call (m ∷ ms) s = omega (arith, cost_one cargo call s m, cost_all cargo call ms (after cargo call s m))
 
--- the moves of a call count what the set counts
-pub moves_count : (ship : Ship) (cargo : Cargo) (call : ℕ) (old new : Plan) (lifted moved deck opened due : ℕ → Bool) (facts : Facts ship cargo call old new lifted moved deck opened due) → rehandles cargo call (start ship cargo call old) (moves ship cargo call old new lifted moved deck opened due facts) ≡ counted (lift_count cargo call) lifted old
-moves_count ship cargo call old new lifted moved deck opened due facts = count_all cargo call (moves ship cargo call old new lifted moved deck opened due facts) (start ship cargo call old) ∙ moves_weigh (lift_count cargo call) ship cargo call old new lifted moved deck opened due facts
+-- the moves of a call cost what the set does
+pub moves_cost : (ship : Ship) (cargo : Cargo) (call : ℕ) (old new : Plan) (lifted moved deck opened due : ℕ → Bool) (facts : Facts ship cargo call old new lifted moved deck opened due) → cost_of_moves cargo call (start ship cargo call old) (moves ship cargo call old new lifted moved deck opened due facts) ≡ counted (lift_cost cargo call) lifted old
+moves_cost ship cargo call old new lifted moved deck opened due facts = cost_all cargo call (moves ship cargo call old new lifted moved deck opened due facts) (start ship cargo call old) ∙ moves_weigh (lift_cost cargo call) ship cargo call old new lifted moved deck opened due facts

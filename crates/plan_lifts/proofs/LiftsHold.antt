@@ -18,14 +18,14 @@ use Rattle.plan_lifts.specs.declared.lifting.LiftsFault.{LiftsFault}
 use Rattle.plan_lifts.specs.declared.lifting.LiftsFault.TheVariants.{Illegal, NoMemory}
 use Rattle.voyage_meaning.specs.declared.moves.Move.{Move}
 use Rattle.voyage_meaning.specs.declared.moves.Move.TheVariants.{OffCover, OnCover, Lift, Put}
-use Rattle.voyage_meaning.specs.Moves.{State, AllAllowed, after, lift_count}
-use Rattle.voyage_meaning.specs.Voyage.{HasCount, IsLegalVoyage, IsVoyage, start}
+use Rattle.voyage_meaning.specs.Moves.{State, AllAllowed, after, lift_cost}
+use Rattle.voyage_meaning.specs.Voyage.{HasCost, IsLegalVoyage, IsVoyage, start}
 use Rattle.plan_lifts.specs.Least.{IsFilled, IsLeastClosed, AreLeast, counted}
 use Rattle.plan_lifts.specs.Spread.{has, IsHeldIn, IsLeastSpread, IsOnOpened, IsOpened}
 use Rattle.plan_lifts.specs.Lifted.{ArePlans, AreLifted, AreListed, IsLifted, IsFirstIllegal, IsLiftsFault, IsListed, Lifts, LiftAll, LiftsFrom}
 use Rattle.plan_lifts.proofs.Lower.{lifts_from, is_lifted, step_keeps}
 use Rattle.plan_lifts.proofs.Voyages.{leads_closed}
-use Rattle.plan_lifts.proofs.Whole.{least_count}
+use Rattle.plan_lifts.proofs.Whole.{least_cost}
 
 -- what follows of an answer that is Ok
 pub then_ok : {T E : Type 0} (P Q : T → Type 0) (r : Result T E) → ((x : T) → P x → Q x) → IfOk r P → IfOk r Q
@@ -167,12 +167,12 @@ no_plans [] h = refl
 no_plans (plan ∷ plans) h = absurd (omega arith)
 
 pub lift_none : (ship : Ship) (cargo : Cargo) (call : ℕ) (before : Plan) (plans : List Plan) (old : List (List ℕ)) → length plans ≡ 0 → LiftsFrom ship cargo call before plans old old 0
-lift_none ship cargo call before plans old none = subst (λ (ps : List Plan). LiftsFrom ship cargo call before ps old old 0) (sym (no_plans plans none)) (record { legal = tt; sets = []; closed = tt; least = tt; lists = []; appended = sym (append-nil old); listed = tt; counts = refl; small = omega arith })
+lift_none ship cargo call before plans old none = subst (λ (ps : List Plan). LiftsFrom ship cargo call before ps old old 0) (sym (no_plans plans none)) (record { legal = tt; sets = []; closed = tt; least = tt; lists = []; appended = sym (append-nil old); listed = tt; costs = refl; small = omega arith })
 
 pub lift_more : (ship : Ship) (cargo : Cargo) (call next : ℕ) (before after : Plan) (plans rest : List Plan) (set : ℕ → Bool) (list : List ℕ) (old mid new : List (List ℕ)) (here later : ℕ)
     → plans ≡ after ∷ rest → next ≡ suc call → ArePlans ship cargo call plans → MeetsRules ship cargo after
     → IsLeastClosed ship before after set → IsFilled before set → IsListed before set list → mid ≡ old ++ list ∷ []
-    → here ≡ counted (lift_count cargo call) set before → here ≤ 3000
+    → here ≡ counted (lift_cost cargo call) set before → here ≤ 3000000
     → LiftsFrom ship cargo next after rest mid new later
     → LiftsFrom ship cargo call before plans old new (here + later)
 lift_more ship cargo call next before after plans rest set list old mid new here later parts is plans_are rules least filled listed pushed counts small from =
@@ -186,7 +186,7 @@ lift_more ship cargo call next before after plans rest set list old mid new here
       lists = list ∷ y.lists;
       appended = y.appended ∙ (ap (λ (z : List (List ℕ)). z ++ y.lists) pushed ∙ append_assoc old (list ∷ []) y.lists);
       listed = (listed, y.listed);
-      counts = omega (arith, counts, y.counts);
+      costs = omega (arith, costs, y.costs);
       small = omega (arith, small, y.small);
     })
 
@@ -209,10 +209,10 @@ lifted_of ship cargo before plans old lists n none arrived from = record {
   });
 }
 
-pub counts_of : (ship : Ship) (cargo : Cargo) (before : Plan) (plans : List Plan) (old lists : List (List ℕ)) (n : ℕ) → IsShip ship → IsCargo cargo → length plans + 1 ≡ length cargo.rotation → HasArrival ship cargo → before ≡ cargo.arrival → LiftsFrom ship cargo 1 before plans old lists n → HasCount ship cargo plans n
-counts_of ship cargo before plans old lists n ship_rules cargo_rules each arrival arrived from =
+pub costs_of : (ship : Ship) (cargo : Cargo) (before : Plan) (plans : List Plan) (old lists : List (List ℕ)) (n : ℕ) → IsShip ship → IsCargo cargo → length plans + 1 ≡ length cargo.rotation → HasArrival ship cargo → before ≡ cargo.arrival → LiftsFrom ship cargo 1 before plans old lists n → HasCost ship cargo plans n
+costs_of ship cargo before plans old lists n ship_rules cargo_rules each arrival arrived from =
     let same = subst (λ (x : Plan). LiftsFrom ship cargo 1 x plans old lists n) arrived from in
-    subst (λ (x : ℕ). HasCount ship cargo plans x) (sym same.counts) (least_count ship cargo plans same.sets ship_rules cargo_rules each arrival same.legal same.closed same.least)
+    subst (λ (x : ℕ). HasCost ship cargo plans x) (sym same.costs) (least_cost ship cargo plans same.sets ship_rules cargo_rules each arrival same.legal same.closed same.least)
 
 pub must_of : (ship : Ship) (cargo : Cargo) (plans : List Plan) (lists : List (List ℕ)) → IsLifted ship cargo plans lists → (voyage : List (List Move)) → IsLegalVoyage ship cargo voyage plans → LiftAll ship cargo 1 cargo.arrival voyage plans lists
 must_of ship cargo plans lists is voyage legal = lift_all ship cargo 1 cargo.arrival voyage plans is.lifted.sets lists is.lifted.least is.lifted.listed legal.voyage

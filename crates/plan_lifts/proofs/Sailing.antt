@@ -13,8 +13,8 @@ use Rattle.stow_data.specs.Plans.{Plan, IsKnown}
 use Rattle.stowage_rules.specs.Plan.{IsWellFormed}
 use Rattle.stowage_rules.specs.Departure.{AreDepartures, IsStowed, IsDeparture}
 use Rattle.voyage_meaning.specs.declared.moves.Move.{Move}
-use Rattle.voyage_meaning.specs.Moves.{lift_count, rehandles}
-use Rattle.voyage_meaning.specs.Voyage.{start, LeadsTo, IsVoyage, IsLegalVoyage, HasCount, count, voyage_count}
+use Rattle.voyage_meaning.specs.Moves.{lift_cost, cost_of_moves}
+use Rattle.voyage_meaning.specs.Voyage.{start, LeadsTo, IsVoyage, IsLegalVoyage, HasCost, cost, voyage_cost}
 use Rattle.plan_lifts.specs.Least.{IsClosed, IsLeastClosed, IsFilled, IsDivided, AreLeast, counted}
 use Rattle.plan_lifts.specs.Spread.{IsHeldIn, IsOpened}
 use Rattle.plan_lifts.specs.Lifted.{AreLifted, AreListed, IsListed, SailsLeast, lifts_weight}
@@ -22,8 +22,8 @@ use Rattle.plan_lifts.specs.Passes.{IsCallMoves, IsOnCover, Sets, IsListedAt, pu
 use Rattle.plan_lifts.proofs.Order.{over_is_later}
 use Rattle.plan_lifts.proofs.Closed.{same_cell, same_cell_true, same_cell_itself, is_held, held_by}
 use Rattle.plan_lifts.proofs.Upper.{Facts, moves, moves_reach}
-use Rattle.plan_lifts.proofs.Exact.{moves_count, moves_weigh}
-use Rattle.plan_lifts.proofs.Voyages.{call_counts}
+use Rattle.plan_lifts.proofs.Exact.{moves_cost, moves_weigh}
+use Rattle.plan_lifts.proofs.Voyages.{call_costs}
 use Rattle.plan_lifts.proofs.Whole.{InOrder, ship_is_divided, cargo_in_order}
 
 -- cells that don't differ are the same
@@ -79,18 +79,18 @@ facts_of ship cargo earlier old new lifted moved deck opened due divided in_orde
   opened_for = λ k o. let w = (sets.opens k).0 o in (w.0, (w.1.place, w.1.is_place, w.1.under), w.1.in_set);
 }
 
--- the passes of the sets lead from the old plan to the new one, and count the set
+-- the passes of the sets lead from the old plan to the new one, and cost what the set does
 pub passes_lead : (ship : Ship) (cargo : Cargo) (earlier : ℕ) (old new : Plan) (lifted moved deck opened due : ℕ → Bool) (ms : List Move)
     → IsDivided ship → InOrder cargo → IsStowed ship cargo earlier old → IsDeparture ship cargo (suc earlier) new
     → IsClosed ship old new lifted → IsFilled old lifted → Sets ship old new lifted moved deck opened due
     → ((facts : Facts ship cargo (suc earlier) old new lifted moved deck opened due) → ms ≡ moves ship cargo (suc earlier) old new lifted moved deck opened due facts)
-    → LeadsTo ship cargo (suc earlier) old ms new × (rehandles cargo (suc earlier) (start ship cargo (suc earlier) old) ms ≡ counted (lift_count cargo (suc earlier)) lifted old)
+    → LeadsTo ship cargo (suc earlier) old ms new × (cost_of_moves cargo (suc earlier) (start ship cargo (suc earlier) old) ms ≡ counted (lift_cost cargo (suc earlier)) lifted old)
 passes_lead ship cargo earlier old new lifted moved deck opened due ms divided in_order before departs closed filled sets made =
     let facts = facts_of ship cargo earlier old new lifted moved deck opened due divided in_order before departs closed filled sets in
     let reach = moves_reach ship cargo (suc earlier) old new lifted moved deck opened due facts in
-    subst (λ (x : List Move). LeadsTo ship cargo (suc earlier) old x new × (rehandles cargo (suc earlier) (start ship cargo (suc earlier) old) x ≡ counted (lift_count cargo (suc earlier)) lifted old)) (sym (made facts)) (
+    subst (λ (x : List Move). LeadsTo ship cargo (suc earlier) old x new × (cost_of_moves cargo (suc earlier) (start ship cargo (suc earlier) old) x ≡ counted (lift_cost cargo (suc earlier)) lifted old)) (sym (made facts)) (
       record { allowed = reach.0; plan = reach.1.plan; quay_empty = reach.1.quay_empty; covers_on = reach.1.covers_on; departure = departs },
-      moves_count ship cargo (suc earlier) old new lifted moved deck opened due facts,
+      moves_cost ship cargo (suc earlier) old new lifted moved deck opened due facts,
     )
 
 -- and weigh the set, by any weight
@@ -206,17 +206,17 @@ sail_made ship cargo earlier before plan plans (set ∷ sets) list lists ms old 
     same : made.lifted ≡ set
     same = listed_places ship cargo before set made.lifted list stowed.well_formed filled listed.0 made.listed
 
-    lead : LeadsTo ship cargo (suc earlier) before ms plan × (rehandles cargo (suc earlier) (start ship cargo (suc earlier) before) ms ≡ counted (lift_count cargo (suc earlier)) made.lifted before)
+    lead : LeadsTo ship cargo (suc earlier) before ms plan × (cost_of_moves cargo (suc earlier) (start ship cargo (suc earlier) before) ms ≡ counted (lift_cost cargo (suc earlier)) made.lifted before)
     lead = passes_lead ship cargo earlier before plan made.lifted made.moved made.deck made.opened made.due ms divided in_order stowed departs
         (subst (λ (f : ℕ → Bool). IsClosed ship before plan f) (sym same) least.0.closed)
         (subst (λ (f : ℕ → Bool). IsFilled before f) (sym same) filled)
         made.sets (λ facts. made.made)
 
-    fewest : (other : List (List Move)) → IsVoyage ship cargo (suc earlier) before other (plan ∷ plans) → count ship cargo (suc earlier) before (ms ∷ rest.voyage) (plan ∷ plans) ≤ count ship cargo (suc earlier) before other (plan ∷ plans)
+    fewest : (other : List (List Move)) → IsVoyage ship cargo (suc earlier) before other (plan ∷ plans) → cost ship cargo (suc earlier) before (ms ∷ rest.voyage) (plan ∷ plans) ≤ cost ship cargo (suc earlier) before other (plan ∷ plans)
     fewest [] legal = absurd legal
     fewest (xs ∷ other) legal =
-        let counts = ap (λ (f : ℕ → Bool). counted (lift_count cargo (suc earlier)) f before) same in
-        omega (arith, lead.1, counts, call_counts ship cargo (suc earlier) before plan xs set least.0 legal.0, rest.least other legal.1)
+        let costs = ap (λ (f : ℕ → Bool). counted (lift_cost cargo (suc earlier)) f before) same in
+        omega (arith, lead.1, costs, call_costs ship cargo (suc earlier) before plan xs set least.0 legal.0, rest.least other legal.1)
 
 pub sail_more : (ship : Ship) (cargo : Cargo) (earlier : ℕ) (before plan : Plan) (plans : List Plan) (list : List ℕ) (lists : List (List ℕ)) (ms : List Move) (old mid new : List (List Move))
     → IsShip ship → IsCargo cargo → IsStowed ship cargo earlier before → IsDeparture ship cargo (suc earlier) plan
@@ -281,19 +281,19 @@ sail_step ship cargo earlier next before plan plans others list lists rest ms ol
     (lifted_parts ship before plan plans others list lists rest parts items lifted)
     made pushed (subst (λ (n : ℕ). SailsLeast ship cargo (suc n) plan others mid new) is later))
 
--- from the arrival on: a legal voyage of the count
+-- from the arrival on: a legal voyage of the cost
 pub sails_legal : (ship : Ship) (cargo : Cargo) (before : Plan) (plans : List Plan) (old new : List (List Move)) → old ≡ [] → before ≡ cargo.arrival → length plans + 1 ≡ length cargo.rotation → SailsLeast ship cargo 1 before plans old new → IsLegalVoyage ship cargo new plans
 sails_legal ship cargo before plans old new none arrived each sails = record {
   each_call = each;
   voyage = subst (λ (x : Plan). IsVoyage ship cargo 1 x new plans) arrived (subst (λ (x : List (List Move)). IsVoyage ship cargo 1 before x plans) (sym (sails.appended ∙ ap (λ (x : List (List Move)). x ++ sails.voyage) none)) sails.legal);
 }
 
-pub sails_count : (ship : Ship) (cargo : Cargo) (before : Plan) (plans : List Plan) (old new : List (List Move)) (n : ℕ) → old ≡ [] → before ≡ cargo.arrival → length plans + 1 ≡ length cargo.rotation → SailsLeast ship cargo 1 before plans old new → HasCount ship cargo plans n → voyage_count ship cargo new plans ≡ n
-sails_count ship cargo before plans old new n none arrived each sails counted =
+pub sails_cost : (ship : Ship) (cargo : Cargo) (before : Plan) (plans : List Plan) (old new : List (List Move)) (n : ℕ) → old ≡ [] → before ≡ cargo.arrival → length plans + 1 ≡ length cargo.rotation → SailsLeast ship cargo 1 before plans old new → HasCost ship cargo plans n → voyage_cost ship cargo new plans ≡ n
+sails_cost ship cargo before plans old new n none arrived each sails counted =
     let made : new ≡ sails.voyage = sails.appended ∙ ap (λ (x : List (List Move)). x ++ sails.voyage) none in
-    let same : count ship cargo 1 cargo.arrival new plans ≡ count ship cargo 1 before sails.voyage plans = ap (λ (x : List (List Move)). count ship cargo 1 cargo.arrival x plans) made ∙ ap (λ (x : Plan). count ship cargo 1 x sails.voyage plans) (sym arrived) in
+    let same : cost ship cargo 1 cargo.arrival new plans ≡ cost ship cargo 1 before sails.voyage plans = ap (λ (x : List (List Move)). cost ship cargo 1 cargo.arrival x plans) made ∙ ap (λ (x : Plan). cost ship cargo 1 x sails.voyage plans) (sym arrived) in
     let other : IsVoyage ship cargo 1 before counted.moves plans = subst (λ (x : Plan). IsVoyage ship cargo 1 x counted.moves plans) (sym arrived) counted.is_legal.voyage in
-    let arrives : count ship cargo 1 before counted.moves plans ≡ count ship cargo 1 cargo.arrival counted.moves plans = ap (λ (x : Plan). count ship cargo 1 x counted.moves plans) arrived in
+    let arrives : cost ship cargo 1 before counted.moves plans ≡ cost ship cargo 1 cargo.arrival counted.moves plans = ap (λ (x : Plan). cost ship cargo 1 x counted.moves plans) arrived in
     let up = counted.least new (sails_legal ship cargo before plans old new none arrived each sails) in
     let down = sails.least counted.moves other in
     omega (arith, same, arrives, up, down, counted.is_number)

@@ -1,4 +1,4 @@
--- Voyages from plans: the count of given departures, and the departures that rehandle nothing.
+-- Voyages from plans: the cost of given departures, and the departures that rehandle nothing.
 use Rattle.std.specs.Prelude.{◌≡◌, ℕ, Bool, true, false, List, [], ◌∷◌, Option, Some, None, slice_get, length, ◌<◌, ◌≤◌, suc, ◌+◌, cond, All}
 use Rattle.std.proofs.Common.{refl, sym, ◌∙◌, ap, arith, subst, ⊎_elim}
 use Rattle.std.proofs.lemmas.Bool.{both_ways, cases_Bool, eqb-true}
@@ -6,29 +6,29 @@ use Rattle.std.proofs.lemmas.Option.{none-some, same_Some, get_or_from_slice_get
 use Rattle.std.proofs.lemmas.List.Elements.{All-get_or}
 use Rattle.stow_data.specs.declared.cargoes.Container.{Container}
 use Rattle.stow_data.specs.Ship.{Ship}
-use Rattle.stow_data.specs.Shipment.{Cargo, IsCargo, IsShipped}
+use Rattle.stow_data.specs.Shipment.{Cargo, IsCargo, IsShipped, price}
 use Rattle.stow_data.specs.Profile.{IsShip, IsCover, highest}
 use Rattle.stow_data.specs.declared.geometry.Stack.{Stack}
 use Rattle.voyage_meaning.specs.declared.moves.Move.{Move}
 use Rattle.stow_data.specs.Plans.{Plan}
 use Rattle.stowage_rules.specs.Plan.{Holds}
 use Rattle.stowage_rules.specs.Departure.{IsStowed, IsDeparture, AreDepartures, HasArrival}
-use Rattle.voyage_meaning.specs.Moves.{leaves, lift_count, rehandles}
-use Rattle.voyage_meaning.specs.Voyage.{start, LeadsTo, IsVoyage, count, HasCount}
-use Rattle.plan_lifts.specs.Least.{IsClosed, IsFilled, AreClosed, AreLeast, IsDivided, RehandlesNone, RehandleNone, counted, counted_all}
+use Rattle.voyage_meaning.specs.Moves.{leaves, lift_cost, cost_of_moves}
+use Rattle.voyage_meaning.specs.Voyage.{start, LeadsTo, IsVoyage, cost, HasCost}
+use Rattle.plan_lifts.specs.Least.{IsClosed, IsFilled, AreClosed, AreLeast, IsDivided, RehandlesNone, RehandleNone, counted, cost_of_lifts}
 use Rattle.plan_lifts.proofs.Upper.{leaves_is}
 use Rattle.plan_lifts.proofs.Closed.{closed_leads}
-use Rattle.plan_lifts.proofs.Voyages.{voyage_counts}
+use Rattle.plan_lifts.proofs.Voyages.{voyage_costs}
 
 -- each container is bound for a later call than it loads at
 abbrev pub InOrder : Cargo → Type 0
 InOrder cargo = (c : ℕ) (container : Container) → slice_get cargo.containers c ≡ Some container → container.load < container.dest
 
--- any closed sets of filled places give a voyage that counts exactly them
+-- any closed sets of filled places give a voyage that costs exactly what they do
 pub closed_voyage : (ship : Ship) (cargo : Cargo) (earlier : ℕ) (old : Plan) (plans : List Plan) (sets : List (ℕ → Bool))
     → IsDivided ship → InOrder cargo
     → IsStowed ship cargo earlier old → AreDepartures ship cargo (suc earlier) plans → AreClosed ship old plans sets
-    → (voyage : List (List Move)) × IsVoyage ship cargo (suc earlier) old voyage plans × (count ship cargo (suc earlier) old voyage plans ≡ counted_all cargo (suc earlier) old plans sets)
+    → (voyage : List (List Move)) × IsVoyage ship cargo (suc earlier) old voyage plans × (cost ship cargo (suc earlier) old voyage plans ≡ cost_of_lifts cargo (suc earlier) old plans sets)
 closed_voyage ship cargo earlier old [] [] divided order stowed departs closed = ([], tt, refl)
 closed_voyage ship cargo earlier old [] (f ∷ fs) divided order stowed departs closed = absurd closed
 closed_voyage ship cargo earlier old (new ∷ plans) [] divided order stowed departs closed = absurd closed
@@ -75,13 +75,13 @@ none_closed ship cargo call old new departs none = record {
 bound_filled : (cargo : Cargo) (call : ℕ) (plan : Plan) → IsFilled plan (bound_for cargo call plan)
 bound_filled cargo call plan p h = let d = bound_from cargo call (slice_get plan p) h in (d.0, d.1)
 
-free_place : (cargo : Cargo) (call : ℕ) (b : Bool) (o : Option ℕ) → ((c : ℕ) → o ≡ Some c → b ≡ true → leaves cargo call c ≡ true) → cond b (lift_count cargo call o) 0 ≡ 0
+free_place : (cargo : Cargo) (call : ℕ) (b : Bool) (o : Option ℕ) → ((c : ℕ) → o ≡ Some c → b ≡ true → leaves cargo call c ≡ true) → cond b (lift_cost cargo call o) 0 ≡ 0
 free_place cargo call false o h = refl
 free_place cargo call true None h = refl
-free_place cargo call true (Some c) h = ap (λ (x : Bool). cond x 0 1) (h c refl refl)
+free_place cargo call true (Some c) h = ap (λ (x : Bool). cond x 0 (price cargo call)) (h c refl refl)
 
--- a set of which each container is bound for the call counts nothing
-free_set : (cargo : Cargo) (call : ℕ) (f : ℕ → Bool) (plan : Plan) → ((p c : ℕ) → Holds plan p c → f p ≡ true → leaves cargo call c ≡ true) → counted (lift_count cargo call) f plan ≡ 0
+-- a set of which each container is bound for the call costs nothing
+free_set : (cargo : Cargo) (call : ℕ) (f : ℕ → Bool) (plan : Plan) → ((p c : ℕ) → Holds plan p c → f p ≡ true → leaves cargo call c ≡ true) → counted (lift_cost cargo call) f plan ≡ 0
 free_set cargo call f [] h = refl
 free_set cargo call f (None ∷ plan) h = omega (arith, free_place cargo call (f 0) None (λ c e b. absurd (none-some c e)), free_set cargo call (λ p. f (suc p)) plan (λ p c held on. h (suc p) c held on))
 free_set cargo call f (Some d ∷ plan) h = omega (arith, free_place cargo call (f 0) (Some d) (λ c e b. h 0 c (ap Some e) b), free_set cargo call (λ p. f (suc p)) plan (λ p c held on. h (suc p) c held on))
@@ -90,7 +90,7 @@ free_set cargo call f (Some d ∷ plan) h = omega (arith, free_place cargo call 
 pub none_leads : (ship : Ship) (cargo : Cargo) (earlier : ℕ) (old new : Plan)
     → IsDivided ship → InOrder cargo
     → IsStowed ship cargo earlier old → IsDeparture ship cargo (suc earlier) new → RehandlesNone ship cargo (suc earlier) old new
-    → (moves : List Move) × LeadsTo ship cargo (suc earlier) old moves new × (rehandles cargo (suc earlier) (start ship cargo (suc earlier) old) moves ≡ 0)
+    → (moves : List Move) × LeadsTo ship cargo (suc earlier) old moves new × (cost_of_moves cargo (suc earlier) (start ship cargo (suc earlier) old) moves ≡ 0)
 none_leads ship cargo earlier old new divided order stowed departs none =
     let r = closed_leads ship cargo earlier old new (bound_for cargo (suc earlier) old) divided order stowed departs (none_closed ship cargo (suc earlier) old new departs none) (bound_filled cargo (suc earlier) old) in
     (r.0, r.1, r.2 ∙ free_set cargo (suc earlier) (bound_for cargo (suc earlier) old) old (λ p c held on. sym (bound_held cargo (suc earlier) old p c held) ∙ on))
@@ -99,7 +99,7 @@ none_leads ship cargo earlier old new divided order stowed departs none =
 pub none_voyage : (ship : Ship) (cargo : Cargo) (earlier : ℕ) (old : Plan) (plans : List Plan)
     → IsDivided ship → InOrder cargo
     → IsStowed ship cargo earlier old → AreDepartures ship cargo (suc earlier) plans → RehandleNone ship cargo (suc earlier) old plans
-    → (voyage : List (List Move)) × IsVoyage ship cargo (suc earlier) old voyage plans × (count ship cargo (suc earlier) old voyage plans ≡ 0)
+    → (voyage : List (List Move)) × IsVoyage ship cargo (suc earlier) old voyage plans × (cost ship cargo (suc earlier) old voyage plans ≡ 0)
 none_voyage ship cargo earlier old [] divided order stowed departs none = ([], tt, refl)
 none_voyage ship cargo earlier old (new ∷ plans) divided order stowed departs none =
     let first = none_leads ship cargo earlier old new divided order stowed departs.0 none.0 in
@@ -123,20 +123,20 @@ ship_is_divided ship rules s j k under on =
 pub cargo_in_order : (cargo : Cargo) → IsCargo cargo → InOrder cargo
 cargo_in_order cargo rules c container known = (all_at (IsShipped (length cargo.rotation)) cargo.containers c container rules.each_shipped known).later
 
--- the count of departures whose calls rehandle nothing is 0
-pub none_count : (ship : Ship) (cargo : Cargo) (plans : List Plan)
+-- the cost of departures whose calls rehandle nothing is 0
+pub none_cost : (ship : Ship) (cargo : Cargo) (plans : List Plan)
     → IsShip ship → IsCargo cargo → length plans + 1 ≡ length cargo.rotation
     → HasArrival ship cargo → AreDepartures ship cargo 1 plans → RehandleNone ship cargo 1 cargo.arrival plans
-    → HasCount ship cargo plans 0
-none_count ship cargo plans ship_rules cargo_rules each arrival departs none =
+    → HasCost ship cargo plans 0
+none_cost ship cargo plans ship_rules cargo_rules each arrival departs none =
     let r = none_voyage ship cargo 0 cargo.arrival plans (ship_is_divided ship ship_rules) (cargo_in_order cargo cargo_rules) arrival departs none in
     record { moves = r.0; is_legal = record { each_call = each; voyage = r.1 }; is_number = r.2; least = λ other legal. omega arith }
 
--- the count of any departures is that of the least closed sets
-pub least_count : (ship : Ship) (cargo : Cargo) (plans : List Plan) (sets : List (ℕ → Bool))
+-- the cost of any departures is that of the least closed sets
+pub least_cost : (ship : Ship) (cargo : Cargo) (plans : List Plan) (sets : List (ℕ → Bool))
     → IsShip ship → IsCargo cargo → length plans + 1 ≡ length cargo.rotation
     → HasArrival ship cargo → AreDepartures ship cargo 1 plans → AreClosed ship cargo.arrival plans sets → AreLeast ship cargo.arrival plans sets
-    → HasCount ship cargo plans (counted_all cargo 1 cargo.arrival plans sets)
-least_count ship cargo plans sets ship_rules cargo_rules each arrival departs closed least =
+    → HasCost ship cargo plans (cost_of_lifts cargo 1 cargo.arrival plans sets)
+least_cost ship cargo plans sets ship_rules cargo_rules each arrival departs closed least =
     let r = closed_voyage ship cargo 0 cargo.arrival plans sets (ship_is_divided ship ship_rules) (cargo_in_order cargo cargo_rules) arrival departs closed in
-    record { moves = r.0; is_legal = record { each_call = each; voyage = r.1 }; is_number = r.2; least = λ other legal. voyage_counts ship cargo 1 cargo.arrival other plans sets least legal.voyage }
+    record { moves = r.0; is_legal = record { each_call = each; voyage = r.1 }; is_number = r.2; least = λ other legal. voyage_costs ship cargo 1 cargo.arrival other plans sets least legal.voyage }

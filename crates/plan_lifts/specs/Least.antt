@@ -5,7 +5,7 @@ use Rattle.stow_data.specs.Ship.{Ship, places, TakesSide, LiesUnder, StandsOn}
 use Rattle.stow_data.specs.Shipment.{Cargo}
 use Rattle.stow_data.specs.Plans.{Plan}
 use Rattle.stowage_rules.specs.Plan.{Holds}
-use Rattle.voyage_meaning.specs.Moves.{leaves, lift_count}
+use Rattle.voyage_meaning.specs.Moves.{leaves, lift_cost}
 
 -- place p has a half-cell directly above one of place q
 pub record IsOver (ship : Ship) (p q : ℕ) : Type 0 where
@@ -45,7 +45,7 @@ pub record IsLeastClosed (ship : Ship) (before after : Plan) (lifted : ℕ → B
   pub closed : IsClosed ship before after lifted
   pub least : (other : ℕ → Bool) → IsClosed ship before after other → (p : ℕ) → lifted p ≡ true → other p ≡ true
 
--- what the places of a set count, added up
+-- what stands at the places of a set, weighed and added up
 abbrev pub counted : (Option ℕ → ℕ) → (ℕ → Bool) → Plan → ℕ
 counted w f [] = 0
 counted w f (o ∷ os) = cond (f 0) (w o) 0 + counted w (λ p. f (suc p)) os
@@ -64,11 +64,11 @@ AreLeast ship before (after ∷ departures) (f ∷ fs) = IsLeastClosed ship befo
 AreLeast ship before [] (f ∷ fs) = ⊥
 AreLeast ship before (after ∷ departures) [] = ⊥
 
--- what the sets of all calls count: their rehandles
-abbrev pub counted_all : Cargo → ℕ → Plan → List Plan → List (ℕ → Bool) → ℕ
-counted_all cargo call before (after ∷ departures) (f ∷ fs) = counted (lift_count cargo call) f before + counted_all cargo (suc call) after departures fs
-counted_all cargo call before [] fs = 0
-counted_all cargo call before (after ∷ departures) [] = 0
+-- what it costs to lift what stands at the places of the sets, over all calls
+abbrev pub cost_of_lifts : Cargo → ℕ → Plan → List Plan → List (ℕ → Bool) → ℕ
+cost_of_lifts cargo call before (after ∷ departures) (f ∷ fs) = counted (lift_cost cargo call) f before + cost_of_lifts cargo (suc call) after departures fs
+cost_of_lifts cargo call before [] fs = 0
+cost_of_lifts cargo call before (after ∷ departures) [] = 0
 
 -- a stack under a cover stands on none
 abbrev pub IsDivided : Ship → Type 0

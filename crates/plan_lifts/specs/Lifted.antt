@@ -10,8 +10,8 @@ use Rattle.stowage_rules.specs.Faults.{MeetsRules, IsFirstFault}
 use Rattle.voyage_meaning.specs.declared.moves.Move.{Move}
 use Rattle.voyage_meaning.specs.declared.moves.Move.TheVariants.{OffCover, OnCover, Lift, Put}
 use Rattle.voyage_meaning.specs.Moves.{State, after}
-use Rattle.voyage_meaning.specs.Voyage.{start, IsVoyage, count}
-use Rattle.plan_lifts.specs.Least.{AreClosed, AreLeast, counted_all}
+use Rattle.voyage_meaning.specs.Voyage.{start, IsVoyage, cost}
+use Rattle.plan_lifts.specs.Least.{AreClosed, AreLeast, cost_of_lifts}
 use Rattle.plan_lifts.specs.declared.lifting.LiftsFault.{LiftsFault}
 use Rattle.plan_lifts.specs.declared.lifting.LiftsFault.TheVariants.{Illegal, NoMemory}
 
@@ -112,8 +112,8 @@ abbrev pub IsLiftsFault : Ship → Cargo → List Plan → ℕ → LiftsFault �
 IsLiftsFault ship cargo plans call (Illegal at rule) = IsFirstIllegal ship cargo call plans at rule
 IsLiftsFault ship cargo plans call NoMemory = Unit {0}
 
--- what is lifted from a call on: lists that are appended, and a count
-pub record LiftsFrom (ship : Ship) (cargo : Cargo) (call : ℕ) (before : Plan) (plans : List Plan) (old new : List (List ℕ)) (count : ℕ) : Type 0 where
+-- what is lifted from a call on: lists that are appended, and what it costs
+pub record LiftsFrom (ship : Ship) (cargo : Cargo) (call : ℕ) (before : Plan) (plans : List Plan) (old new : List (List ℕ)) (number : ℕ) : Type 0 where
   pub legal : AreDepartures ship cargo call plans
   pub sets : List (ℕ → Bool)
   pub closed : AreClosed ship before plans sets
@@ -121,15 +121,15 @@ pub record LiftsFrom (ship : Ship) (cargo : Cargo) (call : ℕ) (before : Plan) 
   pub lists : List (List ℕ)
   pub appended : new ≡ old ++ lists
   pub listed : AreListed before plans sets lists
-  pub counts : count ≡ counted_all cargo call before plans sets
-  pub small : count ≤ 3000 * length plans
+  pub costs : number ≡ cost_of_lifts cargo call before plans sets
+  pub small : number ≤ 3000000 * length plans
 
--- moves for each call from one on are appended: a legal voyage with these departures, and none has fewer rehandles
+-- moves for each call from one on are appended: a legal voyage with these departures, and none costs less
 pub record SailsLeast (ship : Ship) (cargo : Cargo) (call : ℕ) (before : Plan) (plans : List Plan) (old new : List (List Move)) : Type 0 where
   pub voyage : List (List Move)
   pub appended : new ≡ old ++ voyage
   pub legal : IsVoyage ship cargo call before voyage plans
-  pub least : (other : List (List Move)) → IsVoyage ship cargo call before other plans → count ship cargo call before voyage plans ≤ count ship cargo call before other plans
+  pub least : (other : List (List Move)) → IsVoyage ship cargo call before other plans → cost ship cargo call before voyage plans ≤ cost ship cargo call before other plans
 
 -- moves for each call from one on are appended, which lift exactly what the lists have
 pub record LiftsAppended (ship : Ship) (cargo : Cargo) (call : ℕ) (before : Plan) (plans : List Plan) (lists : List (List ℕ)) (old new : List (List Move)) : Type 0 where

@@ -1,4 +1,4 @@
-//! What must be lifted: how a set of filled places spreads upward and onto hatch covers, the least lifts of given departures with their rehandle count, the moves that do them, and the laws of both bounds on the lifts of legal voyages.
+//! What must be lifted: how a set of filled places spreads upward and onto hatch covers, the least lifts of given departures with their cost, the moves that do them, and the laws of both bounds on the lifts of legal voyages.
 #![tactic(auto)]
 
 mod lifting;

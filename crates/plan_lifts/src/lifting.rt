@@ -1,15 +1,15 @@
-//! What must be lifted at each call of a voyage, and the rehandle count of its departures.
+//! What must be lifted at each call of a voyage, and the cost of its departures.
 ghost use Rattle.std.specs.Prelude.{◌≡◌, ◌↔◌, ◌<◌, ◌≤◌, ◌+◌, ℕ, List, true, IfOk, IsTrue, MatchResult, length, slice_get};
 ghost use Rattle.stow_data.specs.Ship.{places};
 ghost use Rattle.stow_data.specs.Plans.{IsKnown};
 ghost use Rattle.stowage_rules.specs.Departure.{HasArrival};
 ghost use Rattle.voyage_meaning.specs.declared.moves.Move.{Move};
-ghost use Rattle.voyage_meaning.specs.Voyage.{HasCount, IsLegalVoyage};
+ghost use Rattle.voyage_meaning.specs.Voyage.{HasCost, IsLegalVoyage};
 ghost use Rattle.plan_lifts.specs.Least.{IsFilled, IsLeastClosed};
 ghost use Rattle.plan_lifts.specs.Spread.{has, IsHeldIn};
 ghost use Rattle.plan_lifts.specs.Lifted.{ArePlans, IsLifted, IsLiftsFault, LiftAll, LiftsFrom};
 
-use crate::listing::{LiftList, count_of, list_of};
+use crate::listing::{LiftList, cost_of, list_of};
 use crate::picking::places_where;
 use crate::spreading::{add_on_opened, covers_opened, spread};
 use std::alloc::Global;
@@ -24,8 +24,8 @@ pub type LiftLists = Seq<LiftList>;
 pub struct Lifted {
     /// For each call the containers that are lifted there, those that leave included, by rising number.
     pub lists: LiftLists,
-    /// The number of rehandles: lifts of containers at a call other than their destination.
-    pub count: u64,
+    /// The cost: the price of its call for each lift of a container at a call other than its destination.
+    pub cost: u64,
 }
 
 /// Why there are no lists.
@@ -118,7 +118,7 @@ pub fn must_lift(
     spread(alloc, ship, before, seeds)
 }
 
-/// Appends for each call from one on the containers that are lifted there; Ok has the rehandles of these calls.
+/// Appends for each call from one on the containers that are lifted there; Ok has the cost of these calls.
 fn lift_from(
     alloc: Global,
     ship: &Ship,
@@ -143,12 +143,12 @@ fn lift_from(
     let set = must_lift(alloc, ship, before, after)?;
     let list = list_of(alloc, ship, cargo, before, &set)?;
     lists.push(list)?;
-    let here = count_of(ship, cargo, call, before, &set);
+    let here = cost_of(ship, cargo, call, before, &set);
     let later = lift_from(alloc, ship, cargo, CallNo(call.0 + 1), after, rest, lists)?;
     Ok(here + later)
 }
 
-/// What must be lifted on each voyage with these departures, and their rehandle count, which no legal voyage with them undercuts. Illegal comes exactly where a departure breaks a rule. It takes time linear in places and containers for each call.
+/// What must be lifted on each voyage with these departures, and their cost, which no legal voyage with them undercuts. Illegal comes exactly where a departure breaks a rule. It takes time linear in places and containers for each call.
 pub fn lifts(
     alloc: Global,
     ship: &Ship,
@@ -159,13 +159,13 @@ pub fn lifts(
     requires each_call { length plans.now + 1 ≡ length cargo.now.rotation }
     requires formed { ArePlans ship.now cargo.now 1 plans.now }
     ensures lists { MatchResult result (λ lifted. IsLifted ship.now cargo.now plans.now lifted.lists) (λ f. IsLiftsFault ship.now cargo.now plans.now 1 f) }
-    ensures count { IfOk result (λ lifted. HasCount ship.now cargo.now plans.now lifted.count) }
+    ensures cost { IfOk result (λ lifted. HasCost ship.now cargo.now plans.now lifted.cost) }
     ensures must { IfOk result (λ lifted. (voyage : List (List Move)) → IsLegalVoyage ship.now cargo.now voyage plans.now → LiftAll ship.now cargo.now 1 cargo.now.arrival voyage plans.now lifted.lists) }
 {
     let mut lists = Seq::new(alloc);
     ship.obeys_rules();
     cargo.obeys_rules();
-    let count = lift_from(
+    let cost = lift_from(
         alloc,
         ship,
         cargo,
@@ -174,5 +174,5 @@ pub fn lifts(
         plans.as_slice(),
         &mut lists,
     )?;
-    Ok(Lifted { lists, count })
+    Ok(Lifted { lists, cost })
 }

@@ -1,8 +1,8 @@
-//! The containers at the places of a set, and what they count.
+//! The containers at the places of a set, and what their lifts cost.
 ghost use Rattle.std.specs.Prelude.{◌≡◌, ◌↔◌, ◌⊎◌, ◌<◌, ◌≤◌, ◌^◌, ◌++◌, ◌∷◌, ℕ, true, IfOk, AllPairs, Contains, cond, [], length, if◌then◌else◌};
 ghost use Rattle.stow_data.specs.Ship.{places};
 ghost use Rattle.stow_data.specs.Plans.{IsKnown, held};
-ghost use Rattle.voyage_meaning.specs.Moves.{leaves, lift_count};
+ghost use Rattle.voyage_meaning.specs.Moves.{leaves, lift_cost};
 ghost use Rattle.plan_lifts.specs.Least.{counted};
 ghost use Rattle.plan_lifts.specs.Spread.{has};
 ghost use Rattle.plan_lifts.specs.Lifted.{IsListed, StandsIn, StandsInAt};
@@ -97,42 +97,48 @@ fn is_bound(cargo: &Cargo, call: CallNo, c: ContainerNo) -> bool
     c.0 < cargo.len() && cargo.container(c).dest == call
 }
 
-/// What a lift from a place counts: 1 for a container that doesn't leave at the call.
-fn count_at(cargo: &Cargo, call: CallNo, plan: &Plan, p: PlaceNo) -> u64
+/// What a lift from a place costs: the price of the call for a container that doesn't leave there.
+fn cost_at(cargo: &Cargo, call: CallNo, plan: &Plan, p: PlaceNo) -> u64
     requires { p < length plan.now }
-    ensures value { result ≡ lift_count cargo.now call (held plan.now p) }
-    ensures small { result ≤ 1 }
+    ensures value { result ≡ lift_cost cargo.now call (held plan.now p) }
+    ensures small { result ≤ 1000 }
 {
     match plan.at(p) {
         None => 0,
-        Some(c) => { if is_bound(cargo, call, c) { 0 } else { 1 } }
+        Some(c) => {
+            if is_bound(cargo, call, c) {
+                0
+            } else {
+                u64::from(cargo.tariff(call))
+            }
+        }
     }
 }
 
 /// The same where the place is of the set, and else nothing.
-fn count_where(cargo: &Cargo, call: CallNo, plan: &Plan, set: &FlagList, p: PlaceNo) -> u64
+fn cost_where(cargo: &Cargo, call: CallNo, plan: &Plan, set: &FlagList, p: PlaceNo) -> u64
     requires first { p < length plan.now }
     requires second { p < length set.now }
-    ensures value { result ≡ cond (has set.now p) (lift_count cargo.now call (held plan.now p)) 0 }
-    ensures small { result ≤ 1 }
+    ensures value { result ≡ cond (has set.now p) (lift_cost cargo.now call (held plan.now p)) 0 }
+    ensures small { result ≤ 1000 }
 {
     if *set.at(p.0 as usize) {
-        count_at(cargo, call, plan, p)
+        cost_at(cargo, call, plan, p)
     } else {
         0
     }
 }
 
-/// What the places of a set count.
-pub fn count_of(ship: &Ship, cargo: &Cargo, call: CallNo, plan: &Plan, set: &FlagList) -> u64
+/// What the lifts from the places of a set cost.
+pub fn cost_of(ship: &Ship, cargo: &Cargo, call: CallNo, plan: &Plan, set: &FlagList) -> u64
     requires each_place { length plan.now ≡ length (places ship.now) }
     requires each_flag { length set.now ≡ length (places ship.now) }
-    ensures value { result ≡ counted (lift_count cargo.now call) (has set.now) plan.now }
-    ensures small { result ≤ 3000 }
+    ensures value { result ≡ counted (lift_cost cargo.now call) (has set.now) plan.now }
+    ensures small { result ≤ 3000000 }
 {
-    let mut count = 0;
+    let mut cost = 0;
     for p in 0..ship.places() {
-        count += count_where(cargo, call, plan, set, PlaceNo(p));
+        cost += cost_where(cargo, call, plan, set, PlaceNo(p));
     }
-    count
+    cost
 }

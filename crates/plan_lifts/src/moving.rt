@@ -5,7 +5,7 @@ ghost use Rattle.stow_data.specs.Plans.{IsKnown};
 ghost use Rattle.stowage_rules.specs.Plan.{Holds};
 ghost use Rattle.stowage_rules.specs.Departure.{AreDepartures, HasArrival, IsStowed};
 ghost use Rattle.voyage_meaning.specs.declared.moves.Move.TheVariants.{OffCover, OnCover};
-ghost use Rattle.voyage_meaning.specs.Voyage.{HasCount, IsLegalVoyage, voyage_count};
+ghost use Rattle.voyage_meaning.specs.Voyage.{HasCost, IsLegalVoyage, voyage_cost};
 ghost use Rattle.plan_lifts.specs.Spread.{has};
 ghost use Rattle.plan_lifts.specs.Lifted.{AreLifted, IsLifted, LiftEachExactly, LiftsAppended, SailsLeast};
 ghost use Rattle.plan_lifts.specs.Passes.{IsCallMoves, IsFlaggedAt, IsListedAt, IsOnCover, Sets, covers_down, lifts_down, passes, put_of, puts_from};
@@ -338,7 +338,7 @@ fn move_from(
     )
 }
 
-/// A legal voyage with these departures and the rehandle count that `lifts` gives, which at each call lifts exactly the listed containers, each once, in one pass for each call: lifts on deck, covers off, lifts in the hold, puts in the hold, covers on, puts on deck.
+/// A legal voyage with these departures and the cost that `lifts` gives, which at each call lifts exactly the listed containers, each once, in one pass for each call: lifts on deck, covers off, lifts in the hold, puts in the hold, covers on, puts on deck.
 pub fn moves_of(
     alloc: Global,
     ship: &Ship,
@@ -349,9 +349,9 @@ pub fn moves_of(
     requires arrival { HasArrival ship.now cargo.now }
     requires each_call { length plans.now + 1 ≡ length cargo.now.rotation }
     requires lists { IsLifted ship.now cargo.now plans.now lifted.now.lists }
-    requires count { HasCount ship.now cargo.now plans.now lifted.now.count }
+    requires cost { HasCost ship.now cargo.now plans.now lifted.now.cost }
     ensures legal { IfOk result (λ voyage. IsLegalVoyage ship.now cargo.now voyage plans.now) }
-    ensures count { IfOk result (λ voyage. voyage_count ship.now cargo.now voyage plans.now ≡ lifted.now.count) }
+    ensures cost { IfOk result (λ voyage. voyage_cost ship.now cargo.now voyage plans.now ≡ lifted.now.cost) }
     ensures exact { IfOk result (λ voyage. LiftEachExactly ship.now cargo.now 1 cargo.now.arrival voyage plans.now lifted.now.lists) }
 {
     let mut voyage = Seq::new(alloc);

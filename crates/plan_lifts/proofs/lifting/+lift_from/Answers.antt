@@ -24,7 +24,7 @@ pub returns : goal.returns
 returns t c =
     let both = c.in-Some.ensures.cases in
     let same : c.call.inside.0 ≡ c.args.call = c.call.view_is in
-    lift_more c.args.ship.now c.args.cargo.now c.args.call (c.call.inside.0 + 1) c.args.before.now c.in-Some.after.now c.args.plans.now c.in-Some.rest.now (has c.in_ok-set.set) c.in_ok-list.list c.args.lists.now c.push.new.self c.lift_from.new.lists c.count_of-here.result c.in_ok-later.later
+    lift_more c.args.ship.now c.args.cargo.now c.args.call (c.call.inside.0 + 1) c.args.before.now c.in-Some.after.now c.args.plans.now c.in-Some.rest.now (has c.in_ok-set.set) c.in_ok-list.list c.args.lists.now c.push.new.self c.lift_from.new.lists c.cost_of-here.result c.in_ok-later.later
     both.0 (omega (arith, same)) c.requires.formed c.in_default-departure_fault.ensures
     c.in_ok-set.ensures.least c.in_ok-set.ensures.filled c.in_ok-list.ensures c.in_ok-push.ensures
-    c.count_of-here.ensures.value c.count_of-here.ensures.small c.in_ok-later.ensures
+    c.cost_of-here.ensures.value c.cost_of-here.ensures.small c.in_ok-later.ensures
