@@ -1,12 +1,13 @@
--- Rows that there are: their numbers are in range, and how large their coefficients and right sides are.
+-- Rows that there are: their numbers are in range, and how large their coefficients and right sides are; how much a variable and a voyage cost at most.
 use Rattle.std.proofs.Common.{◌≡◌, ℕ, zero, suc, ◌+◌, ◌-◌, ◌*◌, ◌<◌, ◌≤◌, ◌^◌, Bool, true, false, cond, ◌&&◌, List, [], ◌∷◌, Option, None, not, arith, refl, sym, ◌∙◌, ap, subst, length, map, max, sum, ⊎_elim}
 use Rattle.std.specs.Prelude.{All, filter, slice_index_or, pos, negsuc, ◌-ℤ◌, unsigned_abs, nat_lt, nat_le}
 use Rattle.std.specs.List.{fold, sum_by}
 use Rattle.std.proofs.lemmas.Bool.{ltb-true, leb-true, false≢true, cases_lt}
 use Rattle.std.proofs.lemmas.List.{get_or_past, map-id}
+use Rattle.std.proofs.lemmas.List.Elements.{All-get_or}
 use Rattle.std.proofs.lemmas.List.Sums.{count_by-le-length, sum_by-cons, sum_by-le, sum-map}
 use Rattle.std.proofs.Math.IntN.{+ℤ_idl}
-use Rattle.std.proofs.Math.Nat.{mul-div-le, mul-le-mul}
+use Rattle.std.proofs.Math.Nat.{mul-div-le, mul-le-mul, mul-le-mul_left}
 use borrow.Author.Differences.{ints}
 use Rattle.zero_one_rows.specs.Chains.{rises, is_length, is_chain, pairs_of}
 use Rattle.zero_one_rows.specs.Gains.{gain, greatest_to, best_gain}
@@ -20,16 +21,17 @@ use Rattle.stow_data.specs.declared.cargoes.Container.{Container}
 use Rattle.stow_data.specs.declared.kind_list.Kind.{Kind}
 use Rattle.stow_data.specs.Ship.{Ship, halves, places}
 use Rattle.stow_data.specs.Profile.{IsShip, IsStack}
-use Rattle.stow_data.specs.Shipment.{IsCargo}
+use Rattle.stow_data.specs.Shipment.{Cargo, IsCargo, price, most_cost}
 use Rattle.stow_data.specs.Plans.{no_stack}
 use Rattle.stow_data.specs.Kinds.{rounded, first_ones, of_one_kind, kind_among, kind_number}
 use Rattle.stow_data.proofs.KindLemmas.{loads_few}
+use Rattle.stow_data.proofs.Prices.{sum_low as tariff_low}
 use Rattle.stow_data.proofs.Members.{map_at}
 use Rattle.stow_data.proofs.Distinct.{Each, each_at, each_from}
 use Rattle.zero_one_rows.specs.declared.program.Var.{Var}
 use Rattle.zero_one_rows.specs.declared.program.Row.{Row}
 use Rattle.zero_one_rows.specs.declared.program.Row.TheVariants.{Flow, Start, Cell, Support, Twenty, Block, Hatch, Weight, Apart, Cross}
-use Rattle.zero_one_rows.specs.Variables.{Voyage, calls, all_kinds, kind, no_kind}
+use Rattle.zero_one_rows.specs.Variables.{Voyage, calls, all_kinds, kind, no_kind, is_rehandled, var_cost}
 use Rattle.zero_one_rows.specs.Crossing.{columns_in, columns, tiers_for, tallest, length_of, is_length as is_foot, is_of_load, load_of, is_crossing}
 use Rattle.zero_one_rows.specs.Rows.{stack, bit, turned, coef, rhs, has, is_filled}
 use Rattle.zero_one_rows.specs.Ranges.{InRange}
@@ -232,3 +234,20 @@ right_small m (Cross l p c) rules lawful h =
     let total = sum_low (λ p. load_of m (length_of l) p.0 p.1) (2 ^ 32) (pairs_of c) each in
     let pairs : length (pairs_of c) * 2 ^ 32 ≤ 6 * 2 ^ 32 = omega (arith, few) in
     cross_small (map (λ p. load_of m (length_of l) p.0 p.1) (pairs_of c)) (columns m.ship (length_of l)) (tallest m.ship (length_of l)) p (omega (arith, total, pairs)) (columns_few m.ship (length_of l) rules) (in_range m (Cross l p c) rules h)
+
+price_small : (cargo : Cargo) (call : ℕ) → IsCargo cargo → price cargo call ≤ 1000
+price_small cargo zero lawful = omega arith
+price_small cargo (suc i) lawful = ⊎_elim
+    (λ (l : i < length cargo.tariff). All-get_or (λ (p : ℕ). p ≤ 1000) cargo.tariff i 0 l lawful.prices_to)
+    (λ (l : length cargo.tariff ≤ i). subst (λ (p : ℕ). p ≤ 1000) (sym (get_or_past cargo.tariff i 0 l)) (omega arith))
+    (cases_lt i (length cargo.tariff))
+
+cond_small : (b : Bool) (n k : ℕ) → n ≤ k → cond b n 0 ≤ k
+cond_small true n k h = h
+cond_small false n k h = omega arith
+
+pub cost_small : (m : Voyage) (x : Var) → IsCargo m.cargo → var_cost m x ≤ 1000
+cost_small m x lawful = cond_small (is_rehandled m x) (price m.cargo x.lifted) 1000 (price_small m.cargo x.lifted lawful)
+
+pub most_cost_low : (cargo : Cargo) → IsCargo cargo → most_cost cargo < 2 ^ 34
+most_cost_low cargo lawful = omega (arith, mul-le-mul_left (length cargo.containers) (tariff_low cargo lawful), lawful.few_containers)

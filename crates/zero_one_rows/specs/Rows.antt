@@ -20,7 +20,7 @@ use Rattle.zero_one_rows.specs.declared.program.Var.{Var}
 use Rattle.zero_one_rows.specs.declared.program.Row.{Row}
 use Rattle.zero_one_rows.specs.declared.program.Row.TheVariants.{Flow, Start, Cell, Support, Twenty as TwentyOn, Block, Hatch, Weight, Apart, Cross}
 use Rattle.proof_trees.specs.Program.{Program, where_set, Solution}
-use Rattle.zero_one_rows.specs.Variables.{Voyage, calls, all_kinds, kind, place, variables, var, is_rehandled}
+use Rattle.zero_one_rows.specs.Variables.{Voyage, calls, all_kinds, kind, place, variables, var, var_cost}
 use Rattle.zero_one_rows.specs.Crossing.{crosses, crossing_side, is_crossing}
 
 abbrev pub no_separation : Separation
@@ -176,7 +176,7 @@ module _ (m : Voyage) where
   abbrev pub whole : Program Row
   whole = record {
     vars = length (variables m);
-    cost = λ v. bit (is_rehandled m (var m v));
+    cost = λ v. pos (var_cost m (var m v));
     coef = λ r v. coef r (var m v);
     rhs = rhs;
     has = has;

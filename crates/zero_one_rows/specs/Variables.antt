@@ -5,7 +5,7 @@ use Rattle.stow_data.specs.declared.geometry.Length.TheVariants.{Forty}
 use Rattle.stow_data.specs.declared.geometry.Place.{Place}
 use Rattle.stow_data.specs.declared.kind_list.Kind.{Kind}
 use Rattle.stow_data.specs.Ship.{Ship, places, fits}
-use Rattle.stow_data.specs.Shipment.{Cargo}
+use Rattle.stow_data.specs.Shipment.{Cargo, price}
 use Rattle.stow_data.specs.Plans.{no_place, no_container}
 use Rattle.stow_data.specs.Kinds.{kinds_of, kind_number}
 use Rattle.zero_one_rows.specs.declared.program.Var.{Var}
@@ -57,3 +57,7 @@ module _ (m : Voyage) where
   -- one that is lifted before its destination is a rehandle
   abbrev pub is_rehandled : Var → Bool
   is_rehandled x = nat_lt x.lifted (kind x.kind).dest
+
+  -- what it costs: the price of the call at which it is lifted, where it is a rehandle
+  abbrev pub var_cost : Var → ℕ
+  var_cost x = cond (is_rehandled x) (price m.cargo x.lifted) 0

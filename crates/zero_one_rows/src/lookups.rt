@@ -1,11 +1,11 @@
 //! The coefficient of a variable in a row, right sides and costs.
-ghost use Rattle.std.specs.Prelude.{◌≡◌, ℕ, ◌+◌, ◌<◌, ◌^◌, ◌&&◌, ◌==◌, cond, length, ℤ, pos, ◌-ℤ◌, nat_eq, Some};
+ghost use Rattle.std.specs.Prelude.{◌≡◌, ℕ, ◌+◌, ◌<◌, ◌≤◌, ◌^◌, ◌&&◌, ◌==◌, cond, length, ℤ, pos, ◌-ℤ◌, nat_eq, Some};
 ghost use Rattle.std.specs.Option.{option_eq};
 ghost use Rattle.std.specs.Cmp.Lexicographic.{pointwise};
 ghost use Rattle.stow_data.specs.Ship.{halves, places};
 ghost use Rattle.proof_trees.specs.Program.{where_set};
-ghost use Rattle.zero_one_rows.specs.Variables.{Voyage, all_kinds, is_rehandled};
-ghost use Rattle.zero_one_rows.specs.Rows.{covers, active, ends, half, coef, rhs, bit};
+ghost use Rattle.zero_one_rows.specs.Variables.{Voyage, all_kinds, var_cost};
+ghost use Rattle.zero_one_rows.specs.Rows.{covers, active, ends, half, coef, rhs};
 ghost use Rattle.stow_data.specs.Kinds.{AreKinds};
 ghost use Rattle.zero_one_rows.specs.Ranges.{InRange};
 
@@ -135,13 +135,19 @@ pub fn right_side(ship: &Ship, cargo: &Cargo, kinds: &Kinds, row: &Row) -> i64
     }
 }
 
-/// What a variable costs: 1 where it is lifted before its kind's destination.
-pub fn cost_at(kinds: &Kinds, x: Var) -> u32
+/// What a variable costs: the price of the call at which it is lifted, where that is before its kind's destination.
+pub fn cost_at(cargo: &Cargo, kinds: &Kinds, x: Var) -> u32
     ghost m: { Voyage }
+    requires cargo { cargo.now ≡ m.cargo }
     requires kinds { kinds.now.list ≡ all_kinds m }
     requires kind { x.kind < length (all_kinds m) }
-    ensures { pos result ≡ bit (is_rehandled m x) }
+    ensures value { result ≡ var_cost m x }
+    ensures size { result ≤ 1000 }
 {
     let kind = kind_at(kinds, x.kind);
-    if x.lifted.0 < kind.dest.0 { 1 } else { 0 }
+    if x.lifted.0 < kind.dest.0 {
+        cargo.tariff(x.lifted)
+    } else {
+        0
+    }
 }
