@@ -48,14 +48,15 @@ impl<'a> std::marker::Model for Model<'a> {
 impl<'a> Model<'a> {
     ghost use Rattle.zero_one_rows.specs.declared.program.Var.{Var};
     ghost use Rattle.zero_one_rows.specs.declared.program.Row.TheVariants.{Cross};
-    ghost use Rattle.zero_one_rows.specs.Variables.{Voyage, calls, variables, var, place, all_kinds, kind as kind_of, is_rehandled};
+    ghost use Rattle.zero_one_rows.specs.Variables.{Voyage, calls, variables, var, place, all_kinds, kind as kind_of, is_rehandled, var_cost};
     ghost use Rattle.zero_one_rows.specs.Crossing.{crosses, tallest, length_of};
-    ghost use Rattle.zero_one_rows.specs.Rows.{bit, coef, rhs, has, whole};
+    ghost use Rattle.zero_one_rows.specs.Rows.{coef, rhs, has, whole};
     ghost use Rattle.zero_one_rows.specs.Counted.{base_rows, all_rows};
     ghost use Rattle.zero_one_model.specs.Indexed.{Touches, stands, is_keyed, lot_of, place_key};
     ghost use Rattle.zero_one_model.specs.Runs.{calls_for, run_of, meets, base_row, named_runs, chain_runs};
     ghost use Rattle.zero_one_model.specs.Building.{Builds};
     ghost use Rattle.stow_data.specs.Ship.{places, same_length};
+    ghost use Rattle.stow_data.specs.Shipment.{most_cost};
 
     /// The program of this ship and cargo. TooLarge comes exactly where the variables are more than 200,000, or else the rows more than 2,000,000.
     pub fn build(alloc: Global, ship: &'a Ship, cargo: &'a Cargo) -> Result<Model<'a>, ModelNo>
@@ -98,11 +99,14 @@ impl<'a> Model<'a> {
         self.rows
     }
 
-    /// A program has at most 200,000 variables and 2,000,000 rows: a law, which costs nothing when it runs.
+    /// A program has at most 200,000 variables and 2,000,000 rows, and no variable costs more than 1,000: a law, which costs nothing when it
+    /// runs.
     pub fn keeps_limits(&self)
         ensures vars { length (variables self.now) ≤ 200000 }
         ensures rows { length (all_rows self.now) ≤ 2000000 }
+        ensures costs { (x : Var) → var_cost self.now x ≤ 1000 }
     {
+        self.cargo.obeys_rules();
         let _vars = self.vars();
         let _rows = self.rows();
     }
@@ -144,9 +148,9 @@ impl<'a> Model<'a> {
         self.cargo
     }
 
-    /// The greatest number of rehandles that a voyage needs: each container once at each call but the last.
+    /// The most that a voyage needs to cost: each container lifted once at each call but the last.
     pub fn limit(&self) -> u64
-        ensures { result ≡ length self.now.cargo.containers * (length self.now.cargo.rotation - 1) }
+        ensures { result ≡ most_cost self.now.cargo }
     {
         self.cargo.limit()
     }
@@ -202,9 +206,10 @@ impl<'a> Model<'a> {
         ghost m: { Voyage }
         requires model { self.now ≡ m }
         requires kind { x.kind < length (all_kinds m) }
-        ensures { pos result ≡ bit (is_rehandled m x) }
+        ensures value { result ≡ var_cost m x }
+        ensures size { result ≤ 1000 }
     {
-        zero_one_rows::cost_at(&self.kinds, x)
+        zero_one_rows::cost_at(self.cargo, &self.kinds, x)
     }
 
     /// The coefficient of a variable in a row.
@@ -230,11 +235,11 @@ impl<'a> Model<'a> {
         self.rhs_of(r)
     }
 
-    /// What a variable costs: 1 where it is lifted before its kind's destination, and else 0.
+    /// What a variable costs: the price of the call at which it is lifted, where that is before its kind's destination, and else nothing.
     pub fn cost(&self, x: VarNo) -> u32
         requires { x < length (variables self.now) }
         ensures value { pos result ≡ (whole self.now).cost x }
-        ensures size { result ≤ 1 }
+        ensures size { result ≤ 1000 }
     {
         self.cost_of(self.var(x))
     }
