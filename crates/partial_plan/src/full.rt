@@ -42,7 +42,7 @@ fn cost_at(model: &Model, b: &Box01, x: VarNo) -> u32
     requires var { x < length (variables model.now) }
     requires whole { length b.now ≡ length (variables model.now) }
     ensures value { pos result ≡ where_set (ones b.now x) ((whole model.now).cost x) }
-    ensures size { result ≤ 1 }
+    ensures size { result ≤ 1000 }
 {
     match b.at(x) {
         Some(true) => model.cost(x),
