@@ -4,8 +4,9 @@ use Rattle.std.specs.Int.RustNames.{unsigned_abs}
 use borrow.Author.Differences.{ints}
 use Rattle.std.proofs.lemmas.List.{get_or-set_same, get_or-set_other}
 use Rattle.zero_one_rows.specs.declared.program.Row.{Row}
-use Rattle.zero_one_rows.specs.Variables.{Voyage, variables, var, is_rehandled}
-use Rattle.zero_one_rows.specs.Rows.{whole, bit}
+use Rattle.zero_one_rows.specs.declared.program.Var.{Var}
+use Rattle.zero_one_rows.specs.Variables.{Voyage, variables, var, var_cost}
+use Rattle.zero_one_rows.specs.Rows.{whole}
 use Rattle.zero_one_rows.specs.Counted.{all_rows}
 use Rattle.proof_trees.specs.Program.{sum_to}
 use Rattle.proof_trees.specs.Boxes.{Box, at}
@@ -68,14 +69,10 @@ put_box m b ds x o value value' right lt len is more =
     let here : least (at (set b x o) x) (number_at ds x) ≡ least o (number_at ds x) = ap (λ (q : Option Bool). least q (number_at ds x)) (get_or-set_same b x o None in_b) in
     omega (arith, ints, one, here, is, more)
 
-bit_small : (b : Bool) → unsigned_abs (bit b) ≤ 1
-bit_small true = omega arith
-bit_small false = omega arith
-
-cost_low : (c w : ℤ) (n : ℕ) → unsigned_abs c ≤ 1 → unsigned_abs w ≤ n → unsigned_abs (pos 16 *ℤ c -ℤ w) ≤ 16 + n
+cost_low : (c : ℕ) (w : ℤ) (n : ℕ) → c ≤ 1000 → unsigned_abs w ≤ n → unsigned_abs (pos 16 *ℤ pos c -ℤ w) ≤ 16000 + n
 cost_low c w n h k = omega (arith, ints)
 
-module _ (m : Voyage) (b : Box) (c : Costs) (few : length (all_rows m) ≤ 2000000) (vars : length (variables m) ≤ 200000) where
+module _ (m : Voyage) (b : Box) (c : Costs) (few : length (all_rows m) ≤ 2000000) (vars : length (variables m) ≤ 200000) (costs : (x : Var) → var_cost m x ≤ 1000) where
   module _ (ms : Multipliers Row) (priced : Priced m b ms c) where
     count : length ms ≤ 2000000
     count = let h : length ms ≤ length (all_rows m) = few_multipliers m ms (are_multipliers m ms priced.small) in omega arith
@@ -84,7 +81,7 @@ module _ (m : Voyage) (b : Box) (c : Costs) (few : length (all_rows m) ≤ 20000
     reduced_low v lt =
         let n = count in
         let w : unsigned_abs (weighed (whole m) ms v) ≤ length ms * (2 ^ 40 * 2 ^ 17) = dot_low m (λ r. (whole m).coef r v) (2 ^ 17) (λ r small. small.coefs v lt) ms priced.small in
-        let all : unsigned_abs (pos 16 *ℤ (whole m).cost v -ℤ weighed (whole m) ms v) ≤ 16 + length ms * (2 ^ 40 * 2 ^ 17) = cost_low ((whole m).cost v) (weighed (whole m) ms v) _ (bit_small (is_rehandled m (var m v))) w in
+        let all : unsigned_abs (pos 16 *ℤ (whole m).cost v -ℤ weighed (whole m) ms v) ≤ 16000 + length ms * (2 ^ 40 * 2 ^ 17) = cost_low (var_cost m (var m v)) (weighed (whole m) ms v) _ (costs (var m v)) w in
         subst (λ (z : ℤ). unsigned_abs z ≤ 2 ^ 79) (sym (priced.reduced v lt)) (omega (arith, all, n))
 
     pub right_low : unsigned_abs c.right ≤ 2 ^ 98

@@ -20,9 +20,6 @@ use stow_data::{NoMemory, VarNo};
 use zero_one_model::{Box01, Model};
 use zero_one_rows::Row;
 
-/// The most rows of a program.
-const MOST_ROWS: u64 = 2_000_000;
-
 /// The reduced costs of the variables, 16 times the cost less the weighed coefficients; the weighed right sides; and the dual value.
 #[derive(Drop)]
 pub struct Costs {
@@ -35,7 +32,7 @@ pub struct Costs {
 fn first_costs(alloc: Global, model: &Model) -> Result<Vec<i128>, NoMemory>
     ensures len { IfOk result (λ ds. length ds.items ≡ length (variables model.now)) }
     ensures each { IfOk result (λ ds. (v : ℕ) → v < length (variables model.now) → number_at ds.items v ≡ pos 16 *ℤ (whole model.now).cost v) }
-    ensures small { IfOk result (λ ds. (v : ℕ) → v < length (variables model.now) → unsigned_abs (number_at ds.items v) ≤ 16) }
+    ensures small { IfOk result (λ ds. (v : ℕ) → v < length (variables model.now) → unsigned_abs (number_at ds.items v) ≤ 16000) }
 {
     let mut costs = Vec::with_capacity(alloc, model.vars() as usize)?;
     for v in 0..model.vars() {
@@ -58,7 +55,7 @@ pub fn part(b: &Box01, x: VarNo, reduced: i128) -> i128
 fn sum_parts(model: &Model, b: &Box01, reduced: &[i128]) -> i128
     requires whole { length b.now ≡ length (variables model.now) }
     requires len { length reduced.now ≡ length (variables model.now) }
-    requires small { (v : ℕ) → v < length (variables model.now) → unsigned_abs (number_at reduced.now v) ≤ 16 }
+    requires small { (v : ℕ) → v < length (variables model.now) → unsigned_abs (number_at reduced.now v) ≤ 16000 }
     ensures { result ≡ parts model.now b.now reduced.now }
 {
     let mut total: i128 = 0;
@@ -73,7 +70,7 @@ fn reset(reduced: &mut [i128], model: &Model)
     requires { length reduced.old ≡ length (variables model.now) }
     ensures len { length reduced.new ≡ length (variables model.now) }
     ensures each { (v : ℕ) → v < length (variables model.now) → number_at reduced.new v ≡ pos 16 *ℤ (whole model.now).cost v }
-    ensures small { (v : ℕ) → v < length (variables model.now) → unsigned_abs (number_at reduced.new v) ≤ 16 }
+    ensures small { (v : ℕ) → v < length (variables model.now) → unsigned_abs (number_at reduced.new v) ≤ 16000 }
 {
     for v in 0..model.vars() {
         reduced[v as usize] = first_cost(model.cost(VarNo(v)));
@@ -153,8 +150,7 @@ impl Costs {
         ensures { (ms : Prices Rows) (n : ℕ) → Priced model.now b.now ms self.old → pos (amount_of same_row ms listed.entry.row.now) +ℤ by ≡ pos n → n ≤ 2 ^ 40
             → Priced model.now b.now (with_amount same_row ms listed.entry.row.now n) self.new }
     {
-        let (rows, _vars) = (model.rows(), model.vars());
-        prove!(rows <= MOST_ROWS);
+        model.keeps_limits();
         self.price_vars(model, b, listed.row, by, listed.terms);
         self.right = grown(self.right, by, listed.right);
         self.value = grown(self.value, by, listed.right);
@@ -200,8 +196,7 @@ impl Costs {
         requires priced { PricedSome model.now b.now self.now }
         ensures { (ms : Prices Rows) → Priced model.now b.now ms self.now → Gains model.now b.now ms listed.entry.row.now more result }
     {
-        let (rows, _vars) = (model.rows(), model.vars());
-        prove!(rows <= MOST_ROWS);
+        model.keeps_limits();
         let by = signed(more);
         sum_of(
             product(by, listed.right),
@@ -233,8 +228,7 @@ impl Costs {
         requires priced { PricedSome model.now b.now self.now }
         ensures { result ≡ self.now.right +ℤ parts model.now (slice_set b.now x allowed) self.now.reduced.items }
     {
-        let (rows, _vars) = (model.rows(), model.vars());
-        prove!(rows <= MOST_ROWS);
+        model.keeps_limits();
         let reduced = self.reduced_at(x);
         swapped(self.value, part(b, x, reduced), least_of(allowed, reduced))
     }

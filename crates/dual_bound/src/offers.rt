@@ -14,9 +14,6 @@ use crossing_pricing::{NOTHING, PairSides, PairTable, chain_of, gaps_by_pair, mo
 use zero_one_model::{Box01, Model};
 use zero_one_rows::Row;
 
-/// The most rows of a program.
-const MOST_ROWS: u64 = 2_000_000;
-
 /// What a crossing row of a length gains at the price with this index, which is the price less 1.
 #[derive(Clone, Copy)]
 pub struct Offer {
@@ -143,9 +140,7 @@ pub fn choose_crossing(model: &Model, pairs: &PairTable, b: &Box01, costs: &Cost
     requires priced { PricedSome model.now b.now costs.now }
     ensures { (r : Rows) → is_base r ≡ false → (whole model.now).has r ≡ true → gain_of model.now b.now costs.now.reduced.items r ≤ℤ result.gain }
 {
-    let rows = model.rows();
     model.keeps_limits();
-    prove!(rows <= MOST_ROWS);
     let gaps = gaps_by_pair(model, b, costs.reduced.as_slice(), pairs.keys.as_slice());
     let offer = best_of_both(model, pairs, b, costs, &gaps);
     let row = if offer.gain > 0 {

@@ -79,9 +79,9 @@ pub fn grown(total: i128, by: i64, each: i64) -> i128
 
 /// 16 times a variable's cost.
 pub fn first_cost(cost: u32) -> i128
-    requires { cost ≤ 1 }
+    requires { cost ≤ 1000 }
     ensures value { result ≡ pos 16 *ℤ pos cost }
-    ensures size { unsigned_abs result ≤ 16 }
+    ensures size { unsigned_abs result ≤ 16000 }
 {
     16 * cost as i128
 }

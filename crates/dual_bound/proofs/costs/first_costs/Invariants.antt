@@ -8,5 +8,5 @@ abbrev pub invariant-loop-v : goal.invariant-loop-v
 invariant-loop-v l = record {
   len : length l.costs.items ≡ l.v;
   each : (v : ℕ) → v < l.v → number_at l.costs.items v ≡ pos 16 *ℤ (whole l.model).cost v;
-  small : (v : ℕ) → v < l.v → unsigned_abs (number_at l.costs.items v) ≤ 16;
+  small : (v : ℕ) → v < l.v → unsigned_abs (number_at l.costs.items v) ≤ 16000;
 }

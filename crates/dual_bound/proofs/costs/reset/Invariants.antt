@@ -9,5 +9,5 @@ abbrev pub invariant-loop-v : goal.invariant-loop-v
 invariant-loop-v l = record {
   len : length l.reduced ≡ length (variables l.model);
   each : (v : ℕ) → v < l.v → number_at l.reduced v ≡ pos 16 *ℤ (whole l.model).cost v;
-  small : (v : ℕ) → v < l.v → unsigned_abs (number_at l.reduced v) ≤ 16;
+  small : (v : ℕ) → v < l.v → unsigned_abs (number_at l.reduced v) ≤ 16000;
 }

@@ -9,5 +9,5 @@ use Rattle.dual_bound.proofs.costs.sum_parts.Given as goal
 abbrev pub invariant-loop-v : goal.invariant-loop-v
 invariant-loop-v l = record {
   value : l.total ≡ sum_to l.v (λ v. least (at l.b v) (number_at l.reduced v));
-  size : unsigned_abs l.total ≤ l.v * 16;
+  size : unsigned_abs l.total ≤ l.v * 16000;
 }

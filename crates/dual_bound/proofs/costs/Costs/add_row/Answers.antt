@@ -1,10 +1,8 @@
-use Rattle.std.proofs.Common.{rules, arith, SFits, w64, ◌≡◌, ◌≤◌, ◌^◌, ◌+ℤ◌, ◌*ℤ◌, length, ℤ, ◌∙◌, ap, sym, subst}
+use Rattle.std.proofs.Common.{rules, arith, SFits, w64, ◌≡◌, ◌≤◌, ◌^◌, ◌+ℤ◌, ◌*ℤ◌, ℤ, ◌∙◌, ap, sym, subst}
 use Rattle.std.specs.Int.{w128}
 use Rattle.std.specs.Int.RustNames.{unsigned_abs}
 use Rattle.std.proofs.lemmas.Int.{to_z-of_z, fits_signed_from_abs}
 use borrow.Author.Differences.{ints}
-use Rattle.zero_one_rows.specs.Variables.{variables}
-use Rattle.zero_one_rows.specs.Counted.{all_rows}
 use Rattle.dual_bound.specs.Costs.{IsSmall}
 use Rattle.dual_bound.proofs.Touched.{coefs_small}
 use Rattle.dual_bound.proofs.Pricing.{has_room, add_priced}
@@ -12,15 +10,11 @@ use Rattle.dual_bound.proofs.costs.Costs.add_row.Goals as goal
 
 pub price_vars-requires-clause-room : goal.price_vars-requires-clause-room
 price_vars-requires-clause-room c =
-    let few : length (all_rows c.args.model.now) ≤ 2000000 = omega (arith, c.rows-rows.ensures.number, c.rows-rows.ensures.size) in
-    let vars : length (variables c.args.model.now) ≤ 200000 = omega (arith, c.vars-vars.ensures.number, c.vars-vars.ensures.size) in
-    has_room c.args.model.now c.args.b.now c.args.self.now few vars c.requires.priced
+    has_room c.args.model.now c.args.b.now c.args.self.now c.keeps_limits.ensures.rows c.keeps_limits.ensures.vars c.keeps_limits.ensures.costs c.requires.priced
 
 pub grown-self-requires-clause-total : goal.grown-self-requires-clause-total
 grown-self-requires-clause-total c =
-    let few : length (all_rows c.args.model.now) ≤ 2000000 = omega (arith, c.rows-rows.ensures.number, c.rows-rows.ensures.size) in
-    let vars : length (variables c.args.model.now) ≤ 200000 = omega (arith, c.vars-vars.ensures.number, c.vars-vars.ensures.size) in
-    let low : unsigned_abs c.price_vars.new.self.right ≤ 2 ^ 98 = subst (λ (z : ℤ). unsigned_abs z ≤ 2 ^ 98) (sym c.price_vars.ensures.right) (has_room c.args.model.now c.args.b.now c.args.self.now few vars c.requires.priced).right in
+    let low : unsigned_abs c.price_vars.new.self.right ≤ 2 ^ 98 = subst (λ (z : ℤ). unsigned_abs z ≤ 2 ^ 98) (sym c.price_vars.ensures.right) (has_room c.args.model.now c.args.b.now c.args.self.now c.keeps_limits.ensures.rows c.keeps_limits.ensures.vars c.keeps_limits.ensures.costs c.requires.priced).right in
     let f : SFits w128 c.price_vars.new.self.right = fits_signed_from_abs w128 c.price_vars.new.self.right (omega arith) in
     simp to_z-of_z (omega arith)
 
@@ -29,9 +23,7 @@ returns c = λ ms n priced sum low.
     let m = c.args.model.now in
     let mid = c.price_vars.new.self in
     let side : ℤ = c.args.listed.right in
-    let few : length (all_rows m) ≤ 2000000 = omega (arith, c.rows-rows.ensures.number, c.rows-rows.ensures.size) in
-    let vars : length (variables m) ≤ 200000 = omega (arith, c.vars-vars.ensures.number, c.vars-vars.ensures.size) in
-    let right_low : unsigned_abs mid.right ≤ 2 ^ 98 = subst (λ (z : ℤ). unsigned_abs z ≤ 2 ^ 98) (sym c.price_vars.ensures.right) (has_room m c.args.b.now c.args.self.now few vars c.requires.priced).right in
+    let right_low : unsigned_abs mid.right ≤ 2 ^ 98 = subst (λ (z : ℤ). unsigned_abs z ≤ 2 ^ 98) (sym c.price_vars.ensures.right) (has_room m c.args.b.now c.args.self.now c.keeps_limits.ensures.rows c.keeps_limits.ensures.vars c.keeps_limits.ensures.costs c.requires.priced).right in
     let f : SFits w128 mid.right = fits_signed_from_abs w128 mid.right (omega arith) in
     let f' : SFits w128 mid.value = fits_signed_from_abs w128 mid.value (omega (arith, c.price_vars.ensures.value)) in
     let g : SFits w128 c.grown-self.result = search rules in

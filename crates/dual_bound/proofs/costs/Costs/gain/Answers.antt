@@ -1,18 +1,14 @@
-use Rattle.std.proofs.Common.{rules, arith, SFits, w64, ◌≡◌, ◌≤◌, ◌^◌, ◌+ℤ◌, ◌*ℤ◌, length, ℤ, pos, ◌∙◌, ap}
+use Rattle.std.proofs.Common.{rules, arith, SFits, w64, ◌≡◌, ◌^◌, ◌+ℤ◌, ◌*ℤ◌, ℤ, pos, ◌∙◌, ap}
 use Rattle.std.specs.Int.{w128}
 use Rattle.std.proofs.lemmas.Int.{to_z-of_z, fits_signed_from_abs}
-use Rattle.zero_one_rows.specs.Variables.{variables}
 use Rattle.zero_one_rows.specs.Rows.{whole}
-use Rattle.zero_one_rows.specs.Counted.{all_rows}
 use Rattle.dual_bound.specs.Costs.{gaps_of}
 use Rattle.dual_bound.proofs.Pricing.{has_room, gain_is}
 use Rattle.dual_bound.proofs.costs.Costs.gain.Goals as goal
 
 pub gaps-requires-clause-room : goal.gaps-requires-clause-room
 gaps-requires-clause-room c =
-    let few : length (all_rows c.args.model.now) ≤ 2000000 = omega (arith, c.rows-rows.ensures.number, c.rows-rows.ensures.size) in
-    let vars : length (variables c.args.model.now) ≤ 200000 = omega (arith, c.vars-vars.ensures.number, c.vars-vars.ensures.size) in
-    has_room c.args.model.now c.args.b.now c.args.self.now few vars c.requires.priced
+    has_room c.args.model.now c.args.b.now c.args.self.now c.keeps_limits.ensures.rows c.keeps_limits.ensures.vars c.keeps_limits.ensures.costs c.requires.priced
 
 pub sum_of-requires-clause-left : goal.sum_of-requires-clause-left
 sum_of-requires-clause-left c =

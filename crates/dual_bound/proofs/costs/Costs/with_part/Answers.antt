@@ -3,7 +3,6 @@ use Rattle.std.specs.Int.{w128}
 use Rattle.std.specs.Int.RustNames.{unsigned_abs}
 use Rattle.std.proofs.lemmas.Int.{to_z-of_z, fits_signed_from_abs}
 use Rattle.zero_one_rows.specs.Variables.{variables}
-use Rattle.zero_one_rows.specs.Counted.{all_rows}
 use Rattle.proof_trees.specs.Boxes.{at}
 use Rattle.proof_trees.specs.Multipliers.{least}
 use Rattle.crossing_pricing.specs.Gaps.{number_at}
@@ -12,18 +11,14 @@ use Rattle.dual_bound.proofs.costs.Costs.with_part.Goals as goal
 
 pub swapped-requires-clause-value : goal.swapped-requires-clause-value
 swapped-requires-clause-value c =
-    let few : length (all_rows c.args.model.now) ≤ 2000000 = omega (arith, c.rows-rows.ensures.number, c.rows-rows.ensures.size) in
-    let vars : length (variables c.args.model.now) ≤ 200000 = omega (arith, c.vars-vars.ensures.number, c.vars-vars.ensures.size) in
-    let low : unsigned_abs c.args.self.now.value ≤ 2 ^ 100 = (has_room c.args.model.now c.args.b.now c.args.self.now few vars c.requires.priced).value in
+    let low : unsigned_abs c.args.self.now.value ≤ 2 ^ 100 = (has_room c.args.model.now c.args.b.now c.args.self.now c.keeps_limits.ensures.rows c.keeps_limits.ensures.vars c.keeps_limits.ensures.costs c.requires.priced).value in
     let f : SFits w128 c.args.self.now.value = fits_signed_from_abs w128 c.args.self.now.value (omega arith) in
     simp to_z-of_z (omega arith)
 
 pub swapped-requires-clause-old : goal.swapped-requires-clause-old
 swapped-requires-clause-old c =
-    let few : length (all_rows c.args.model.now) ≤ 2000000 = omega (arith, c.rows-rows.ensures.number, c.rows-rows.ensures.size) in
-    let vars : length (variables c.args.model.now) ≤ 200000 = omega (arith, c.vars-vars.ensures.number, c.vars-vars.ensures.size) in
     let inside : c.args.x < length (variables c.args.model.now) = omega (arith, c.requires.var, c.requires.whole) in
-    let low : unsigned_abs c.reduced_at-reduced.result ≤ 2 ^ 79 = subst (λ (z : ℤ). unsigned_abs z ≤ 2 ^ 79) (sym c.reduced_at-reduced.ensures) ((has_room c.args.model.now c.args.b.now c.args.self.now few vars c.requires.priced).reduced c.args.x inside) in
+    let low : unsigned_abs c.reduced_at-reduced.result ≤ 2 ^ 79 = subst (λ (z : ℤ). unsigned_abs z ≤ 2 ^ 79) (sym c.reduced_at-reduced.ensures) ((has_room c.args.model.now c.args.b.now c.args.self.now c.keeps_limits.ensures.rows c.keeps_limits.ensures.vars c.keeps_limits.ensures.costs c.requires.priced).reduced c.args.x inside) in
     let r : SFits w128 c.reduced_at-reduced.result = search rules in
     let g : SFits w128 c.part.result = search rules in
     let s : unsigned_abs c.part.result ≤ unsigned_abs c.reduced_at-reduced.result = simp to_z-of_z at c.part.ensures.size in
@@ -31,10 +26,8 @@ swapped-requires-clause-old c =
 
 pub swapped-requires-clause-new : goal.swapped-requires-clause-new
 swapped-requires-clause-new c =
-    let few : length (all_rows c.args.model.now) ≤ 2000000 = omega (arith, c.rows-rows.ensures.number, c.rows-rows.ensures.size) in
-    let vars : length (variables c.args.model.now) ≤ 200000 = omega (arith, c.vars-vars.ensures.number, c.vars-vars.ensures.size) in
     let inside : c.args.x < length (variables c.args.model.now) = omega (arith, c.requires.var, c.requires.whole) in
-    let low : unsigned_abs c.reduced_at-reduced.result ≤ 2 ^ 79 = subst (λ (z : ℤ). unsigned_abs z ≤ 2 ^ 79) (sym c.reduced_at-reduced.ensures) ((has_room c.args.model.now c.args.b.now c.args.self.now few vars c.requires.priced).reduced c.args.x inside) in
+    let low : unsigned_abs c.reduced_at-reduced.result ≤ 2 ^ 79 = subst (λ (z : ℤ). unsigned_abs z ≤ 2 ^ 79) (sym c.reduced_at-reduced.ensures) ((has_room c.args.model.now c.args.b.now c.args.self.now c.keeps_limits.ensures.rows c.keeps_limits.ensures.vars c.keeps_limits.ensures.costs c.requires.priced).reduced c.args.x inside) in
     let r : SFits w128 c.reduced_at-reduced.result = search rules in
     let g : SFits w128 c.least_of.result = search rules in
     let s : unsigned_abs c.least_of.result ≤ unsigned_abs c.reduced_at-reduced.result = simp to_z-of_z at c.least_of.ensures.size in
@@ -42,11 +35,9 @@ swapped-requires-clause-new c =
 
 pub returns : goal.returns
 returns c =
-    let few : length (all_rows c.args.model.now) ≤ 2000000 = omega (arith, c.rows-rows.ensures.number, c.rows-rows.ensures.size) in
-    let vars : length (variables c.args.model.now) ≤ 200000 = omega (arith, c.vars-vars.ensures.number, c.vars-vars.ensures.size) in
     let ds = c.args.self.now.reduced.items in
     let inside : c.args.x < length (variables c.args.model.now) = omega (arith, c.requires.var, c.requires.whole) in
-    let low : unsigned_abs c.args.self.now.value ≤ 2 ^ 100 = (has_room c.args.model.now c.args.b.now c.args.self.now few vars c.requires.priced).value in
+    let low : unsigned_abs c.args.self.now.value ≤ 2 ^ 100 = (has_room c.args.model.now c.args.b.now c.args.self.now c.keeps_limits.ensures.rows c.keeps_limits.ensures.vars c.keeps_limits.ensures.costs c.requires.priced).value in
     let f : SFits w128 c.args.self.now.value = fits_signed_from_abs w128 c.args.self.now.value (omega arith) in
     let r : SFits w128 c.reduced_at-reduced.result = search rules in
     let g : SFits w128 c.part.result = search rules in
