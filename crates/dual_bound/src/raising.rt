@@ -272,9 +272,7 @@ fn first_candidates(
     let Some(pairs) = table.pairs() else {
         return Vec::new(alloc);
     };
-    let last = model.cargo().calls() as usize;
-    model.keeps_limits();
-    match candidates(alloc, pairs, last) {
+    match candidates(alloc, pairs, model.cargo()) {
         Ok(candidates) => candidates,
         Err(NoMemory) => Vec::new(alloc),
     }
