@@ -1,9 +1,9 @@
 -- What meets the base rows meets every row, and no cost is negative.
-use Rattle.std.proofs.Common.{ℕ, zero, suc, ◌<◌, Bool, true, false, List, [], ◌∷◌, length, slice_index_or, pos, ◌≤ℤ◌, subst, arith}
+use Rattle.std.proofs.Common.{ℕ, zero, suc, ◌<◌, List, [], ◌∷◌, length, slice_index_or, pos, ◌≤ℤ◌, subst, arith}
 use Rattle.std.specs.Prelude.{Contains}
 use borrow.Author.Differences.{ints}
-use Rattle.zero_one_rows.specs.Variables.{Voyage, var, is_rehandled}
-use Rattle.zero_one_rows.specs.Rows.{bit, whole, CrossingRowsHold}
+use Rattle.zero_one_rows.specs.Variables.{Voyage, var, var_cost}
+use Rattle.zero_one_rows.specs.Rows.{whole, CrossingRowsHold}
 use Rattle.zero_one_rows.specs.Counted.{base_rows}
 use Rattle.zero_one_rows.proofs.EveryRow.{lists_base_rows}
 use Rattle.proof_trees.specs.Program.{Meets}
@@ -18,13 +18,12 @@ every_at P (x ∷ xs) (suc k) d h lt = every_at P xs k d h.1 (omega arith)
 every_contains : {A : Type 0} (P : A → Type 0) (xs : List A) (a : A) → Every P xs → Contains xs a → P a
 every_contains P xs a h has = subst P has.2 (every_at P xs has.0 a h has.1)
 
-none_negative : (c : Bool) → pos 0 ≤ℤ bit c
-none_negative true = omega (arith, ints)
-none_negative false = omega (arith, ints)
+from_zero : (n : ℕ) → pos 0 ≤ℤ pos n
+from_zero n = omega (arith, ints)
 
 module _ (m : Voyage) where
   pub no_cost_negative : NoneNegative (whole m)
-  no_cost_negative v lt = none_negative (is_rehandled m (var m v))
+  no_cost_negative v lt = from_zero (var_cost m (var m v))
 
   pub base_solves : CrossingRowsHold m → BaseSolves (whole m) (base_rows m)
   base_solves crossing x meets = crossing x (λ r has. every_contains (Meets (whole m) x) (base_rows m) r meets ((lists_base_rows m r).1 has))

@@ -28,7 +28,7 @@ fn least_of(allowed: Option<bool>, reduced: i128) -> i128
 
 // The reduced cost of a variable with this cost.
 fn reduced_cost(cost: u32, weighed: i128) -> i128
-    requires cost { cost ≤ 1 }
+    requires cost { cost ≤ 1000 }
     requires weighed { unsigned_abs weighed ≤ 2 ^ 98 }
     ensures value { result ≡ pos 16 *ℤ pos cost -ℤ weighed }
     ensures size { unsigned_abs result ≤ 2 ^ 99 }

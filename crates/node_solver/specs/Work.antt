@@ -1,7 +1,7 @@
 -- One node of the search: where it begins, and what the record that ends it is to meet.
 use Rattle.std.specs.Prelude.{◌≡◌, ℕ, ◌-◌, ◌*◌, ◌<◌, ◌≤◌, ◌⊎◌, Bool, true, false, cond, List, [], ◌∷◌, Some, length, map, ℤ, ◌<ℤ◌}
 use Rattle.zero_one_rows.specs.declared.program.Row.{Row}
-use Rattle.zero_one_rows.specs.Variables.{Voyage, calls}
+use Rattle.zero_one_rows.specs.Variables.{Voyage}
 use Rattle.zero_one_rows.specs.Rows.{whole}
 use Rattle.zero_one_rows.specs.Counted.{base_rows}
 use Rattle.proof_trees.specs.Boxes.{Box}
@@ -30,10 +30,6 @@ abbrev pub most_at : Node → ℕ
 most_at n = most_raises (is_root n.path)
 
 module _ (m : Voyage) where
-  -- each container once at each call but the last; no voyage needs more rehandles
-  abbrev pub most_rehandles : ℕ
-  most_rehandles = length m.cargo.containers * (calls m - 1)
-
   -- ## Where a node begins
 
   -- the node with its records over the program's numbered variables

@@ -1,7 +1,7 @@
 //! What ends nodes.
 ghost use Rattle.std.specs.Prelude.{◌≡◌, ◌≤◌, ◌+◌};
-ghost use Rattle.stow_data.specs.Shipment.{IsCargo};
-ghost use Rattle.node_solver.specs.Work.{IsNode, begins_at, most_at, most_rehandles, Works};
+ghost use Rattle.stow_data.specs.Shipment.{IsCargo, most_cost};
+ghost use Rattle.node_solver.specs.Work.{IsNode, begins_at, most_at, Works};
 
 use crate::worked::Worked;
 use certificate::Node;
@@ -18,7 +18,7 @@ pub trait Solver: Drop + Send + Sync {
     fn work(&mut self, alloc: Global, node: &Node, cut: u64) -> Worked
         requires cargo { IsCargo (voyage self.old).cargo }
         requires trail { IsNode (voyage self.old) node.now }
-        requires cut { cut ≤ most_rehandles (voyage self.old) + 1 }
+        requires cut { cut ≤ most_cost (voyage self.old).cargo + 1 }
         ensures same { voyage self.new ≡ voyage self.old }
         ensures worked { Works (voyage self.old) (begins_at (voyage self.old) node.now) (most_at node.now) cut result };
 }

@@ -1,7 +1,7 @@
 //! What a worker ends nodes with.
 ghost use Rattle.std.specs.Prelude.{◌≡◌, ◌≤◌, ◌+◌};
-ghost use Rattle.stow_data.specs.Shipment.{IsCargo};
-ghost use Rattle.node_solver.specs.Work.{IsNode, begins_at, most_at, most_rehandles, Works};
+ghost use Rattle.stow_data.specs.Shipment.{IsCargo, most_cost};
+ghost use Rattle.node_solver.specs.Work.{IsNode, begins_at, most_at, Works};
 
 use crate::solver::Solver;
 use crate::worked::Worked;
@@ -35,7 +35,7 @@ impl<S: Solver> NodeSolver<S> {
     pub fn work(&mut self, alloc: Global, node: &Node, cut: u64) -> Worked
         requires cargo { IsCargo self.old.cargo }
         requires trail { IsNode self.old node.now }
-        requires cut { cut ≤ most_rehandles self.old + 1 }
+        requires cut { cut ≤ most_cost self.old.cargo + 1 }
         ensures same { self.new ≡ self.old }
         ensures worked { Works self.old (begins_at self.old node.now) (most_at node.now) cut result }
     {

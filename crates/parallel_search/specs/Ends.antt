@@ -1,6 +1,6 @@
 -- What all workers brought back.
 use Rattle.std.specs.Prelude.{◌≡◌, ℕ, ◌+◌, ◌<◌, ◌≤◌, Bool, true, false, List, [], ◌∷◌, length, Option, Some, None}
-use Rattle.stow_data.specs.Shipment.{IsCargo}
+use Rattle.stow_data.specs.Shipment.{IsCargo, most_cost}
 use Rattle.zero_one_rows.specs.Variables.{Voyage}
 use Rattle.certificate.specs.declared.nodes.Node.{Node}
 use Rattle.certificate.specs.declared.journals.Entry.{Entry}
@@ -24,7 +24,7 @@ use Rattle.parallel_search.specs.declared.slots.WorkerEnd.{WorkerEnd}
 use Rattle.parallel_search.specs.declared.slots.WorkerStart.{WorkerStart}
 use Rattle.parallel_search.specs.declared.slots.WorkerSlot.{WorkerSlot}
 use Rattle.parallel_search.specs.declared.slots.WorkerSlot.TheVariants.{Given, Done, Empty}
-use Rattle.node_solver.specs.Work.{IsNode, most_rehandles}
+use Rattle.node_solver.specs.Work.{IsNode}
 use Rattle.steal_pool.specs.Deeds.{box_of, Weight, Flow, on_nodes, IsDone}
 use Rattle.steal_pool.specs.Jobs.{HasOwn, Means, seed}
 use Rattle.parallel_search.specs.Starts.{IsUnused}
@@ -61,7 +61,7 @@ found_of best drawn a tally = record { best = best; full = box_of a.best; journa
 pub record IsJoined (meets : Node → Type 0) (b : BoardToken) (m : Voyage) (o : SeatToken) : Type 0 where
   pub means : Means meets m
   pub cargo : IsCargo m.cargo
-  pub low : b.start ≤ most_rehandles m + 1
+  pub low : b.start ≤ most_cost m.cargo + 1
   pub top : b.start ≤ none_yet
   pub board : o.board ≡ b.id
   pub made : o.view.made ≡ o.view.taken
@@ -103,7 +103,7 @@ module _ {M : Type 0} where
   pub record IsWorkerStart {S : Type 0} (meets : Node → Type 0) (r : Rack M) (b : BoardToken) (m : Voyage) (p : WorkerStart M S) : Type 0 where
     pub means : Means meets m
     pub cargo : IsCargo m.cargo
-    pub low : b.start ≤ most_rehandles m + 1
+    pub low : b.start ≤ most_cost m.cargo + 1
     pub top : b.start ≤ none_yet
     pub solver : p.solver ≡ m
     pub pass : IsPassAt r p.pass

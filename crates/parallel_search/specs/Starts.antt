@@ -1,21 +1,20 @@
 -- What a search begins with.
 use Rattle.std.specs.Prelude.{◌≡◌, ℕ, ◌+◌, ◌<◌, ◌≤◌, ◌==◌, cond, []}
-use Rattle.stow_data.specs.Shipment.{IsCargo}
+use Rattle.stow_data.specs.Shipment.{IsCargo, most_cost}
 use Rattle.zero_one_rows.specs.Variables.{Voyage}
 use Rattle.certificate.specs.declared.nodes.Node.{Node}
 use Rattle.shared_search.specs.declared.view.View.{View}
 use Rattle.shared_search.specs.Rule.{none_yet}
 use Rattle.shared_search.specs.Tokens.{BoardToken, SeatToken}
-use Rattle.node_solver.specs.Work.{most_rehandles}
 use Rattle.steal_pool.specs.Jobs.{Means}
 
--- what is asked of a search: a cargo by the rules, 1 to 16 workers, at most 100,000 nodes, and a start of at most one more than the most rehandles
+-- what is asked of a search: a cargo by the rules, 1 to 16 workers, at most 100,000 nodes, and a start of at most one more than the most that a voyage needs to cost
 pub record IsAsked (m : Voyage) (workers budget start : ℕ) : Type 0 where
   pub cargo : IsCargo m.cargo
   pub some : 0 < workers
   pub few : workers ≤ 16
   pub nodes : budget ≤ 100000
-  pub low : start ≤ most_rehandles m + 1
+  pub low : start ≤ most_cost m.cargo + 1
 
 abbrev pub first_node : Node
 first_node = record { path = []; trail = [] }
@@ -35,7 +34,7 @@ pub record IsUnused (start : ℕ) (v : View) : Type 0 where
 pub record IsMaker (meets : Node → Type 0) (b : BoardToken) (m : Voyage) (o : SeatToken) : Type 0 where
   pub means : Means meets m
   pub cargo : IsCargo m.cargo
-  pub low : b.start ≤ most_rehandles m + 1
+  pub low : b.start ≤ most_cost m.cargo + 1
   pub top : b.start ≤ none_yet
   pub board : o.board ≡ b.id
   pub unused : IsUnused b.start o.view

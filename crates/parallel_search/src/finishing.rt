@@ -1,7 +1,7 @@
 //! What is done when the threads have ended.
 ghost use Rattle.std.specs.Prelude.{◌≡◌, ◌<◌, ◌≤◌, ◌+◌, true, false, ◌++◌, ◌∷◌, [], List, IfOk, OnOk};
-ghost use Rattle.stow_data.specs.Shipment.{IsCargo};
-ghost use Rattle.node_solver.specs.Work.{IsNode, most_rehandles};
+ghost use Rattle.stow_data.specs.Shipment.{IsCargo, most_cost};
+ghost use Rattle.node_solver.specs.Work.{IsNode};
 ghost use Rattle.certificate.specs.declared.nodes.Node.{Node as Nodes};
 ghost use Rattle.search_core.specs.Bags.{weigh, Every};
 ghost use Rattle.steal_pool.specs.Deeds.{Flow, IsDone, on_nodes};
@@ -46,7 +46,7 @@ impl Rest {
         node: Node,
     ) -> Result<(), NoMemory>
         requires cargo { IsCargo solver.old.cargo }
-        requires start { board.now.start ≤ most_rehandles solver.old + 1 }
+        requires start { board.now.start ≤ most_cost solver.old.cargo + 1 }
         requires seat { seat.old.board ≡ board.now.id }
         requires rest { (all : Flow) × IsRest solver.old board.now.start seat.old.view 1 all (self.old.todo.items ++ node ∷ []) self.old.deeds }
         ensures same { solver.new ≡ solver.old }
@@ -70,7 +70,7 @@ impl Rest {
         live: bool,
     ) -> Result<bool, NoMemory>
         requires cargo { IsCargo solver.old.cargo }
-        requires start { board.now.start ≤ most_rehandles solver.old + 1 }
+        requires start { board.now.start ≤ most_cost solver.old.cargo + 1 }
         requires seat { seat.old.board ≡ board.now.id }
         requires live { IsLive live seat.old.view }
         requires rest { (all : Flow) × IsRest solver.old board.now.start seat.old.view 0 all (self.old.todo.items ++ node ∷ []) self.old.deeds }
@@ -101,7 +101,7 @@ fn finish_rest<S: Solver, R: Wait>(
     rest: &mut Rest,
 ) -> Result<(), NoMemory>
     requires cargo { IsCargo solver.old.cargo }
-    requires start { board.now.start ≤ most_rehandles solver.old + 1 }
+    requires start { board.now.start ≤ most_cost solver.old.cargo + 1 }
     requires seat { seat.old.board ≡ board.now.id }
     requires none_over { seat.old.view.over ≡ 0 }
     requires rest { (all : Flow) × IsRest solver.old board.now.start seat.old.view 0 all rest.old.todo.items rest.old.deeds }
@@ -129,7 +129,7 @@ pub fn finish<S: Solver, R: Wait>(
     todo: Vec<Node>,
 ) -> Result<Deeds, NoMemory>
     requires cargo { IsCargo solver.old.cargo }
-    requires start { board.now.start ≤ most_rehandles solver.old + 1 }
+    requires start { board.now.start ≤ most_cost solver.old.cargo + 1 }
     requires seat { seat.old.board ≡ board.now.id }
     requires view { IsUnused board.now.start seat.old.view }
     requires nodes { Every (IsNode solver.old) todo.items }

@@ -1,12 +1,12 @@
 //! The search with any number of workers.
 ghost use Rattle.std.specs.Prelude.{◌≡◌, ℕ, ◌<◌, ◌≤◌, ◌+◌, ◌++◌, ◌∷◌, [], List, IfOk, OnOk, length, map};
-ghost use Rattle.stow_data.specs.Shipment.{IsCargo};
+ghost use Rattle.stow_data.specs.Shipment.{IsCargo, most_cost};
 ghost use Rattle.shared_search.specs.declared.view.View.{View as Views};
 ghost use Rattle.shared_search.specs.Rule.{fresh, seen_at, after_split, joined};
 ghost use Rattle.certificate.specs.declared.nodes.Node.{Node as Nodes};
 ghost use Rattle.shared_search.specs.Racks.{AreAll, IsFresh, IsPassAt, all_put, all_took, room_at};
 ghost use Rattle.shared_search.specs.Tallies.{did_of, room_of, workers_of};
-ghost use Rattle.node_solver.specs.Work.{IsNode, most_rehandles};
+ghost use Rattle.node_solver.specs.Work.{IsNode};
 ghost use Rattle.search_core.specs.Bags.{weigh, Every};
 ghost use Rattle.search_core.specs.Machine.{root_node};
 ghost use Rattle.steal_pool.specs.Found.{IsFound};
@@ -119,7 +119,7 @@ fn finish_seated<S: Solver, R: Wait>(
     todo: Vec<Node>,
 ) -> Result<Deeds, NoMemory>
     requires cargo { IsCargo solver.old.cargo }
-    requires low { board.now.start ≤ most_rehandles solver.old + 1 }
+    requires low { board.now.start ≤ most_cost solver.old.cargo + 1 }
     requires owner { (owner.old.board ≡ board.now.id) × (owner.old.view.made < 65536) }
     requires begun { owner.old.view.start ≡ board.now.start }
     requires nodes { Every (IsNode solver.old) todo.items }

@@ -1,7 +1,7 @@
 //! The work on one node by the best value that all know.
 ghost use Rattle.std.specs.Prelude.{◌≡◌, ◌≤◌, ◌+◌, ℕ, IfOk};
-ghost use Rattle.stow_data.specs.Shipment.{IsCargo};
-ghost use Rattle.node_solver.specs.Work.{IsNode, most_rehandles, node_of};
+ghost use Rattle.stow_data.specs.Shipment.{IsCargo, most_cost};
+ghost use Rattle.node_solver.specs.Work.{IsNode, node_of};
 ghost use Rattle.steal_pool.specs.Handling.{IsHandled};
 ghost use Rattle.steal_pool.specs.UnderWay.{Tells};
 ghost use Rattle.steal_pool.specs.Deeds.{EachHalf, Flow, IsDone, halves_weight, on_nodes};
@@ -34,7 +34,7 @@ pub fn handle<S: Solver>(
     node: Node,
 ) -> Result<Option<Halves>, NoMemory>
     requires cargo { IsCargo solver.old.cargo }
-    requires start { seat.old.view.start ≤ most_rehandles solver.old + 1 }
+    requires start { seat.old.view.start ≤ most_cost solver.old.cargo + 1 }
     requires seat { seat.old.board ≡ board.now.id }
     requires node { IsNode solver.old node }
     ensures same { solver.new ≡ solver.old }
