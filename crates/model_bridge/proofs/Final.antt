@@ -1,20 +1,21 @@
--- A legal voyage gives an assignment that meets the base rows, whose cost is at most its rehandle count.
+-- A legal voyage gives an assignment that meets the base rows, which costs at most what the voyage costs.
 use Rattle.std.proofs.Common.{◌≡◌, ℕ, zero, suc, ◌<◌, ◌≤◌, ◌+◌, ◌-◌, ◌*◌, Bool, true, false, cond, List, [], ◌∷◌, ℤ, pos, ◌+ℤ◌, ◌-ℤ◌, ◌≤ℤ◌, arith, refl, sym, ◌∙◌, ap, subst, length, Option, Some, None}
 use Rattle.std.specs.Prelude.{◌==◌, ◌&&◌, nat_lt, slice_get, slice_index_or}
 use Rattle.std.proofs.lemmas.Bool.{both_ways, lt-ltb, and_parts, ltb-true}
 use Rattle.std.proofs.lemmas.Option.{slice_get-get_or, get_or_from_slice_get, slice_get_within}
+use Rattle.std.proofs.Math.Nat.{mul-add, suc-mul}
 use borrow.Author.Differences.{ints}
 use Rattle.proof_trees.specs.Program.{sum_to, where_set, cost_of}
 use Rattle.stow_data.specs.Plans.{Plan, no_stack}
-use Rattle.stow_data.specs.Shipment.{IsShipped}
+use Rattle.stow_data.specs.Shipment.{IsShipped, price, most_cost}
 use Rattle.stowage_rules.specs.Plan.{Holds}
 use Rattle.stowage_rules.specs.Departure.{IsStowed}
 use Rattle.voyage_meaning.specs.declared.moves.Move.{Move}
-use Rattle.voyage_meaning.specs.Moves.{leaves as goes_ashore, lift_count, rehandles}
-use Rattle.voyage_meaning.specs.Voyage.{start, LeadsTo, IsVoyage, IsLegalVoyage, count}
+use Rattle.voyage_meaning.specs.Moves.{leaves as goes_ashore, lift_cost, cost_of_moves}
+use Rattle.voyage_meaning.specs.Voyage.{start, LeadsTo, IsVoyage, IsLegalVoyage, cost}
 use Rattle.plan_lifts.specs.Least.{IsClosed, counted}
 use Rattle.plan_lifts.proofs.Lower.{is_lifted}
-use Rattle.plan_lifts.proofs.Count.{lifted_counts}
+use Rattle.plan_lifts.proofs.Count.{lifted_costs}
 use Rattle.std.specs.Prelude.{All}
 use Rattle.std.proofs.lemmas.List.Elements.{All-get_or}
 use Rattle.plan_lifts.proofs.Voyages.{leads_closed}
@@ -33,6 +34,7 @@ use Rattle.model_bridge.proofs.Match.{total}
 use Rattle.model_bridge.proofs.Calls.{Facts, aboard}
 use Rattle.model_bridge.proofs.Departures.{spot}
 use Rattle.model_bridge.proofs.PlanSums.{counted_sum, shown_sum}
+use Rattle.model_bridge.proofs.Prices.{total_same, prices_sum}
 use Rattle.model_bridge.proofs.Limits.{neg_where}
 use Rattle.model_bridge.proofs.Meets.{IsShown, met_cell, met_support, flow_sum}
 use Rattle.model_bridge.proofs.Blocks.{met_block, met_hatch_out, met_hatch_into}
@@ -42,10 +44,6 @@ use Rattle.model_bridge.proofs.Ends.{ended}
 use Rattle.model_bridge.proofs.Known.{facts, each_sails}
 use Rattle.model_bridge.proofs.PlaceRuns.{run_of, at_index, filled_at, aboard_at}
 
-total_same : (n : ℕ) (f g : ℕ → ℕ) → ((v : ℕ) → f v ≡ g v) → total_to n f ≡ total_to n g
-total_same zero f g h = refl
-total_same (suc n) f g h = omega (arith, total_same n f g h, h n)
-
 all_at : {X : Type 0} (P : X → Type 0) (xs : List X) (k : ℕ) (x : X) → All P xs → slice_get xs k ≡ Some x → P x
 all_at P xs k x all h = subst P (get_or_from_slice_get xs k x x h) (All-get_or P xs k x (slice_get_within xs k x h) all)
 
@@ -53,11 +51,11 @@ minus_where : (t : Bool) (z : ℤ) → where_set t (pos 0 -ℤ z) ≡ pos 0 -ℤ
 minus_where true z = refl
 minus_where false z = refl
 
-three_zero : (t u w : Bool) → (t ≡ true → u ≡ true → w ≡ true → ⊥) → where_set t (where_set u (bit w)) ≡ pos 0
-three_zero true true true h = absurd (h refl refl refl)
-three_zero true true false h = refl
-three_zero true false w h = refl
-three_zero false u w h = refl
+three_zero : (t u w : Bool) (k : ℕ) → (t ≡ true → u ≡ true → w ≡ true → ⊥) → where_set t (where_set u (pos (cond w k 0))) ≡ pos 0
+three_zero true true true k h = absurd (h refl refl refl)
+three_zero true true false k h = refl
+three_zero true false w k h = refl
+three_zero false u w k h = refl
 
 counted_same : (w : Option ℕ → ℕ) (f g : ℕ → Bool) (plan : Plan) → w None ≡ 0 → ((p c : ℕ) → Holds plan p c → f p ≡ g p) → counted w f plan ≡ counted w g plan
 counted_same w f g [] z h = refl
@@ -138,7 +136,7 @@ module _ (m : Voyage) (rules : IsProblem m) (plan : ℕ → Plan) (lift : ℕ �
   is_solution = meets
 
   nothing_past : (i : ℕ) → i + 1 ≡ calls m → ends_past m x i ≡ pos 0
-  nothing_past i e = none_sum n _ (λ v l. three_zero (x v) (nat_lt i (var m v).lifted) (nat_lt (var m v).lifted (kind m (var m v).kind).dest) (λ one late early.
+  nothing_past i e = none_sum n _ (λ v l. three_zero (x v) (nat_lt i (var m v).lifted) (nat_lt (var m v).lifted (kind m (var m v).kind).dest) (price m.cargo (var m v).lifted) (λ one late early.
       let r = run_of m rules plan lift sailed (var m v) one in
       let named = (var_listed m v l).1 in
       let a = aboard_at m rules plan lift sailed (var m v).put (var m v).place r.box named.put r.there in
@@ -148,11 +146,11 @@ module _ (m : Voyage) (rules : IsProblem m) (plan : ℕ → Plan) (lift : ℕ �
       let p = ltb-true _ _ late in let q = ltb-true _ _ early in omega arith))
 
   -- what is lifted at a call costs what its set counts
-  pub call_cost : (i : ℕ) → suc i < calls m → ends_at m x (suc i) ≡ pos (counted (lift_count m.cargo (suc i)) (lift (suc i)) (plan i))
+  pub call_cost : (i : ℕ) → suc i < calls m → ends_at m x (suc i) ≡ pos (counted (lift_cost m.cargo (suc i)) (lift (suc i)) (plan i))
   call_cost i l =
       let low : i < calls m = omega arith in
       let c = call_count m x known is_solution i (held m rules plan lift sailed i) (all.holds i low) (plan i) (all.shows i low) in
-      let same = counted_same (lift_count m.cargo (suc i)) (ended m (suc i) (held m rules plan lift sailed i)) (lift (suc i)) (plan i) refl (λ p c h.
+      let same = counted_same (lift_cost m.cargo (suc i)) (ended m (suc i) (held m rules plan lift sailed i)) (lift (suc i)) (plan i) refl (λ p c h.
       let d = (all.shows i low).from_plan p c h in
       subst (λ (z : ℕ). ended m (suc i) (held m rules plan lift sailed i) z ≡ lift (suc i) z) d.2
       (ended_is m x known is_solution i (held m rules plan lift sailed i) (all.holds i low) (plan i) (all.shows i low) d.0 d.1 ∙ all.gone_is i l d.0 d.1)) in
@@ -169,46 +167,53 @@ module _ (m : Voyage) (rules : IsProblem m) (plan : ℕ → Plan) (lift : ℕ �
   pub cost_is : (k : ℕ) → k + 1 ≡ calls m → cost_of (base m) x ≡ sum_to k (λ i. ends_at m x (suc i))
   cost_is k e = omega (arith, ints, past_all, parted k, nothing_past k e)
 
-  -- at a call each container is lifted once at most
+  -- at a call each container is lifted once at most, at its price
   no_lift : (b : Bool) → pos (cond b 0 0) ≡ pos 0
   no_lift true = refl
   no_lift false = refl
 
-  one_lift : (b d : Bool) → pos (cond b (cond d 0 1) 0) ≤ℤ pos 1
-  one_lift true true = omega (arith, ints)
-  one_lift true false = omega (arith, ints)
-  one_lift false d = omega (arith, ints)
+  one_lift : (b d : Bool) (t : ℕ) → pos (cond b (cond d 0 t) 0) ≤ℤ pos t
+  one_lift true true t = omega (arith, ints)
+  one_lift true false t = omega (arith, ints)
+  one_lift false d t = omega (arith, ints)
 
-  total_low : (f : ℕ × ℕ → ℤ) (es : List (ℕ × ℕ)) → ((e : ℕ × ℕ) → f e ≤ℤ pos 1) → total f es ≤ℤ total (λ e. pos 1) es
-  total_low f [] h = omega (arith, ints)
-  total_low f (e ∷ es) h = omega (arith, ints, total_low f es h, h e)
+  total_low : (t : ℕ) (f : ℕ × ℕ → ℤ) (es : List (ℕ × ℕ)) → ((e : ℕ × ℕ) → f e ≤ℤ pos t) → total f es ≤ℤ total (λ e. pos t) es
+  total_low t f [] h = omega (arith, ints)
+  total_low t f (e ∷ es) h = omega (arith, ints, total_low t f es h, h e)
 
-  one_low : (t : Bool) → where_set t (pos 1) ≤ℤ pos 1
-  one_low true = omega (arith, ints)
-  one_low false = omega (arith, ints)
+  one_low : (b : Bool) (t : ℕ) → where_set b (pos t) ≤ℤ pos t
+  one_low true t = omega (arith, ints)
+  one_low false t = omega (arith, ints)
 
-  ones_low : (k : ℕ) (t : ℕ → Bool) → sum_to k (λ c. where_set (t c) (pos 1)) ≤ℤ pos k
-  ones_low zero t = omega (arith, ints)
-  ones_low (suc k) t = omega (arith, ints, ones_low k t, one_low (t k))
+  each_low : (t k : ℕ) (b : ℕ → Bool) → sum_to k (λ c. where_set (b c) (pos t)) ≤ℤ pos (k * t)
+  each_low t zero b = omega (arith, ints)
+  each_low t (suc k) b = omega (arith, ints, each_low t k b, one_low (b k) t, suc-mul k t)
 
-  call_few : (i : ℕ) → suc i < calls m → ends_at m x (suc i) ≤ℤ pos (length m.cargo.containers)
+  call_few : (i : ℕ) → suc i < calls m → ends_at m x (suc i) ≤ℤ pos (length m.cargo.containers * price m.cargo (suc i))
   call_few i l =
+      let t : ℕ = price m.cargo (suc i) in
       let low : i < calls m = omega arith in
       let pairs = held m rules plan lift sailed i in
-      let f : ℕ → Option ℕ → ℤ = λ p o. pos (cond (lift (suc i) p) (lift_count m.cargo (suc i) o) 0) in
-      let a = counted_sum (lift_count m.cargo (suc i)) (lift (suc i)) (plan i) in
+      let f : ℕ → Option ℕ → ℤ = λ p o. pos (cond (lift (suc i) p) (lift_cost m.cargo (suc i) o) 0) in
+      let a = counted_sum (lift_cost m.cargo (suc i)) (lift (suc i)) (plan i) in
       let b = shown_sum m x known i pairs (all.holds i low) (plan i) (all.shows i low) f (λ p. no_lift (lift (suc i) p)) in
-      let c = total_low (λ (e : ℕ × ℕ). f (spot m e) (Some e.1)) pairs (λ e. one_lift (lift (suc i) (spot m e)) (goes_ashore m.cargo (suc i) e.1)) in
-      let d = (all.holds i low).boxes (λ c. pos 1) in
-      omega (arith, ints, call_cost i l, a, b, c, d, ones_low (length m.cargo.containers) (aboard m i))
+      let c = total_low t (λ (e : ℕ × ℕ). f (spot m e) (Some e.1)) pairs (λ e. one_lift (lift (suc i) (spot m e)) (goes_ashore m.cargo (suc i) e.1) t) in
+      let d = (all.holds i low).boxes (λ c. pos t) in
+      omega (arith, ints, call_cost i l, a, b, c, d, each_low t (length m.cargo.containers) (aboard m i))
 
-  calls_few : (k : ℕ) → k + 1 ≤ calls m → sum_to k (λ i. ends_at m x (suc i)) ≤ℤ pos (length m.cargo.containers * k)
+  abbrev prices_to : ℕ → ℕ
+  prices_to k = total_to k (λ i. price m.cargo (suc i))
+
+  calls_few : (k : ℕ) → k + 1 ≤ calls m → sum_to k (λ i. ends_at m x (suc i)) ≤ℤ pos (length m.cargo.containers * prices_to k)
   calls_few zero l = omega (arith, ints)
-  calls_few (suc k) l = omega (arith, ints, calls_few k (omega arith), call_few k (omega arith))
+  calls_few (suc k) l = omega (arith, ints, calls_few k (omega arith), call_few k (omega arith), mul-add (length m.cargo.containers) (prices_to k) (price m.cargo (suc k)))
 
   -- in all at most once at each call but the last
-  pub cost_few : cost_of (base m) x ≤ℤ pos (length m.cargo.containers * (calls m - 1))
-  cost_few = let more = rules.cargo.calls_from in omega (arith, ints, cost_is (calls m - 1) (omega arith), calls_few (calls m - 1) (omega arith))
+  pub cost_few : cost_of (base m) x ≤ℤ pos (most_cost m.cargo)
+  cost_few =
+      let more = rules.cargo.calls_from in
+      let all : length m.cargo.containers * prices_to (calls m - 1) ≡ most_cost m.cargo = ap (λ (n : ℕ). length m.cargo.containers * n) (prices_sum m rules.cargo) in
+      omega (arith, ints, cost_is (calls m - 1) (omega arith), calls_few (calls m - 1) (omega arith), all)
 
 -- ---- a legal voyage, call by call
 
@@ -222,19 +227,19 @@ leads_at m s before (ms ∷ rest) (after ∷ ps) v (suc i) l =
     let e : suc s + i ≡ s + suc i = omega arith in
     subst (λ (z : ℕ). LeadsTo m.ship m.cargo (suc z) (slice_index_or (after ∷ ps) i []) (slice_index_or rest i []) (slice_index_or ps i [])) e (leads_at m (suc s) after rest ps v.1 i (omega arith))
 
-abbrev call_rehandles : Voyage → ℕ → Plan → List Move → ℕ
-call_rehandles m call before moves = rehandles m.cargo call (start m.ship m.cargo call before) moves
+abbrev moves_cost : Voyage → ℕ → Plan → List Move → ℕ
+moves_cost m call before moves = cost_of_moves m.cargo call (start m.ship m.cargo call before) moves
 
 count_total : (m : Voyage) (s : ℕ) (before : Plan) (moves : List (List Move)) (plans : List Plan) → IsVoyage m.ship m.cargo (suc s) before moves plans
-    → count m.ship m.cargo (suc s) before moves plans ≡ total_to (length plans) (λ i. call_rehandles m (suc (s + i)) (slice_index_or (before ∷ plans) i []) (slice_index_or moves i []))
+    → cost m.ship m.cargo (suc s) before moves plans ≡ total_to (length plans) (λ i. moves_cost m (suc (s + i)) (slice_index_or (before ∷ plans) i []) (slice_index_or moves i []))
 count_total m s before [] [] v = refl
 count_total m s before [] (after ∷ ps) v = absurd v
 count_total m s before (ms ∷ rest) [] v = absurd v
 count_total m s before (ms ∷ rest) (after ∷ ps) v =
-    let f : ℕ → ℕ = λ i. call_rehandles m (suc (s + i)) (slice_index_or (before ∷ after ∷ ps) i []) (slice_index_or (ms ∷ rest) i []) in
+    let f : ℕ → ℕ = λ i. moves_cost m (suc (s + i)) (slice_index_or (before ∷ after ∷ ps) i []) (slice_index_or (ms ∷ rest) i []) in
     let e : s + 0 ≡ s = omega arith in
-    let here : f 0 ≡ call_rehandles m (suc s) before ms = ap (λ (z : ℕ). call_rehandles m (suc z) before ms) e in
-    let later : total_to (length ps) (λ i. call_rehandles m (suc (suc s + i)) (slice_index_or (after ∷ ps) i []) (slice_index_or rest i [])) ≡ total_to (length ps) (λ i. f (suc i)) = total_same (length ps) _ _ (λ i. let q : suc s + i ≡ s + suc i = omega arith in ap (λ (z : ℕ). call_rehandles m (suc z) (slice_index_or (after ∷ ps) i []) (slice_index_or rest i [])) q) in
+    let here : f 0 ≡ moves_cost m (suc s) before ms = ap (λ (z : ℕ). moves_cost m (suc z) before ms) e in
+    let later : total_to (length ps) (λ i. moves_cost m (suc (suc s + i)) (slice_index_or (after ∷ ps) i []) (slice_index_or rest i [])) ≡ total_to (length ps) (λ i. f (suc i)) = total_same (length ps) _ _ (λ i. let q : suc s + i ≡ s + suc i = omega arith in ap (λ (z : ℕ). moves_cost m (suc z) (slice_index_or (after ∷ ps) i []) (slice_index_or rest i [])) q) in
     omega (arith, count_total m (suc s) after rest ps v.1, total_front (length ps) f, here, later)
 
 module _ (m : Voyage) (rules : IsProblem m) (moves : List (List Move)) (plans : List Plan) (legal : IsLegalVoyage m.ship m.cargo moves plans) where
@@ -268,18 +273,18 @@ module _ (m : Voyage) (rules : IsProblem m) (moves : List (List Move)) (plans : 
   abbrev stays_of : ℕ → Bool
   stays_of = assignment m plan_at lift_at
 
-  call_cheap : (i : ℕ) → suc i < calls m → ends_at m stays_of (suc i) ≤ℤ pos (call_rehandles m (suc i) (plan_at i) (slice_index_or moves i []))
+  call_cheap : (i : ℕ) → suc i < calls m → ends_at m stays_of (suc i) ≤ℤ pos (moves_cost m (suc i) (plan_at i) (slice_index_or moves i []))
   call_cheap i l =
       let a = call_cost m rules plan_at lift_at sailed i l in
-      let b : counted (lift_count m.cargo (suc i)) (is_lifted (slice_index_or moves i [])) (plan_at i) ≤ call_rehandles m (suc i) (plan_at i) (slice_index_or moves i []) = lifted_counts m.ship m.cargo (suc i) (slice_index_or moves i []) (start m.ship m.cargo (suc i) (plan_at i)) (leads i l).allowed in
-      let c : counted (lift_count m.cargo (suc i)) (lift_at (suc i)) (plan_at i) ≤ call_rehandles m (suc i) (plan_at i) (slice_index_or moves i []) = subst (λ (f : ℕ → Bool). counted (lift_count m.cargo (suc i)) f (plan_at i) ≤ call_rehandles m (suc i) (plan_at i) (slice_index_or moves i [])) (lift_is i) b in
+      let b : counted (lift_cost m.cargo (suc i)) (is_lifted (slice_index_or moves i [])) (plan_at i) ≤ moves_cost m (suc i) (plan_at i) (slice_index_or moves i []) = lifted_costs m.ship m.cargo (suc i) (slice_index_or moves i []) (start m.ship m.cargo (suc i) (plan_at i)) (leads i l).allowed in
+      let c : counted (lift_cost m.cargo (suc i)) (lift_at (suc i)) (plan_at i) ≤ moves_cost m (suc i) (plan_at i) (slice_index_or moves i []) = subst (λ (f : ℕ → Bool). counted (lift_cost m.cargo (suc i)) f (plan_at i) ≤ moves_cost m (suc i) (plan_at i) (slice_index_or moves i [])) (lift_is i) b in
       omega (arith, ints, a, c)
 
-  calls_cheap : (k : ℕ) → k + 1 ≤ calls m → sum_to k (λ i. ends_at m stays_of (suc i)) ≤ℤ pos (total_to k (λ i. call_rehandles m (suc (0 + i)) (plan_at i) (slice_index_or moves i [])))
+  calls_cheap : (k : ℕ) → k + 1 ≤ calls m → sum_to k (λ i. ends_at m stays_of (suc i)) ≤ℤ pos (total_to k (λ i. moves_cost m (suc (0 + i)) (plan_at i) (slice_index_or moves i [])))
   calls_cheap zero l = omega (arith, ints)
   calls_cheap (suc k) l =
       let e : k ≡ 0 + k = omega arith in
-      let here : ends_at m stays_of (suc k) ≤ℤ pos (call_rehandles m (suc (0 + k)) (plan_at k) (slice_index_or moves k [])) = subst (λ (z : ℕ). ends_at m stays_of (suc k) ≤ℤ pos (call_rehandles m (suc z) (plan_at k) (slice_index_or moves k []))) e (call_cheap k (omega arith)) in
+      let here : ends_at m stays_of (suc k) ≤ℤ pos (moves_cost m (suc (0 + k)) (plan_at k) (slice_index_or moves k [])) = subst (λ (z : ℕ). ends_at m stays_of (suc k) ≤ℤ pos (moves_cost m (suc z) (plan_at k) (slice_index_or moves k []))) e (call_cheap k (omega arith)) in
       omega (arith, ints, calls_cheap k (omega arith), here)
 
   pub solves : Solves m moves plans
@@ -295,13 +300,13 @@ module _ (m : Voyage) (rules : IsProblem m) (moves : List (List Move)) (plans : 
 pub each_solves : EachVoyageSolves
 each_solves m rules moves plans legal = solves m rules moves plans legal
 
--- what bounds the costs bounds the counts, and the other way
+-- what bounds the costs of assignments bounds those of voyages, and the other way
 pub voyage_bound : (m : Voyage) (bound : ℕ) → IsProblem m → IsCostBound m bound → IsVoyageBound m bound
 voyage_bound m bound rules costs moves plans legal = let s = each_solves m rules moves plans legal in omega (arith, ints, costs s.x s.solution, s.cheap)
 
 pub cost_bound : (m : Voyage) (bound : ℕ) → IsProblem m → IsVoyageBound m bound → IsCostBound m bound
-cost_bound m bound rules counts x solution = let s = each_sails m rules x solution in omega (arith, ints, counts s.moves s.plans s.legal, s.cheap)
+cost_bound m bound rules costs x solution = let s = each_sails m rules x solution in omega (arith, ints, costs s.moves s.plans s.legal, s.cheap)
 
--- a bound above all rehandles that there can be
-pub none_sails : (m : Voyage) → IsProblem m → IsCostBound m (length m.cargo.containers * (calls m - 1) + 1) → (moves : List (List Move)) (plans : List Plan) → IsLegalVoyage m.ship m.cargo moves plans → ⊥
+-- a bound above the most that a voyage needs to cost
+pub none_sails : (m : Voyage) → IsProblem m → IsCostBound m (most_cost m.cargo + 1) → (moves : List (List Move)) (plans : List Plan) → IsLegalVoyage m.ship m.cargo moves plans → ⊥
 none_sails m rules costs moves plans legal = let s = each_solves m rules moves plans legal in omega (arith, ints, costs s.x s.solution, s.few)

@@ -150,7 +150,7 @@ module _ (m : Voyage) (rules : IsProblem m) (x : ℕ → Bool) (solution : IsSol
     to_plan = λ e h. (begun e h).2;
   }
 
--- plans that are made so, from the variables that are 1, are those of a legal voyage that counts at most the cost
+-- plans that are made so, from the variables that are 1, are those of a legal voyage that costs at most what these do
 pub made_plans_sail : (m : Voyage) → IsProblem m → (x : ℕ → Bool) → IsSolution m x → (vs : List ℕ) → AreOnes m x vs → (plans : List Plan) → length plans + 1 ≡ calls m → ArePlansOf m x 0 (arrival_pairs m vs) plans → (s : Sails m x) × (s.plans ≡ plans)
 made_plans_sail m rules x solution vs ones plans e are =
     let f = facts m rules in

@@ -158,7 +158,7 @@ module _ (m : Voyage) (rules : IsProblem m) where
           (r.0, r.1, one_start (var m v).place r.0 (starter (var m v).place) v r.1 (starts (var m v).place r.0 r.1).0 l (starts (var m v).place r.0 r.1).1 mine);
     }
 
-    -- plans of a legal voyage that counts at most its cost
+    -- plans of a legal voyage that costs at most what it costs
     pub voyage_of : Sails m x
     voyage_of =
         let left : ℕ = calls m - 1 in

@@ -9,6 +9,7 @@ pub mod Halves
 pub mod Departures
 pub mod Ends
 pub mod PlanSums
+pub mod Prices
 pub mod Limits
 pub mod Voyage
 pub mod Carry

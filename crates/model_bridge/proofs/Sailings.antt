@@ -15,12 +15,12 @@ use Rattle.stow_data.specs.Plans.{Plan, held, no_container}
 use Rattle.stow_data.specs.Kinds.{kind_number}
 use Rattle.stowage_rules.specs.Plan.{Holds, IsWellFormed}
 use Rattle.stowage_rules.specs.Departure.{IsStowed, IsDeparture, AreDepartures, HasArrival}
-use Rattle.voyage_meaning.specs.Moves.{lift_count}
-use Rattle.voyage_meaning.specs.Voyage.{HasCount}
-use Rattle.plan_lifts.specs.Least.{IsLeastClosed, AreClosed, AreLeast, counted, counted_all}
+use Rattle.voyage_meaning.specs.Moves.{lift_cost}
+use Rattle.voyage_meaning.specs.Voyage.{HasCost}
+use Rattle.plan_lifts.specs.Least.{IsLeastClosed, AreClosed, AreLeast, counted, cost_of_lifts}
 use Rattle.plan_lifts.specs.Lifted.{IsListed, AreListed, IsLifted}
 use Rattle.plan_lifts.proofs.Sailing.{least_filled}
-use Rattle.plan_lifts.proofs.Whole.{least_count}
+use Rattle.plan_lifts.proofs.Whole.{least_cost}
 use Rattle.zero_one_rows.specs.declared.program.Var.{Var}
 use Rattle.zero_one_rows.specs.Variables.{Voyage, variables, var, calls}
 use Rattle.zero_one_rows.specs.Rows.{base, IsSolution, is_filled}
@@ -90,25 +90,25 @@ module _ (ship : Ship) where
     departs_at s (plan ∷ plans) h (suc i) l = let e : suc s + i ≡ s + suc i = omega arith in subst (λ (z : ℕ). IsDeparture ship cargo (suc z) (slice_index_or plans i [])) e (departs_at (suc s) plans h.1 i (omega arith))
 
     abbrev counts_at : ℕ → Plan → List Plan → List (ℕ → Bool) → ℕ → ℕ
-    counts_at s before plans sets i = counted (lift_count cargo (suc (s + i))) (slice_index_or sets i no_set) (slice_index_or (before ∷ plans) i [])
+    counts_at s before plans sets i = counted (lift_cost cargo (suc (s + i))) (slice_index_or sets i no_set) (slice_index_or (before ∷ plans) i [])
 
     same_total : (n : ℕ) (f g : ℕ → ℕ) → ((v : ℕ) → f v ≡ g v) → total_to n f ≡ total_to n g
     same_total zero f g h = refl
     same_total (suc n) f g h = omega (arith, same_total n f g h, h n)
 
-    counted_total : (s : ℕ) (before : Plan) (plans : List Plan) (sets : List (ℕ → Bool)) → AreLeast ship before plans sets → counted_all cargo (suc s) before plans sets ≡ total_to (length plans) (counts_at s before plans sets)
+    counted_total : (s : ℕ) (before : Plan) (plans : List Plan) (sets : List (ℕ → Bool)) → AreLeast ship before plans sets → cost_of_lifts cargo (suc s) before plans sets ≡ total_to (length plans) (counts_at s before plans sets)
     counted_total s before [] sets h = refl
     counted_total s before (after ∷ plans) [] h = absurd h
     counted_total s before (after ∷ plans) (f ∷ fs) h =
         let whole : ℕ → ℕ = counts_at s before (after ∷ plans) (f ∷ fs) in
         let e : s + 0 ≡ s = omega arith in
-        let here : whole 0 ≡ counted (lift_count cargo (suc s)) f before = ap (λ (z : ℕ). counted (lift_count cargo (suc z)) f before) e in
-        let later : total_to (length plans) (counts_at (suc s) after plans fs) ≡ total_to (length plans) (λ i. whole (suc i)) = same_total (length plans) _ _ (λ i. let q : suc s + i ≡ s + suc i = omega arith in ap (λ (z : ℕ). counted (lift_count cargo (suc z)) (slice_index_or fs i no_set) (slice_index_or (after ∷ plans) i [])) q) in
+        let here : whole 0 ≡ counted (lift_cost cargo (suc s)) f before = ap (λ (z : ℕ). counted (lift_cost cargo (suc z)) f before) e in
+        let later : total_to (length plans) (counts_at (suc s) after plans fs) ≡ total_to (length plans) (λ i. whole (suc i)) = same_total (length plans) _ _ (λ i. let q : suc s + i ≡ s + suc i = omega arith in ap (λ (z : ℕ). counted (lift_cost cargo (suc z)) (slice_index_or fs i no_set) (slice_index_or (after ∷ plans) i [])) q) in
         omega (arith, counted_total (suc s) after plans fs h.1, total_front (length plans) whole, here, later)
 
 -- there is one count of departures
-count_once : (ship : Ship) (cargo : Cargo) (plans : List Plan) (n k : ℕ) → HasCount ship cargo plans n → HasCount ship cargo plans k → n ≡ k
-count_once ship cargo plans n k a b =
+cost_once : (ship : Ship) (cargo : Cargo) (plans : List Plan) (n k : ℕ) → HasCost ship cargo plans n → HasCost ship cargo plans k → n ≡ k
+cost_once ship cargo plans n k a b =
     let low = a.least b.moves b.is_legal in
     let high = b.least a.moves a.is_legal in
     omega (arith, low, high, a.is_number, b.is_number)
@@ -186,15 +186,15 @@ module _ (m : Voyage) (arrives : HasArrival m.ship m.cargo) (plans : List Plan) 
     pub solution : IsSolution m is_set
     solution = is_solution m rules plan_at lift_at sailed
 
-    pub costs : (n : ℕ) → HasCount m.ship m.cargo plans n → cost_of (base m) is_set ≡ pos n
+    pub costs : (n : ℕ) → HasCost m.ship m.cargo plans n → cost_of (base m) is_set ≡ pos n
     costs n has =
         let k : ℕ = length plans in
-        let least = least_count m.ship m.cargo plans is.lifted.sets rules.ship rules.cargo each rules.arrives is.legal (closed_all m.ship m.cargo.arrival plans is.lifted.sets is.lifted.least) is.lifted.least in
-        let same : n ≡ counted_all m.cargo 1 m.cargo.arrival plans is.lifted.sets = count_once m.ship m.cargo plans n _ has least in
+        let least = least_cost m.ship m.cargo plans is.lifted.sets rules.ship rules.cargo each rules.arrives is.legal (closed_all m.ship m.cargo.arrival plans is.lifted.sets is.lifted.least) is.lifted.least in
+        let same : n ≡ cost_of_lifts m.cargo 1 m.cargo.arrival plans is.lifted.sets = cost_once m.ship m.cargo plans n _ has least in
         let total = counted_total m.ship m.cargo 0 m.cargo.arrival plans is.lifted.sets is.lifted.least in
         let calls_are : sum_to k (λ i. ends_at m is_set (suc i)) ≡ sum_to k (λ i. pos (counts_at m.ship m.cargo 0 m.cargo.arrival plans is.lifted.sets i)) =
         same_sum k _ _ (λ i l. let e : i ≡ 0 + i = omega arith in
-        call_cost m rules plan_at lift_at sailed i (omega arith) ∙ ap (λ (z : ℕ). pos (counted (lift_count m.cargo (suc z)) (slice_index_or is.lifted.sets i no_set) (plan_at i))) e) in
+        call_cost m rules plan_at lift_at sailed i (omega arith) ∙ ap (λ (z : ℕ). pos (counted (lift_cost m.cargo (suc z)) (slice_index_or is.lifted.sets i no_set) (plan_at i))) e) in
         omega (arith, ints, cost_is m rules plan_at lift_at sailed k each, calls_are, total_sum k (counts_at m.ship m.cargo 0 m.cargo.arrival plans is.lifted.sets), total, same)
 
     kind_same : (kinds : List ℕ) (g : ℕ) (o : Option ℕ) → ((c : ℕ) → o ≡ Some c → slice_index_or kinds c 0 ≡ kind_at m c) → is_kind m plan_at lift_at g o ≡ is_of (λ c. slice_index_or kinds c 0) g o

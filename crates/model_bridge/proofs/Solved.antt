@@ -4,7 +4,7 @@ use Rattle.proof_trees.specs.Boxes.{Box}
 use Rattle.stow_data.specs.Ship.{Ship}
 use Rattle.stow_data.specs.Shipment.{Cargo}
 use Rattle.stow_data.specs.Plans.{Plan}
-use Rattle.voyage_meaning.specs.Voyage.{HasCount}
+use Rattle.voyage_meaning.specs.Voyage.{HasCost}
 use Rattle.plan_lifts.specs.Lifted.{IsLifted}
 use Rattle.zero_one_rows.specs.Variables.{Voyage, variables, var, calls}
 use Rattle.zero_one_rows.specs.Rows.{CrossingRowsHold}
@@ -24,12 +24,12 @@ pub record IsSolved (m : Voyage) (plans : List Plan) (lists : List (List ℕ)) (
   pub rows : CrossingRowsHold m → BreaksNoRow m b
   pub cost : Costs m b n
 
-module _ (m : Voyage) (rules : IsProblem m) (ship : Ship) (cargo : Cargo) (plans : List Plan) (lists : List (List ℕ)) (n : ℕ) (same_ship : m.ship ≡ ship) (same_cargo : m.cargo ≡ cargo) (lifted : IsLifted ship cargo plans lists) (has : HasCount ship cargo plans n) where
+module _ (m : Voyage) (rules : IsProblem m) (ship : Ship) (cargo : Cargo) (plans : List Plan) (lists : List (List ℕ)) (n : ℕ) (same_ship : m.ship ≡ ship) (same_cargo : m.cargo ≡ cargo) (lifted : IsLifted ship cargo plans lists) (has : HasCost ship cargo plans n) where
   is : IsLifted m.ship m.cargo plans lists
   is = subst (λ (s : Ship). IsLifted s m.cargo plans lists) (sym same_ship) (subst (λ (g : Cargo). IsLifted ship g plans lists) (sym same_cargo) lifted)
 
-  counts : HasCount m.ship m.cargo plans n
-  counts = subst (λ (s : Ship). HasCount s m.cargo plans n) (sym same_ship) (subst (λ (g : Cargo). HasCount ship g plans n) (sym same_cargo) has)
+  counts : HasCost m.ship m.cargo plans n
+  counts = subst (λ (s : Ship). HasCost s m.cargo plans n) (sym same_ship) (subst (λ (g : Cargo). HasCost ship g plans n) (sym same_cargo) has)
 
   each : length plans + 1 ≡ calls m
   each = let l = counts.is_legal in l.each_call

@@ -1,25 +1,26 @@
--- The whole voyage of a solution, and its count.
+-- The whole voyage of a solution, and its cost.
 use Rattle.std.proofs.Common.{◌≡◌, ℕ, zero, suc, ◌<◌, ◌≤◌, ◌+◌, Bool, true, false, cond, List, [], ◌∷◌, ◌++◌, ℤ, pos, ◌+ℤ◌, ◌≤ℤ◌, arith, refl, sym, ◌∙◌, ap, ⊎_elim, subst, length, Some}
 use Rattle.std.specs.Prelude.{◌==◌, ◌&&◌, nat_le, nat_lt, slice_get}
-use Rattle.std.proofs.lemmas.Bool.{cases_Bool, both_ways, lt-ltb, and_from, false_from_ne_true}
+use Rattle.std.proofs.lemmas.Bool.{cases_Bool, both_ways, lt-ltb, and_from, false_from_ne_true, eqb-true}
 use Rattle.std.proofs.lemmas.Bool.Decides.{nat_tests}
 use Rattle.std.proofs.lemmas.Option.{slice_get_within, slice_get-get_or, get_or_from_slice_get}
 use borrow.Author.Differences.{ints}
 use Rattle.proof_trees.specs.Program.{sum_to, where_set}
 use Rattle.stow_data.specs.declared.cargoes.Container.{Container}
+use Rattle.stow_data.specs.Shipment.{price}
 use Rattle.voyage_meaning.specs.declared.moves.Move.{Move}
 use Rattle.stow_data.specs.Plans.{Plan}
-use Rattle.voyage_meaning.specs.Moves.{lift_count, rehandles}
+use Rattle.voyage_meaning.specs.Moves.{lift_cost, cost_of_moves}
 use Rattle.plan_lifts.specs.Least.{counted}
 use Rattle.stowage_rules.specs.Departure.{IsStowed}
 use Rattle.stowage_rules.specs.Departure.{IsDeparture}
 use Rattle.voyage_meaning.specs.Voyage.{start, LeadsTo, IsVoyage}
-use Rattle.voyage_meaning.specs.Voyage.{count}
+use Rattle.voyage_meaning.specs.Voyage.{cost}
 use Rattle.plan_lifts.specs.Least.{IsDivided}
 use Rattle.plan_lifts.proofs.Closed.{closed_leads}
-use Rattle.zero_one_rows.specs.Variables.{Voyage, variables, var, kind, calls}
+use Rattle.zero_one_rows.specs.Variables.{Voyage, variables, var, kind, calls, var_cost}
 use Rattle.model_bridge.proofs.Words.{container}
-use Rattle.zero_one_rows.specs.Rows.{is_call, IsSolution, bit}
+use Rattle.zero_one_rows.specs.Rows.{is_call, IsSolution}
 use Rattle.stow_data.specs.Plans.{no_container}
 use Rattle.model_bridge.proofs.Sums.{same_sum, plus_sum}
 use Rattle.model_bridge.proofs.Match.{same_total}
@@ -35,7 +36,7 @@ use Rattle.model_bridge.proofs.Limits.{within, separated}
 
 -- the cost of a variable
 abbrev pub costs : Voyage → ℕ → ℤ
-costs m v = bit (nat_lt (var m v).lifted (kind m (var m v).kind).dest)
+costs m v = pos (var_cost m (var m v))
 
 ends_term : (put lifted i : ℕ) (t : Bool) (z : ℤ) → put < lifted → where_set (t && (nat_le put i && nat_lt i lifted)) (where_set (lifted == suc i) z) ≡ where_set t (where_set (lifted == suc i) z)
 ends_term put lifted i true z l = grind (arith, nat_tests, ints)
@@ -45,14 +46,23 @@ past_term : (lifted i : ℕ) (t : Bool) (z : ℤ) → where_set t (where_set (li
 past_term lifted i true z = grind (arith, nat_tests, ints)
 past_term lifted i false z = refl
 
-cost_term : (lifted dest j : ℕ) → lifted ≤ dest → pos (cond (lifted == j) (cond (dest == j) 0 1) 0) ≡ where_set (lifted == j) (bit (nat_lt lifted dest))
-cost_term lifted dest j l = grind (arith, nat_tests, ints)
+term_at : (lifted j : ℕ) (g : ℕ → ℤ) → where_set (lifted == j) (g j) ≡ where_set (lifted == j) (g lifted)
+term_at lifted j g = go (lifted == j) refl
+  where
+    go : (b : Bool) → (lifted == j) ≡ b → where_set b (g j) ≡ where_set b (g lifted)
+    go true e = ap g (sym (eqb-true lifted j e))
+    go false e = refl
 
-low_term : (t u c : Bool) → pos 0 ≤ℤ where_set t (where_set u (bit c))
-low_term true true true = omega (arith, ints)
-low_term true true false = omega (arith, ints)
-low_term true false c = omega (arith, ints)
-low_term false u c = omega (arith, ints)
+lift_term : (lifted dest j t : ℕ) → lifted ≤ dest → pos (cond (lifted == j) (cond (dest == j) 0 t) 0) ≡ where_set (lifted == j) (pos (cond (nat_lt lifted dest) t 0))
+lift_term lifted dest j t l = grind (arith, nat_tests, ints)
+
+cost_term : (f : ℕ → ℕ) (lifted dest j : ℕ) → lifted ≤ dest → pos (cond (lifted == j) (cond (dest == j) 0 (f j)) 0) ≡ where_set (lifted == j) (pos (cond (nat_lt lifted dest) (f lifted) 0))
+cost_term f lifted dest j l = lift_term lifted dest j (f j) l ∙ term_at lifted j (λ k. pos (cond (nat_lt lifted dest) (f k) 0))
+
+low_term : (t u : Bool) (k : ℕ) → pos 0 ≤ℤ where_set t (where_set u (pos k))
+low_term true true k = omega (arith, ints)
+low_term true false k = omega (arith, ints)
+low_term false u k = omega (arith, ints)
 
 low_sum : (n : ℕ) (f : ℕ → ℤ) → ((k : ℕ) → pos 0 ≤ℤ f k) → pos 0 ≤ℤ sum_to n f
 low_sum zero f h = omega (arith, ints)
@@ -77,18 +87,18 @@ module _ (m : Voyage) (x : ℕ → Bool) where
     no_weight true = refl
     no_weight false = refl
 
-    pair_cost : (e : ℕ × ℕ) → Member e held → pos (cond (ended m (suc i) held (spot m e)) (lift_count m.cargo (suc i) (Some e.1)) 0) ≡ where_set (gone m (suc i) e.0) (costs m e.0)
+    pair_cost : (e : ℕ × ℕ) → Member e held → pos (cond (ended m (suc i) held (spot m e)) (lift_cost m.cargo (suc i) (Some e.1)) 0) ≡ where_set (gone m (suc i) e.0) (costs m e.0)
     pair_cost e h =
         let p = pair m x facts i held is e h in
         let box : slice_get m.cargo.containers e.1 ≡ Some (container m e.1) = slice_get-get_or m.cargo.containers e.1 no_container p.box_known in
         let d : (container m e.1).dest ≡ (kind m (var m e.0).kind).dest = sym (ap (λ (g : ℕ). (kind m g).dest) p.alike ∙ facts.dest_of e.1 p.box_known) in
         let t = ended_is e h in
-        rw (t, box, d) (cost_term (var m e.0).lifted (kind m (var m e.0).kind).dest (suc i) (facts.var_dest e.0 p.var_known))
+        rw (t, box, d) (cost_term (price m.cargo) (var m e.0).lifted (kind m (var m e.0).kind).dest (suc i) (facts.var_dest e.0 p.var_known))
 
-    pub call_count : pos (counted (lift_count m.cargo (suc i)) (ended m (suc i) held) old) ≡ ends_at (suc i)
+    pub call_count : pos (counted (lift_cost m.cargo (suc i)) (ended m (suc i) held) old) ≡ ends_at (suc i)
     call_count =
-        counted_sum (lift_count m.cargo (suc i)) (ended m (suc i) held) old
-        ∙ (shown_sum m x facts i held is old shows (λ p o. pos (cond (ended m (suc i) held p) (lift_count m.cargo (suc i) o) 0)) (λ p. no_weight (ended m (suc i) held p))
+        counted_sum (lift_cost m.cargo (suc i)) (ended m (suc i) held) old
+        ∙ (shown_sum m x facts i held is old shows (λ p o. pos (cond (ended m (suc i) held p) (lift_cost m.cargo (suc i) o) 0)) (λ p. no_weight (ended m (suc i) held p))
         ∙ (same_total (λ (e : ℕ × ℕ). Member e held) _ _ held (each_from _ held (λ e h. h)) pair_cost
         ∙ (is.vars (λ v. where_set (gone m (suc i) v) (costs m v))
         ∙ same_sum (length (variables m)) _ _ (λ v l. ends_term (var m v).put (var m v).lifted i (x v) (costs m v) (facts.var_order v l)))))
@@ -99,11 +109,11 @@ module _ (m : Voyage) (x : ℕ → Bool) where
   pub past_low : (i : ℕ) → pos 0 ≤ℤ ends_past i
   past_low i = low_sum (length (variables m)) _ (λ v. low_term (x v) _ _)
 
-  -- the moves of a call lead from one plan to the next, and count what ends there
+  -- the moves of a call lead from one plan to the next, and cost what ends there
   pub record HasCall (i : ℕ) (old new : Plan) : Type 0 where
     pub moves : List Move
     pub leads : LeadsTo m.ship m.cargo (suc i) old moves new
-    pub counts : pos (rehandles m.cargo (suc i) (start m.ship m.cargo (suc i) old) moves) ≡ ends_at (suc i)
+    pub counts : pos (cost_of_moves m.cargo (suc i) (start m.ship m.cargo (suc i) old) moves) ≡ ends_at (suc i)
 
   -- by any pairs after the call, and the plan that shows them
   pub call_from : (facts : Facts m) (solution : IsSolution m x) → IsDivided m.ship → (i : ℕ) → is_call m (suc i) ≡ true → (held : List (ℕ × ℕ)) → IsHeld m x i held → (old : Plan) → Shows m held old → IsStowed m.ship m.cargo i old → (n : IsNext m x i held) (plan : Plan) → Shows m (kept m (suc i) held ++ n.pairs) plan → HasCall i old plan
@@ -120,13 +130,13 @@ module _ (m : Voyage) (x : ℕ → Bool) where
       (only m x facts solution i call held is old shows before.supported n.pairs n.is n.put_now plan shown) in
       record { moves = leads.0; leads = leads.1; counts = ap pos leads.2 ∙ call_count facts solution i held is old shows }
 
-  -- a legal voyage over the calls that are left, which counts at most what ends in them
+  -- a legal voyage over the calls that are left, which costs at most what ends in them
   pub record HasVoyage (i left : ℕ) (old : Plan) : Type 0 where
     pub plans : List Plan
     pub moves : List (List Move)
     pub as_many : length plans ≡ left
     pub legal : IsVoyage m.ship m.cargo (suc i) old moves plans
-    pub counts : pos (count m.ship m.cargo (suc i) old moves plans) ≤ℤ ends_past i
+    pub counts : pos (cost m.ship m.cargo (suc i) old moves plans) ≤ℤ ends_past i
 
   pub voyage_from : (facts : Facts m) → IsSolution m x → IsDivided m.ship → (left i : ℕ) → i + left + 1 ≡ (calls m) → (held : List (ℕ × ℕ)) → IsHeld m x i held → (old : Plan) → Shows m held old → IsStowed m.ship m.cargo i old → HasVoyage i left old
   voyage_from facts solution divided zero i e held is old shows before = record { plans = []; moves = []; as_many = refl; legal = tt; counts = past_low i }

@@ -2,7 +2,7 @@
 use Rattle.std.specs.Prelude.{◌≡◌, true, false, List, length, All, IsSome, pos, ◌≤ℤ◌}
 use Rattle.stow_data.specs.Plans.{Plan}
 use Rattle.voyage_meaning.specs.declared.moves.Move.{Move}
-use Rattle.voyage_meaning.specs.Voyage.{IsLegalVoyage, voyage_count}
+use Rattle.voyage_meaning.specs.Voyage.{IsLegalVoyage, voyage_cost}
 use Rattle.proof_trees.specs.Program.{cost_of}
 use Rattle.proof_trees.specs.Boxes.{Box, violated}
 use Rattle.zero_one_rows.specs.declared.program.Row.{Row}
@@ -19,8 +19,8 @@ pub record IsFull (m : Voyage) (b : Box) : Type 0 where
 abbrev pub BreaksNone : Voyage → Box → Type 0
 BreaksNone m b = (r : Row) → (base m).has r ≡ true → violated (base m) b r ≡ false
 
--- plans of a legal voyage whose rehandle count is at most the cost of the box's ones
+-- plans of a legal voyage that costs at most what the box's ones cost
 pub record AreSailed (m : Voyage) (b : Box) (plans : List Plan) : Type 0 where
   pub moves : List (List Move)
   pub legal : IsLegalVoyage m.ship m.cargo moves plans
-  pub cheap : pos (voyage_count m.ship m.cargo moves plans) ≤ℤ cost_of (base m) (ones b)
+  pub cheap : pos (voyage_cost m.ship m.cargo moves plans) ≤ℤ cost_of (base m) (ones b)

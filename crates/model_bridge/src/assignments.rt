@@ -2,7 +2,7 @@
 ghost use Rattle.std.specs.Prelude.{◌≡◌, ◌<◌, ◌≤◌, [], ℕ, IfOk, length, slice_index_or};
 ghost use Rattle.stow_data.specs.Plans.{held};
 ghost use Rattle.stowage_rules.specs.Plan.{Holds};
-ghost use Rattle.voyage_meaning.specs.Voyage.{HasCount};
+ghost use Rattle.voyage_meaning.specs.Voyage.{HasCost};
 ghost use Rattle.plan_lifts.specs.Lifted.{IsLifted};
 ghost use Rattle.zero_one_rows.specs.Variables.{variables, var};
 ghost use Rattle.model_bridge.specs.Laws.{IsProblem};
@@ -100,12 +100,12 @@ fn assigned(
     requires cargo { model.now.cargo ≡ cargo.now }
     requires problem { IsProblem model.now }
     requires lists { IsLifted ship.now cargo.now plans.now lifted.now.lists }
-    requires count { HasCount ship.now cargo.now plans.now lifted.now.count }
+    requires costs { HasCost ship.now cargo.now plans.now lifted.now.cost }
     ensures stays { IfOk result (AreStays model.now plans.now lifted.now.lists) }
     ensures full { IfOk result (IsFull model.now) }
     ensures base_rows { IfOk result (BreaksNone model.now) }
     ensures rows { IfOk result (BreaksNoRow model.now) }
-    ensures cost { IfOk result (λ full. Costs model.now full lifted.now.count) }
+    ensures cost { IfOk result (λ full. Costs model.now full lifted.now.cost) }
 {
     let table = begin_table(alloc, ship, cargo, plans, &lifted.lists)?;
     crossing_rows_hold();
@@ -114,7 +114,7 @@ fn assigned(
     full
 }
 
-/// The solution of a voyage's departures: a full box that breaks no row and costs their rehandle count.
+/// The solution of a voyage's departures: a full box that breaks no row and costs what they cost.
 ///
 /// A variable is 1 where a container of its kind stands at its place from the departure of the call at which it is put
 /// to the call at which it is lifted, and isn't lifted between. It takes time linear in places times calls, and
@@ -131,12 +131,12 @@ pub fn assignment_of(
     requires cargo { model.now.cargo ≡ cargo.now }
     requires problem { IsProblem model.now }
     requires lists { IsLifted ship.now cargo.now plans.now lifted.now.lists }
-    requires count { HasCount ship.now cargo.now plans.now lifted.now.count }
+    requires costs { HasCost ship.now cargo.now plans.now lifted.now.cost }
     ensures stays { IfOk result (AreStays model.now plans.now lifted.now.lists) }
     ensures full { IfOk result (IsFull model.now) }
     ensures base_rows { IfOk result (BreaksNone model.now) }
     ensures rows { IfOk result (BreaksNoRow model.now) }
-    ensures cost { IfOk result (λ full. Costs model.now full lifted.now.count) }
+    ensures cost { IfOk result (λ full. Costs model.now full lifted.now.cost) }
 {
     let kinds = box_kinds(alloc, ship, cargo, model)?;
     let full = assigned(alloc, ship, cargo, model, &kinds, plans, lifted);

@@ -68,7 +68,7 @@ fn push_plans(
     Ok(())
 }
 
-/// Plans of a legal voyage whose rehandle count is at most the cost of a full box that breaks no base row.
+/// Plans of a legal voyage that costs at most what a full box that breaks no base row costs.
 ///
 /// At each call the variables that are put there are matched with the containers that load, or are lifted to be put
 /// again, kind by kind.
