@@ -2,6 +2,7 @@
 ghost use Rattle.std.specs.Prelude.{ℕ, ◌≡◌, ◌<◌, All, IfSome, IsTrue};
 
 use crate::bonds::Bonds;
+use crate::prices::Prices;
 use crate::sizes::Sizes;
 use std::marker::Model;
 use stow_data::{Length, Lengths, Place, Span};
@@ -165,6 +166,7 @@ pub struct Facts {
     pub(crate) levels: Vec<u32>,
     /// The number of classes that the cargo has.
     pub(crate) classes: u32,
+    pub(crate) prices: Prices,
 }
 
 impl Model for Facts {
@@ -198,6 +200,11 @@ impl Facts {
         ensures { result ≡ self.now }
     {
         self.sizes
+    }
+
+    /// The prices of rehandles.
+    pub fn prices(&self) -> &Prices {
+        &self.prices
     }
 
     /// Whether containers stand aboard as the ship comes in.

@@ -7,6 +7,7 @@ use crate::facts::{
     Arrived, Facts, KindFacts, Lot, Mark, NO_LOT, Spot, StackFacts, TIERS, bit_of, count_of,
     index_of,
 };
+use crate::prices::Prices;
 use crate::sizes::Sizes;
 use std::alloc::Global;
 use stow_data::{
@@ -393,6 +394,7 @@ fn no_facts(alloc: Global) -> Facts {
         arrived: Vec::new(alloc),
         levels: Vec::new(alloc),
         classes: 0,
+        prices: Prices::none(),
     }
 }
 
@@ -463,5 +465,6 @@ pub fn gather_facts(alloc: Global, model: &Model) -> Result<Facts, NoMemory> {
         arrived: lots.arrived,
         levels,
         classes: count_of(names.as_slice()),
+        prices: Prices::of(cargo),
     })
 }

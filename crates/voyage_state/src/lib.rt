@@ -6,10 +6,12 @@
 mod bonds;
 mod facts;
 mod gathering;
+mod prices;
 mod ship_state;
 mod sizes;
 
 pub use facts::{Arrived, Facts, KindFacts, Lot, Mark, Spot, StackFacts, TIERS, bit_of};
 pub use gathering::gather_facts;
+pub use prices::Prices;
 pub use ship_state::{Classed, Column, Hatch, Pile, Planned, ShipState, Stay};
 pub use sizes::Sizes;

@@ -20,8 +20,10 @@ pub struct Stay {
     pub due: u32,
     /// The least due from the bottom of its columns up to it.
     pub least: u32,
-    /// Whether it is sure to be lifted before its destination.
-    pub doomed: bool,
+    /// What its lifts before the destination cost at the least.
+    pub sure: u32,
+    /// What the next of them costs that must be.
+    pub next: u32,
 }
 
 const NO_STAY: Stay = Stay {
@@ -31,7 +33,8 @@ const NO_STAY: Stay = Stay {
     ends: 0,
     due: 0,
     least: 0,
-    doomed: false,
+    sure: 0,
+    next: 0,
 };
 
 /// A column: how many of its half-cells are filled, how many of these by 20-foot containers, and the least due in it.
@@ -88,6 +91,8 @@ pub struct Planned {
     pub spot: Spot,
     /// Whether it ends before the container's destination.
     pub is_rehandled: bool,
+    /// What its end costs.
+    pub cost: u32,
 }
 
 /// A container of a class that separations name, and where it stands.
@@ -113,10 +118,10 @@ pub struct ShipState {
     /// The stays that have ended.
     stays: Vec<Planned>,
     classed: Vec<Classed>,
-    /// How many rehandles there were.
+    /// What the rehandles cost that there were.
     cost: u64,
-    /// How many of the containers aboard are sure to be rehandled.
-    doomed: u64,
+    /// What those of the containers aboard are sure to cost.
+    sure: u64,
     /// A call past the last one.
     later: u32,
 }
@@ -181,7 +186,7 @@ impl ShipState {
             stays: Vec::new(alloc),
             classed: Vec::new(alloc),
             cost: 0,
-            doomed: 0,
+            sure: 0,
             later,
         })
     }
@@ -218,14 +223,14 @@ impl ShipState {
         self.waiting
     }
 
-    /// How many rehandles there were.
+    /// What the rehandles cost that there were.
     pub fn cost(&self) -> u64 {
         self.cost
     }
 
-    /// How many there were, and how many containers aboard are sure to be rehandled.
+    /// What they cost, with what those of the containers aboard are sure to cost.
     pub fn sure_cost(&self) -> u64 {
-        self.cost.wrapping_add(self.doomed)
+        self.cost.wrapping_add(self.sure)
     }
 
     /// A call past the last one.
@@ -275,7 +280,7 @@ impl ShipState {
         self.stays.clear();
         self.classed.clear();
         self.cost = 0;
-        self.doomed = 0;
+        self.sure = 0;
     }
 
     /// Forgets what is known of a hatch cover.
@@ -473,7 +478,7 @@ impl ShipState {
                 spot,
             })?;
         }
-        self.doomed = self.doomed.wrapping_add(u64::from(stay.doomed));
+        self.sure = self.sure.wrapping_add(u64::from(stay.sure));
         self.pile_up(spot, stay);
         self.note_hatches(stack, spot.span, stay.due);
         Ok(())
@@ -558,6 +563,11 @@ impl ShipState {
             place,
             spot,
             is_rehandled: facts.dest(stay.kind) != call,
+            cost: if facts.dest(stay.kind) != call {
+                facts.prices().at(call)
+            } else {
+                0
+            },
         })
     }
 
@@ -571,13 +581,13 @@ impl ShipState {
     }
 
     /// Ends a stay at a call: the container waits on the quay, or leaves the ship.
-    fn end(&mut self, kind: &KindFacts, stay: &Stay, call: u32)
+    fn end(&mut self, kind: &KindFacts, stay: &Stay, call: u32, price: u32)
         requires { stay.now.kind < self.old.kinds }
         ensures { self.new ≡ self.old }
     {
-        self.doomed = self.doomed.saturating_sub(u64::from(stay.doomed));
+        self.sure = self.sure.saturating_sub(u64::from(stay.sure));
         if kind.dest != call {
-            self.cost = self.cost.wrapping_add(1);
+            self.cost = self.cost.wrapping_add(u64::from(price));
             self.load(stay.kind, 1);
         }
     }
@@ -672,7 +682,7 @@ impl ShipState {
             return Ok(false);
         };
         self.note(planned)?;
-        self.end(kind, &stay, call);
+        self.end(kind, &stay, call, planned.cost);
         self.take_off(stack, aft, kind.kg);
         if kind.class != 0 {
             self.forget_classed(spot);
