@@ -14,9 +14,9 @@ pub struct Kept {
     is_found: bool,
     /// For each stack the stays in it.
     stays: Vec<Vec<Planned>>,
-    /// For each stack how many of them end before the container's destination.
-    rehandles: Vec<u32>,
-    /// How many that are in all.
+    /// For each stack what the ends of these cost.
+    costs: Vec<u32>,
+    /// What that is in all.
     cost: u64,
 }
 
@@ -46,7 +46,7 @@ impl Kept {
             sizes,
             is_found: false,
             stays,
-            rehandles: Vec::from_elem(alloc, 0, sizes.stacks as usize)?,
+            costs: Vec::from_elem(alloc, 0, sizes.stacks as usize)?,
             cost: 0,
         })
     }
@@ -56,7 +56,7 @@ impl Kept {
         self.is_found
     }
 
-    /// How often the voyage rehandles.
+    /// What the voyage costs.
     pub fn cost(&self) -> u64 {
         self.cost
     }
@@ -78,32 +78,33 @@ impl Kept {
         }
     }
 
-    /// How often a stack rehandles.
-    pub fn rehandles(&self, stack: u32) -> u32 {
-        self.rehandles.get(stack as usize).copied().unwrap_or(0)
+    /// What the rehandles of a stack cost.
+    pub fn cost_at(&self, stack: u32) -> u32 {
+        self.costs.get(stack as usize).copied().unwrap_or(0)
     }
 
-    /// How often these stacks rehandle.
-    pub fn rehandles_of(&self, stacks: &[u32]) -> u64 {
+    /// What the rehandles of these stacks cost.
+    pub fn cost_of(&self, stacks: &[u32]) -> u64 {
         let mut sum: u64 = 0;
         for stack in stacks {
-            sum = sum.saturating_add(u64::from(self.rehandles(*stack)));
+            sum = sum.saturating_add(u64::from(self.cost_at(*stack)));
         }
         sum
     }
 
-    /// A stack with a rehandle, each as likely as it has rehandles. None where there is none.
+    /// A stack whose rehandles cost something, each as likely as they are dear. None where there is none.
     pub fn draw_rehandled(&self, chance: &mut Chance) -> Option<u32> {
         if self.cost == 0 {
             return None;
         }
-        let mut left = chance.below(self.cost.min(65_536) as u32);
+        let most = u32::try_from(self.cost).unwrap_or(u32::MAX);
+        let mut left = chance.below(most);
         let mut number: u32 = 0;
-        for rehandles in self.rehandles.iter() {
-            if left < *rehandles {
+        for cost in self.costs.iter() {
+            if left < *cost {
                 return Some(number);
             }
-            left = left.saturating_sub(*rehandles);
+            left = left.saturating_sub(*cost);
             number = number.saturating_add(1);
         }
         None
@@ -121,8 +122,8 @@ impl Kept {
         requires { stack < self.old.stacks }
         ensures { self.new ≡ self.old }
     {
-        self.cost = self.cost.saturating_sub(u64::from(self.rehandles(stack)));
-        self.rehandles[stack as usize] = 0;
+        self.cost = self.cost.saturating_sub(u64::from(self.cost_at(stack)));
+        self.costs[stack as usize] = 0;
         let stays = &mut self.stays[stack as usize];
         stays.clear();
     }
@@ -133,10 +134,8 @@ impl Kept {
         ensures { self.new ≡ self.old }
     {
         let stack = stay.spot.stack as usize;
-        if stay.is_rehandled {
-            self.cost = self.cost.saturating_add(1);
-            self.rehandles[stack] = self.rehandles[stack].saturating_add(1);
-        }
+        self.cost = self.cost.saturating_add(u64::from(stay.cost));
+        self.costs[stack] = self.costs[stack].saturating_add(stay.cost);
         let stays = &mut self.stays[stack];
         stays.push(*stay)?;
         Ok(())

@@ -119,6 +119,7 @@ impl Leave {
                 span: place.span,
             },
             is_rehandled: false,
+            cost: 0,
         })?;
         Ok(true)
     }

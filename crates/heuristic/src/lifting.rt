@@ -10,8 +10,12 @@ use voyage_state::{Column, Facts, Pile, ShipState, StackFacts, TIERS, bit_of};
 #[derive(Clone, Copy)]
 pub struct Lifting {
     pub call: u32,
+    /// The price of a rehandle there.
+    pub price: u32,
     /// How many times in 65,536 a container on top is lifted though it needn't be.
     pub dig: u32,
+    /// How many times in 65,536 one is that is to be lifted later at a higher price.
+    pub early: u32,
 }
 
 /// Whether what stands in a half-cell must be lifted at the call.
@@ -22,11 +26,17 @@ fn must_leave(ship_state: &ShipState, stack: u32, aft: bool, tier: u32, call: u3
     }
 }
 
-/// Whether what stands in a half-cell may be lifted at the call.
-fn may_leave(ship_state: &ShipState, stack: u32, aft: bool, tier: u32, call: u32) -> bool {
+/// How many times in 65,536 what stands on top is lifted though it needn't be.
+fn odds(ship_state: &ShipState, stack: u32, aft: bool, tier: u32, lifting: Lifting) -> u32 {
     match ship_state.stay(stack, aft, tier) {
-        None => false,
-        Some(stay) => stay.ends & bit_of(call) != 0,
+        Some(stay) if stay.ends & bit_of(lifting.call) != 0 => {
+            if lifting.price < stay.next {
+                lifting.early.max(lifting.dig)
+            } else {
+                lifting.dig
+            }
+        }
+        _ => 0,
     }
 }
 
@@ -57,9 +67,8 @@ fn dug(
         let Some(top) = kept.checked_sub(1) else {
             return kept;
         };
-        if !may_leave(ship_state, stack, aft, top, lifting.call)
-            || !chance.comes_true(lifting.dig)
-        {
+        let odds = odds(ship_state, stack, aft, top, lifting);
+        if odds == 0 || !chance.comes_true(odds) {
             return kept;
         }
         kept = top;
@@ -77,7 +86,7 @@ fn kept(
     lifting: Lifting,
 ) -> u32 {
     let height = staying(ship_state, stack, aft, column, lifting.call);
-    if lifting.dig == 0 {
+    if lifting.dig == 0 && lifting.early == 0 {
         return height;
     }
     dug(ship_state, chance, stack, aft, height, lifting)

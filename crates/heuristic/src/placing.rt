@@ -6,16 +6,21 @@ use crate::guide::Guide;
 use crate::leave::Leave;
 use crate::scope::Scope;
 use stow_data::{Length, Span};
-use voyage_state::{Classed, Facts, Hatch, ShipState, Spot, StackFacts, Stay, bit_of};
+use voyage_state::{Classed, Facts, Hatch, Prices, ShipState, Spot, StackFacts, Stay, bit_of};
 
 /// One in the fixed point of scores.
 pub const ONE: i64 = 256;
+
+/// What an early lift counts in scores at the least, also where it is free.
+const LEAST_BURDEN: i64 = 4;
 
 /// What a run likes, in the fixed point of scores where nothing else is said.
 #[derive(Clone, Copy)]
 pub struct Taste {
     /// How many times in 65,536 a container on top is lifted though it needn't be.
     pub dig: u32,
+    /// How many times in 65,536 one is that is to be lifted later at a higher price.
+    pub early: u32,
     /// For each call by which what is below leaves later than the container.
     pub gap: i64,
     /// For each tier.
@@ -106,14 +111,34 @@ fn is_kept_away(ship_state: &ShipState, facts: &Facts, class: u32, bay: u32, spo
     ))
 }
 
-/// What a place costs by what stands below it and under its cover: `least` is the least due there.
-fn score_of(request: &Request, taste: &Taste, due: u32, least: u32, is_clean: bool) -> i64 {
-    if is_clean {
+/// How a place scores by what stands below it and under its cover: `least` is the least due there, and `latest` the last call at
+/// which the container is lifted for it. The dearer an early lift is and the sooner it comes, the worse.
+fn score_of(request: &Request, taste: &Taste, prices: &Prices, latest: u32, least: u32) -> i64 {
+    if latest < request.dest {
+        let stays = i64::from(latest).wrapping_sub(i64::from(request.call));
+        let burden = i64::from(prices.burden(latest)).max(LEAST_BURDEN);
+        ONE.wrapping_mul(burden.wrapping_sub(stays))
+    } else {
         let gap = i64::from(least).wrapping_sub(i64::from(request.dest));
         taste.gap.wrapping_mul(gap)
+    }
+}
+
+/// What the lifts before the destination cost at the least, where the first of them is at this call at the latest.
+fn sure_cost(request: &Request, prices: &Prices, ends: u32, latest: u32) -> u32 {
+    if latest < request.dest {
+        prices.least(ends, request.call, latest)
     } else {
-        let stays = i64::from(due.min(least)).wrapping_sub(i64::from(request.call));
-        ONE.wrapping_mul(100_i64.wrapping_sub(stays))
+        0
+    }
+}
+
+/// What the first lift before the destination costs, where it is at this call.
+fn next_cost(request: &Request, prices: &Prices, latest: u32) -> u32 {
+    if latest < request.dest {
+        prices.at(latest)
+    } else {
+        0
     }
 }
 
@@ -219,7 +244,8 @@ impl<'a> Scene<'a> {
             ends,
             due: ends.ilog2(),
             least: 0,
-            doomed: false,
+            sure: 0,
+            next: 0,
         })
     }
 
@@ -240,8 +266,11 @@ impl<'a> Scene<'a> {
         if is_kept_away(self.ship_state, self.facts, request.class, facts.bay, spot) {
             return None;
         }
-        stay.doomed = least < request.dest || stay.due < request.dest;
-        let own = score_of(request, self.taste, stay.due, least, !stay.doomed);
+        let latest = stay.due.min(least);
+        let prices = self.facts.prices();
+        stay.sure = sure_cost(request, prices, stay.ends, latest);
+        stay.next = next_cost(request, prices, latest);
+        let own = score_of(request, self.taste, prices, latest, least);
         let hatches = score_of_hatches(self.hatch(facts.over), under, self.taste, stay.due);
         let tiers = self.taste.tier.wrapping_mul(i64::from(spot.tier));
         Some(Offer {

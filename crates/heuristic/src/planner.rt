@@ -14,9 +14,9 @@ use zero_one_model::{Box01, Model};
 /// What is asked of a planner at a node.
 #[derive(Clone, Copy)]
 pub struct HeuristicLimits {
-    /// Only voyages that rehandle less often than this are taken.
+    /// Only voyages that cost less than this are taken.
     pub cut: u64,
-    /// A voyage that rehandles at most so often is good enough: none is looked for behind it.
+    /// A voyage that costs at most this is good enough: none is looked for behind it.
     pub enough: u64,
     /// How many voyages are tried at most.
     pub runs: u32,
@@ -30,7 +30,7 @@ pub struct Planner {
     sailor: Sailor,
     /// The cheapest voyage that was found.
     kept: Kept,
-    /// Only voyages that rehandle less often than this are taken.
+    /// Only voyages that cost less than this are taken.
     cut: u64,
     ghost same_voyages: { kept ≡ sailor },
 }
@@ -100,7 +100,7 @@ impl Planner {
         Ok(planner)
     }
 
-    /// How often the cheapest voyage of the last box rehandles; None where none was found.
+    /// What the cheapest voyage of the last box costs; None where none was found.
     pub fn cost(&self) -> Option<u64> {
         if self.kept.is_found() {
             Some(self.kept.cost())
@@ -150,8 +150,8 @@ impl Planner {
         }
     }
 
-    /// Sails one more voyage: over the whole ship, or over few stacks of the one that is kept. False where it fails, or rehandles
-    /// more often.
+    /// Sails one more voyage: over the whole ship, or over few stacks of the one that is kept. False where it fails, or costs
+    /// more.
     fn sail(&mut self) -> Result<bool, NoMemory> {
         if !self.kept.is_found() {
             return self.sailor.sail_all(&self.kept, self.cut);

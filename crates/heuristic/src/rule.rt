@@ -12,7 +12,7 @@ pub const FEWEST_FREED: u32 = 2;
 /// How many numbers of freed stacks there are.
 pub const FREED_SPREAD: u32 = 2;
 
-/// How many runs in 100 free a stack in which a container is rehandled.
+/// How many runs in 100 free a stack in which a container is rehandled at a cost.
 pub const REHANDLED_RUNS: u32 = 95;
 
 /// How many runs in 100 free stacks from the first call on.
@@ -20,3 +20,9 @@ pub const FREE_RUNS: u32 = 80;
 
 /// How many runs in 100 lift containers by chance.
 pub const DUG_RUNS: u32 = 15;
+
+/// The same where prices differ.
+pub const PRICED_DUG_RUNS: u32 = 40;
+
+/// Where prices differ, how many runs in 100 lift containers early where that is cheaper.
+pub const EARLY_RUNS: u32 = 75;

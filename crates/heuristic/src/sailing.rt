@@ -9,7 +9,7 @@ use crate::kept::Kept;
 use crate::leave::Leave;
 use crate::lifting::{Lifting, lift_all};
 use crate::placing::{ONE, Offer, Request, Scene, Taste};
-use crate::rule::{DUG_RUNS, GUIDED_RUNS, WHOLE_RUNS};
+use crate::rule::{DUG_RUNS, EARLY_RUNS, GUIDED_RUNS, PRICED_DUG_RUNS, WHOLE_RUNS};
 use crate::scope::Scope;
 use crate::trade::Trade;
 use std::alloc::Global;
@@ -17,12 +17,17 @@ use std::marker::Model;
 use std::ops::Range;
 use std::sync::Arc;
 use stow_data::NoMemory;
-use voyage_state::{Arrived, Facts, Planned, ShipState, Stay, TIERS};
+use voyage_state::{Arrived, Facts, Planned, Prices, ShipState, Stay, TIERS};
 use zero_one_model::{Box01, Model as Program};
 
 /// What a run likes, by chance.
-fn draw_taste(chance: &mut Chance) -> Taste {
-    let dig = if chance.below(100) < DUG_RUNS {
+fn draw_taste(chance: &mut Chance, prices: &Prices) -> Taste {
+    let dug_runs = if prices.is_flat() {
+        DUG_RUNS
+    } else {
+        PRICED_DUG_RUNS
+    };
+    let dig = if chance.below(100) < dug_runs {
         chance.below(19_660)
     } else {
         0
@@ -32,8 +37,14 @@ fn draw_taste(chance: &mut Chance) -> Taste {
     } else {
         chance.from(-ONE, 512)
     };
+    let early = if !prices.is_flat() && chance.below(100) < EARLY_RUNS {
+        chance.below(65_536)
+    } else {
+        0
+    };
     Taste {
         dig,
+        early,
         gap: chance.from(-77, 512),
         tier,
         first_on_cover: 576,
@@ -159,7 +170,7 @@ impl Sailor {
         let first = Turn { key: 0, kind: 0 };
         let order = Vec::from_elem(alloc, first, facts.sizes().kinds as usize)?;
         let mut chance = Chance::new(seed);
-        let taste = draw_taste(&mut chance);
+        let taste = draw_taste(&mut chance, facts.prices());
         Ok(Sailor {
             facts,
             leave,
@@ -231,7 +242,8 @@ impl Sailor {
             ends,
             due,
             least: 0,
-            doomed: false,
+            sure: 0,
+            next: 0,
         };
         self.ship_state.put(&self.facts, arrived.spot, stay)
     }
@@ -458,13 +470,16 @@ impl Sailor {
         )
     }
 
-    /// What happens at a call before the last. False where the run fails, or comes to so many rehandles.
+    /// What happens at a call before the last. False where the run fails, or comes to such a cost.
     fn visit(&mut self, call: u32, limit: u64) -> Result<bool, NoMemory>
         ensures { self.new ≡ self.old }
     {
+        let prices = self.facts.prices();
         let lifting = Lifting {
             call,
-            dig: self.taste.dig,
+            price: prices.at(call),
+            dig: prices.odds(call, self.taste.dig),
+            early: self.taste.early,
         };
         if !self.lift(lifting)? || !self.load(call) {
             return Ok(false);
@@ -482,7 +497,9 @@ impl Sailor {
     {
         let lifting = Lifting {
             call: self.facts.sizes().calls,
+            price: 0,
             dig: 0,
+            early: 0,
         };
         self.lift(lifting)
     }
@@ -532,12 +549,12 @@ impl Sailor {
         )
     }
 
-    /// Sails the stacks that were taken. False where it fails, or comes to so many rehandles. The stays and the rehandles stand in
-    /// the ship's state.
+    /// Sails the stacks that were taken. False where it fails, or comes to such a cost. The stays and the cost stand in the ship's
+    /// state.
     fn sail(&mut self, limit: u64) -> Result<bool, NoMemory>
         ensures { self.new ≡ self.old }
     {
-        self.taste = draw_taste(&mut self.chance);
+        self.taste = draw_taste(&mut self.chance, self.facts.prices());
         draw_order(
             &self.facts,
             &mut self.chance,
@@ -553,7 +570,7 @@ impl Sailor {
         Ok(self.arrive()? && self.ship_state.cost() < limit)
     }
 
-    /// Sails the whole ship. False where the run fails, or has so many rehandles.
+    /// Sails the whole ship. False where the run fails, or comes to such a cost.
     pub fn sail_all(&mut self, kept: &Kept, limit: u64) -> Result<bool, NoMemory>
         requires { kept.now ≡ self.old }
         ensures { self.new ≡ self.old }
@@ -562,13 +579,13 @@ impl Sailor {
         self.sail(limit)
     }
 
-    /// Sails few stacks of the kept voyage anew. False where the run fails, or these stacks have more rehandles than they had.
+    /// Sails few stacks of the kept voyage anew. False where the run fails, or these stacks cost more than they did.
     pub fn sail_few(&mut self, kept: &Kept) -> Result<bool, NoMemory>
         requires { kept.now ≡ self.old }
         ensures { self.new ≡ self.old }
     {
         self.take_few(kept)?;
-        let limit = kept.rehandles_of(self.scope.stacks()).saturating_add(1);
+        let limit = kept.cost_of(self.scope.stacks()).saturating_add(1);
         self.sail(limit)
     }
 

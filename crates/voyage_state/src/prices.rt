@@ -105,9 +105,16 @@ impl Prices {
 
     /// How much a rehandle at a call weighs beside one at the usual price, which weighs 100: nothing where it is free, and at most 200
     /// however dear it is.
-    pub fn burden(&self, call: u32) -> i64 {
+    pub fn burden(&self, call: u32) -> u32 {
         let price = self.at(call);
         let both = price.saturating_add(self.usual).max(1);
-        i64::from(price.saturating_mul(200) / both)
+        price.saturating_mul(200) / both
+    }
+
+    /// How many times in 65,536 what is done so often at a usual price is done at the price of a call: twice as often where lifting is
+    /// free, and the less the dearer it is.
+    pub fn odds(&self, call: u32, times: u32) -> u32 {
+        let ease = 200_u32.saturating_sub(self.burden(call));
+        times.saturating_mul(ease) / 100
     }
 }

@@ -137,6 +137,15 @@ impl Model for ShipState {
     ghost invariant = { IsShipState };
 }
 
+/// What a lift costs at a call.
+fn cost_of(facts: &Facts, is_rehandled: bool, call: u32) -> u32 {
+    if is_rehandled {
+        facts.prices().at(call)
+    } else {
+        0
+    }
+}
+
 /// The number of a half-cell among those of all columns.
 fn cell_of(stack: u32, aft: bool, tier: u32) -> usize
     requires { tier < 40 }
@@ -549,6 +558,7 @@ impl ShipState {
         }
         let lot = facts.lot(stay.put, stay.kind)?;
         let place = facts.place_of(spot)?;
+        let is_rehandled = facts.dest(stay.kind) != call;
         let past = call.wrapping_sub(stay.put).wrapping_sub(1);
         let x = lot
             .first
@@ -562,12 +572,8 @@ impl ShipState {
             lifted: call,
             place,
             spot,
-            is_rehandled: facts.dest(stay.kind) != call,
-            cost: if facts.dest(stay.kind) != call {
-                facts.prices().at(call)
-            } else {
-                0
-            },
+            is_rehandled,
+            cost: cost_of(facts, is_rehandled, call),
         })
     }
 
