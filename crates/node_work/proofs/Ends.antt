@@ -1,6 +1,5 @@
 -- The records that end a node are lean, and ones that the rules of proof trees allow.
 use Rattle.std.proofs.Common.{◌≡◌, ℕ, zero, suc, ◌+◌, ◌-◌, ◌*◌, ◌<◌, ◌≤◌, ◌^◌, ◌⊎◌, inl, inr, Bool, true, false, not, ◌&&◌, cond, nat_le, All, List, [], ◌∷◌, ◌++◌, length, map, get_or, Option, Some, None, ℤ, pos, ◌≤ℤ◌, refl, sym, subst, ◌∙◌, ap, arith}
-use Rattle.std.proofs.Math.Nat.{mul-le-mul_left}
 use borrow.Author.Differences.{ints}
 use Rattle.std.specs.Prelude.{slice_get, IsSome}
 use Rattle.std.specs.Option.{is_some}
@@ -8,13 +7,14 @@ use Rattle.std.proofs.lemmas.Bool.Decides.{nat_tests}
 use Rattle.std.proofs.lemmas.List.{length-map}
 use Rattle.std.proofs.lemmas.List.Elements.{All-map}
 use Rattle.std.proofs.lemmas.Option.{get_or_from_slice_get}
-use Rattle.stow_data.specs.Shipment.{IsCargo}
+use Rattle.stow_data.specs.Shipment.{IsCargo, most_cost}
 use Rattle.zero_one_rows.specs.declared.program.Row.{Row}
 use Rattle.zero_one_rows.specs.declared.program.Raise.{Raise}
-use Rattle.zero_one_rows.specs.Variables.{Voyage, variables, var, calls, is_rehandled}
-use Rattle.zero_one_rows.specs.Rows.{whole, base, is_base, has, bit}
+use Rattle.zero_one_rows.specs.Variables.{Voyage, variables, var, var_cost}
+use Rattle.zero_one_rows.specs.Rows.{whole, base, is_base, has}
 use Rattle.zero_one_rows.specs.Counted.{base_rows}
 use Rattle.zero_one_rows.proofs.EveryRow.{lists_base_rows}
+use Rattle.zero_one_rows.proofs.Sizes.{most_cost_low}
 use Rattle.proof_trees.specs.Program.{Program, cost_of}
 use Rattle.proof_trees.specs.Boxes.{Box, at, violated, tightened, AreRows}
 use Rattle.proof_trees.specs.Multipliers.{Multipliers, Closes, raised_all}
@@ -34,18 +34,17 @@ use Rattle.dual_bound.specs.Raising.{IsRaise, RiseAll, Raises}
 use Rattle.node_solver.specs.declared.worked.Worked.{Worked}
 use Rattle.node_solver.specs.declared.worked.Worked.TheVariants.{Closed, Branched, Full, NoMemory}
 use Rattle.node_work.specs.Starts.{IsTight, HasSteps, IsAfterSteps}
-use Rattle.node_solver.specs.Work.{most_rehandles, EachRises, IsLean, IsEarnest, Ends, EndsClosed, EndsBranched, EndsFull}
+use Rattle.node_solver.specs.Work.{EachRises, IsLean, IsEarnest, Ends, EndsClosed, EndsBranched, EndsFull}
 use Rattle.node_work.proofs.Folds.{default_any}
 use Rattle.node_work.proofs.Numbered.{number_is}
 use Rattle.node_work.proofs.Values.{and_right, full_closes, violated_closes}
 
-bit_positive : (b : Bool) → pos 0 ≤ℤ bit b
-bit_positive true = omega (arith, ints)
-bit_positive false = omega (arith, ints)
+from_zero : (n : ℕ) → pos 0 ≤ℤ pos n
+from_zero n = omega (arith, ints)
 
 -- no variable costs less than nothing
 pub costs : (m : Voyage) (v : ℕ) → v < (whole m).vars → pos 0 ≤ℤ (whole m).cost v
-costs m v lt = bit_positive (is_rehandled m (var m v))
+costs m v lt = from_zero (var_cost m (var m v))
 
 base_has : (m : Voyage) (rs : List Row) → All (λ r. (base m).has r ≡ true) rs → AreRows (whole m) rs
 base_has m rs h k d lt = and_right (is_base (get_or rs k d)) (has m (get_or rs k d)) (h k d lt)
@@ -113,19 +112,16 @@ one_named : (m : Voyage) (r : Row) (z : ℤ) → (base m).has r ≡ true → All
 one_named m r z h zero d lt = and_right (is_base r) (has m r) h
 one_named m r z h (suc k) d lt = absurd (omega arith)
 
-pub few_rehandles : (m : Voyage) → IsCargo m.cargo → 16 * most_rehandles m + 1 ≤ 2 ^ 40
-few_rehandles m c = times (length m.cargo.containers) (calls m - 1) c.few_containers (let h = c.calls_to in omega arith)
-  where
-    times : (a b : ℕ) → a < 2 ^ 32 → b ≤ 11 → 16 * (a * b) + 1 ≤ 2 ^ 40
-    times a b h k = omega (arith, mul-le-mul_left a k)
+pub cost_low : (m : Voyage) → IsCargo m.cargo → 16 * most_cost m.cargo + 1 ≤ 2 ^ 40
+cost_low m c = omega (arith, most_cost_low m.cargo c)
 
-pub violated_ends : (m : Voyage) (q : Pending Row) (most cut : ℕ) (steps : List Row) (b : Box) (r : Row) → IsCargo m.cargo → 1 ≤ most → cut ≤ most_rehandles m + 1
+pub violated_ends : (m : Voyage) (q : Pending Row) (most cut : ℕ) (steps : List Row) (b : Box) (r : Row) → IsCargo m.cargo → 1 ≤ most → cut ≤ most_cost m.cargo + 1
     → IsTight m q b steps → (base m).has r ≡ true → violated (whole m) b r ≡ true
-    → EndsClosed m q most cut (record { from_zero = true; steps = steps; raises = record { row = r; amount = pos (16 * most_rehandles m + 1) } ∷ []; end = Leaf })
+    → EndsClosed m q most cut (record { from_zero = true; steps = steps; raises = record { row = r; amount = pos (16 * most_cost m.cargo + 1) } ∷ []; end = Leaf })
 violated_ends m q most cut steps b r cargo some low tight here broken =
-    let l : ℕ = 16 * most_rehandles m + 1 in
+    let l : ℕ = 16 * most_cost m.cargo + 1 in
     let one : Raise = record { row = r; amount = pos l } in
-    let to : raised_all same_row (Some []) (map raise_of (one ∷ [])) ≡ Some ((r, l) ∷ []) = one_raised r l (few_rehandles m cargo) in
+    let to : raised_all same_row (Some []) (map raise_of (one ∷ [])) ≡ Some ((r, l) ∷ []) = one_raised r l (cost_low m cargo) in
     leaf_ends m q most cut true steps (one ∷ []) b ((r, l) ∷ []) tight (one_named m r (pos l) here) some to
     (violated_closes (whole m) b r l (costs m) cut broken (omega arith))
 

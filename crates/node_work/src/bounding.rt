@@ -1,8 +1,8 @@
 //! What the root alone tells of all voyages.
 ghost use Rattle.std.specs.Prelude.{◌≡◌, ◌≤◌, ◌+◌};
-ghost use Rattle.stow_data.specs.Shipment.{IsCargo};
+ghost use Rattle.stow_data.specs.Shipment.{IsCargo, most_cost};
 ghost use Rattle.zero_one_rows.specs.Variables.{Voyage};
-ghost use Rattle.node_solver.specs.Work.{IsNode, most_rehandles};
+ghost use Rattle.node_solver.specs.Work.{IsNode};
 
 use crate::state::WorkerState;
 use crate::tables::Tables;
@@ -27,7 +27,7 @@ fn root(alloc: Global) -> Node
 // A cut that the program allows: this one or the greatest.
 fn cut_at(model: &Model, most: u64) -> u64
     requires { IsCargo model.now.cargo }
-    ensures { result ≤ most_rehandles model.now + 1 }
+    ensures { result ≤ most_cost model.now.cargo + 1 }
 {
     most.min(model.limit() + 1)
 }
@@ -35,7 +35,7 @@ fn cut_at(model: &Model, most: u64) -> u64
 // What the root tells at a cut.
 fn bound_at(alloc: Global, tables: &Tables, cut: u64) -> Result<u64, NoMemory>
     requires cargo { IsCargo tables.now.cargo }
-    requires cut { cut ≤ most_rehandles tables.now + 1 }
+    requires cut { cut ≤ most_cost tables.now.cargo + 1 }
 {
     let planner = Planner::new(alloc, tables.model())?;
     let mut state = WorkerState::fresh(alloc, tables, planner)?;
@@ -47,7 +47,7 @@ fn bound_at(alloc: Global, tables: &Tables, cut: u64) -> Result<u64, NoMemory>
     }
 }
 
-/// How often each voyage rehandles at least, as far as the root tells; at most this number. It is a hint, of which nothing is said.
+/// What each voyage costs at least, as far as the root tells; at most this number. It is a hint, of which nothing is said.
 pub fn root_bound(alloc: Global, model: &Model, most: u64) -> Result<u64, NoMemory>
     requires { IsCargo model.now.cargo }
 {

@@ -1,6 +1,6 @@
 //! How a node ends, once its box is tightened.
 ghost use Rattle.std.specs.Prelude.{◌≡◌, ℕ, ◌+◌, ◌*◌, ◌<◌, ◌≤◌, ◌^◌, All, IfOk, IsSome, List, None, Some, [], ◌∷◌, ◌++◌, length, slice_get, pos, true};
-ghost use Rattle.stow_data.specs.Shipment.{IsCargo};
+ghost use Rattle.stow_data.specs.Shipment.{IsCargo, most_cost};
 ghost use Rattle.proof_trees.specs.Trees.{Pending};
 ghost use Rattle.zero_one_rows.specs.declared.program.Row.{Row as Rows};
 ghost use Rattle.zero_one_rows.specs.Variables.{variables};
@@ -8,7 +8,7 @@ ghost use Rattle.partial_plan.specs.Fixing.{Fixes};
 ghost use Rattle.zero_one_rows.specs.Tightening.{IsQuiet};
 ghost use Rattle.node_work.specs.DualStates.{IsDualState};
 ghost use Rattle.node_work.specs.Starts.{IsTight, HasSteps, IsAfterSteps};
-ghost use Rattle.node_solver.specs.Work.{most_rehandles, Works};
+ghost use Rattle.node_solver.specs.Work.{Works};
 
 use crate::choosing::{first_free, planned_or};
 use crate::dual_state::DualState;
@@ -22,12 +22,12 @@ use stow_data::{NoMemory, VarNo};
 use zero_one_model::{Box01, Model};
 use zero_one_rows::{Raise, RaiseList, Row, RowList, rows_are_listed};
 
-// 16 times the most rehandles, and 1: a violated row raised by this closes at every cut.
-fn closing_amount(most_rehandles: u64) -> i64
-    requires { 16 * most_rehandles + 1 ≤ 2 ^ 40 }
-    ensures { result ≡ pos (16 * most_rehandles + 1) }
+// 16 times the most that a voyage needs to cost, and 1: a violated row raised by this closes at every cut.
+fn closing_amount(most_cost: u64) -> i64
+    requires { 16 * most_cost + 1 ≤ 2 ^ 40 }
+    ensures { result ≡ pos (16 * most_cost + 1) }
 {
-    (16 * most_rehandles + 1) as i64
+    (16 * most_cost + 1) as i64
 }
 
 /// The least cost that a dual value allows: a sixteenth of it, rounded up.
@@ -36,9 +36,10 @@ pub fn least_cost(value: i128) -> u64 {
 }
 
 // The leaf of a box in which a row is violated: that row is raised from zero, once.
+#[tactic(auto, using(crate::proofs::Ends::cost_low))]
 fn violated_leaf(alloc: Global, model: &Model, steps: RowList, row: Row) -> Result<Record, NoMemory>
     requires { IsCargo model.now.cargo }
-    ensures { IfOk result (λ r. r ≡ record { from_zero = true; steps = steps; raises = record { row = row; amount = pos (16 * most_rehandles model.now + 1) } ∷ []; end = End.Leaf }) }
+    ensures { IfOk result (λ r. r ≡ record { from_zero = true; steps = steps; raises = record { row = row; amount = pos (16 * most_cost model.now.cargo + 1) } ∷ []; end = End.Leaf }) }
 {
     let mut raises = RaiseList::new(alloc);
     raises.push(Raise {
@@ -163,7 +164,7 @@ pub fn end_box(
     requires cargo { IsCargo model.now.cargo }
     requires dual_state { IsDualState model.now dual_state.old }
     requires some { 1 ≤ most }
-    requires cut { limits.cut ≤ most_rehandles model.now + 1 }
+    requires cut { limits.cut ≤ most_cost model.now.cargo + 1 }
     ensures dual_state { IsDualState model.now dual_state.new }
     ensures same { kept.new.voyage ≡ kept.old.voyage }
     ensures noted { (xs : List ℕ) × (kept.new.undo ≡ kept.old.undo ++ xs) × Fixes kept.old.known kept.new.known xs }

@@ -7,8 +7,8 @@ ghost use Rattle.certificate.specs.Entries.{same_row, entry_of, end_of, number_o
 ghost use Rattle.search_core.specs.Journals.{after};
 ghost use Rattle.search_core.specs.Machine.{Divides, IsTrail};
 ghost use Rattle.partial_plan.specs.Fixing.{released};
-ghost use Rattle.stow_data.specs.Shipment.{IsCargo};
-ghost use Rattle.node_solver.specs.Work.{most_rehandles, Works};
+ghost use Rattle.stow_data.specs.Shipment.{IsCargo, most_cost};
+ghost use Rattle.node_solver.specs.Work.{Works};
 ghost use Rattle.node_work.specs.declared.positions.Frame.{Frame as Frames};
 ghost use Rattle.node_work.specs.DualStates.{IsDualState};
 ghost use Rattle.node_work.specs.Positions.{entry_in, value_in, box_along, IsPosition};
@@ -238,7 +238,7 @@ impl<'a> TreePosition<'a> {
         requires at { self.old.kept.known ≡ box_along model.now (free_box (whole model.now)) self.old.frames.items }
         requires dual_state { IsDualState model.now dual_state.old }
         requires some { 1 ≤ most }
-        requires cut { limits.cut ≤ most_rehandles model.now + 1 }
+        requires cut { limits.cut ≤ most_cost model.now.cargo + 1 }
         ensures position { IsPosition model.now self.new }
         ensures dual_state { IsDualState model.now dual_state.new }
         ensures worked { IfOk result (Works model.now (record { box = self.old.kept.known; multipliers = dual_state.old.gauge.multipliers }) most limits.cut) }

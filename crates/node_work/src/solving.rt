@@ -1,8 +1,8 @@
 //! The solver of a program's nodes that the workers of a search have.
 ghost use Rattle.std.specs.Prelude.{◌≡◌, ◌≤◌, ◌+◌, IfOk, OnOk, IfSome};
-ghost use Rattle.stow_data.specs.Shipment.{IsCargo};
+ghost use Rattle.stow_data.specs.Shipment.{IsCargo, most_cost};
 ghost use Rattle.zero_one_rows.specs.Variables.{Voyage};
-ghost use Rattle.node_solver.specs.Work.{IsNode, begins_at, most_at, most_rehandles, Works};
+ghost use Rattle.node_solver.specs.Work.{IsNode, begins_at, most_at, Works};
 
 use crate::state::WorkerState;
 use crate::tables::Tables;
@@ -84,7 +84,7 @@ impl<'a> TableSolver<'a> {
     fn work_by_state(&mut self, alloc: Global, node: &Node, cut: u64) -> Worked
         requires cargo { IsCargo self.old.cargo }
         requires trail { IsNode self.old node.now }
-        requires cut { cut ≤ most_rehandles self.old + 1 }
+        requires cut { cut ≤ most_cost self.old.cargo + 1 }
         ensures same { self.new ≡ self.old }
         ensures worked { Works self.old (begins_at self.old node.now) (most_at node.now) cut result }
     {

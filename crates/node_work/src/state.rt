@@ -1,9 +1,9 @@
 //! What a worker keeps from node to node.
 ghost use Rattle.std.specs.Prelude.{◌≡◌, ◌≤◌, ◌+◌, IfOk};
-ghost use Rattle.stow_data.specs.Shipment.{IsCargo};
+ghost use Rattle.stow_data.specs.Shipment.{IsCargo, most_cost};
 ghost use Rattle.node_work.specs.DualStates.{IsDualState};
 ghost use Rattle.node_work.specs.Positions.{IsPosition};
-ghost use Rattle.node_solver.specs.Work.{IsNode, begins_at, most_at, most_rehandles, Works};
+ghost use Rattle.node_solver.specs.Work.{IsNode, begins_at, most_at, Works};
 
 use crate::dual_state::DualState;
 use crate::ending::least_cost;
@@ -56,7 +56,7 @@ fn work_at_position(
     requires position { IsPosition model.now position.old }
     requires dual_state { IsDualState model.now dual_state.old }
     requires trail { IsNode model.now node.now }
-    requires cut { cut ≤ most_rehandles model.now + 1 }
+    requires cut { cut ≤ most_cost model.now.cargo + 1 }
     ensures position { IsPosition model.now position.new }
     ensures dual_state { IsDualState model.now dual_state.new }
     ensures worked { IfOk result (Works model.now (begins_at model.now node.now) (most_at node.now) cut) }
@@ -90,7 +90,7 @@ fn work_at(
     requires position { IsPosition model.now position.old }
     requires dual_state { IsDualState model.now dual_state.old }
     requires trail { IsNode model.now node.now }
-    requires cut { cut ≤ most_rehandles model.now + 1 }
+    requires cut { cut ≤ most_cost model.now.cargo + 1 }
     ensures position { IsPosition model.now position.new }
     ensures dual_state { IsDualState model.now dual_state.new }
     ensures worked { Works model.now (begins_at model.now node.now) (most_at node.now) cut result }
@@ -131,7 +131,7 @@ impl<'a> WorkerState<'a> {
     pub fn work(&mut self, alloc: Global, node: &Node, cut: u64) -> Worked
         requires cargo { IsCargo self.old.cargo }
         requires trail { IsNode self.old node.now }
-        requires cut { cut ≤ most_rehandles self.old + 1 }
+        requires cut { cut ≤ most_cost self.old.cargo + 1 }
         ensures same { self.new ≡ self.old }
         ensures worked { Works self.old (begins_at self.old node.now) (most_at node.now) cut result }
     {

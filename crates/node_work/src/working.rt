@@ -1,7 +1,7 @@
 //! The work on one node.
 ghost use Rattle.std.specs.Prelude.{◌≡◌, ◌≤◌, ◌+◌, IfOk};
-ghost use Rattle.stow_data.specs.Shipment.{IsCargo};
-ghost use Rattle.node_solver.specs.Work.{IsNode, begins_at, most_at, most_rehandles, Works};
+ghost use Rattle.stow_data.specs.Shipment.{IsCargo, most_cost};
+ghost use Rattle.node_solver.specs.Work.{IsNode, begins_at, most_at, Works};
 
 use crate::state::WorkerState;
 use crate::tables::Tables;
@@ -30,7 +30,7 @@ pub const MOST_LOOKS: u64 = 5_000;
 fn work_by(alloc: Global, tables: &Tables, node: &Node, cut: u64) -> Result<Worked, NoMemory>
     requires cargo { IsCargo tables.now.cargo }
     requires trail { IsNode tables.now node.now }
-    requires cut { cut ≤ most_rehandles tables.now + 1 }
+    requires cut { cut ≤ most_cost tables.now.cargo + 1 }
     ensures { IfOk result (Works tables.now (begins_at tables.now node.now) (most_at node.now) cut) }
 {
     let planner = Planner::new(alloc, tables.model())?;
@@ -42,7 +42,7 @@ fn work_by(alloc: Global, tables: &Tables, node: &Node, cut: u64) -> Result<Work
 fn work_afresh(alloc: Global, model: &Model, node: &Node, cut: u64) -> Result<Worked, NoMemory>
     requires cargo { IsCargo model.now.cargo }
     requires trail { IsNode model.now node.now }
-    requires cut { cut ≤ most_rehandles model.now + 1 }
+    requires cut { cut ≤ most_cost model.now.cargo + 1 }
     ensures { IfOk result (Works model.now (begins_at model.now node.now) (most_at node.now) cut) }
 {
     let matrix = BaseMatrix::build(alloc, model)?;
@@ -56,7 +56,7 @@ fn work_afresh(alloc: Global, model: &Model, node: &Node, cut: u64) -> Result<Wo
 pub fn work(alloc: Global, model: &Model, node: &Node, cut: u64) -> Worked
     requires cargo { IsCargo model.now.cargo }
     requires trail { IsNode model.now node.now }
-    requires cut { cut ≤ most_rehandles model.now + 1 }
+    requires cut { cut ≤ most_cost model.now.cargo + 1 }
     ensures { Works model.now (begins_at model.now node.now) (most_at node.now) cut result }
 {
     match work_afresh(alloc, model, node, cut) {
