@@ -1,22 +1,24 @@
--- The rehandle count of departures is at most that of each container at each call but the last.
-use Rattle.std.specs.Prelude.{◌≡◌, ◌≢◌, ℕ, suc, ◌-◌, ◌*◌, ◌≤◌, Bool, true, false, cond, List, [], ◌∷◌, Option, Some, None, length, slice_get}
-use Rattle.std.specs.List.{IsDistinct, AllByRecursion, list_any}
-use Rattle.std.proofs.Common.{refl, sym, ap, arith, eqb, inl, inr}
+-- The cost of departures is at most that of each container's lift at each call but the last.
+use Rattle.std.specs.Prelude.{◌≡◌, ◌≢◌, ℕ, suc, ◌+◌, ◌*◌, ◌≤◌, Bool, true, false, cond, List, [], ◌∷◌, Option, Some, None, length, slice_get, slice_index_or}
+use Rattle.std.specs.List.{sum, IsDistinct, AllByRecursion, list_any}
+use Rattle.std.proofs.Common.{refl, sym, ◌∙◌, ap, arith, eqb, inl, inr}
+use Rattle.std.proofs.Math.Nat.{mul-add, suc-mul, mul-le-mul_right}
 use Rattle.std.proofs.lemmas.Bool.{both_ways, or_cases, eqb-true}
 use Rattle.std.proofs.lemmas.Bool.Decides.{eqb_tells}
 use Rattle.std.proofs.lemmas.Option.{slice_get_within}
 use Rattle.std.proofs.lemmas.Map.Steps.{length-le_from_distinct_below}
 use Rattle.stow_data.specs.Ship.{Ship}
-use Rattle.stow_data.specs.Shipment.{Cargo}
+use Rattle.stow_data.specs.Shipment.{Cargo, price, most_cost}
 use Rattle.stow_data.specs.Plans.{Plan}
 use Rattle.stowage_rules.specs.Plan.{Holds, IsWellFormed}
 use Rattle.stowage_rules.specs.Departure.{AreDepartures}
-use Rattle.voyage_meaning.specs.Moves.{leaves, lift_count}
-use Rattle.voyage_meaning.specs.Voyage.{HasCount}
-use Rattle.plan_lifts.specs.Least.{IsClosed, AreClosed, counted, counted_all}
+use Rattle.voyage_meaning.specs.Moves.{leaves, lift_cost}
+use Rattle.voyage_meaning.specs.Voyage.{HasCost}
+use Rattle.plan_lifts.specs.Least.{IsClosed, AreClosed, counted, cost_of_lifts}
 use Rattle.plan_lifts.proofs.Whole.{closed_voyage, ship_is_divided, cargo_in_order}
-use Rattle.zero_one_rows.specs.Variables.{Voyage, calls}
-use Rattle.model_bridge.specs.Laws.{IsProblem, most_lifts}
+use Rattle.zero_one_rows.specs.Variables.{Voyage}
+use Rattle.model_bridge.specs.Laws.{IsProblem}
+use Rattle.model_bridge.proofs.Prices.{sum_front, price_at}
 use Rattle.plan_search.specs.Loaded.{ArePlans}
 
 -- ## The set of all filled places
@@ -85,40 +87,56 @@ each_once (Some d ∷ os) once = (
   each_once os (λ p q c h k. let e : suc p ≡ suc q = once (suc p) (suc q) c h k in omega arith),
 )
 
-one_at_most : (b d : Bool) → cond b (cond d 0 1) 0 ≤ 1
-one_at_most true true = omega arith
-one_at_most true false = omega arith
-one_at_most false d = omega arith
+one_at_most : (b d : Bool) (t : ℕ) → cond b (cond d 0 t) 0 ≤ t
+one_at_most true true t = omega arith
+one_at_most true false t = omega arith
+one_at_most false d t = omega arith
 
 none_at : (b : Bool) → cond b 0 0 ≤ 0
 none_at true = omega arith
 none_at false = omega arith
 
-counted_boxes : (cargo : Cargo) (call : ℕ) (f : ℕ → Bool) (plan : Plan) → counted (lift_count cargo call) f plan ≤ length (boxes plan)
+counted_boxes : (cargo : Cargo) (call : ℕ) (f : ℕ → Bool) (plan : Plan) → counted (lift_cost cargo call) f plan ≤ length (boxes plan) * price cargo call
 counted_boxes cargo call f [] = omega arith
 counted_boxes cargo call f (None ∷ os) = omega (arith, none_at (f 0), counted_boxes cargo call (λ p. f (suc p)) os)
-counted_boxes cargo call f (Some c ∷ os) = omega (arith, one_at_most (f 0) (leaves cargo call c), counted_boxes cargo call (λ p. f (suc p)) os)
+counted_boxes cargo call f (Some c ∷ os) = omega (arith, one_at_most (f 0) (leaves cargo call c) (price cargo call), counted_boxes cargo call (λ p. f (suc p)) os, suc-mul (length (boxes os)) (price cargo call))
 
-counted_few : (ship : Ship) (cargo : Cargo) (call : ℕ) (f : ℕ → Bool) (plan : Plan) → IsWellFormed ship cargo plan → counted (lift_count cargo call) f plan ≤ length cargo.containers
+counted_few : (ship : Ship) (cargo : Cargo) (call : ℕ) (f : ℕ → Bool) (plan : Plan) → IsWellFormed ship cargo plan → counted (lift_cost cargo call) f plan ≤ length cargo.containers * price cargo call
 counted_few ship cargo call f plan formed =
     let few = length-le_from_distinct_below (boxes plan) (length cargo.containers) (each_once plan formed.once) (λ c h. let at = box_held plan c h in let known = formed.known at.0 c at.1 in slice_get_within cargo.containers c known.0 known.1) in
-    omega (arith, counted_boxes cargo call f plan, few)
+    omega (arith, counted_boxes cargo call f plan, mul-le-mul_right (price cargo call) few)
 
 -- ## All calls
 
-all_few : (ship : Ship) (cargo : Cargo) (call : ℕ) (before : Plan) (plans : List Plan) (sets : List (ℕ → Bool)) → IsWellFormed ship cargo before → AreDepartures ship cargo call plans
-    → counted_all cargo call before plans sets ≤ length cargo.containers * length plans
-all_few ship cargo call before [] sets formed legal = omega arith
-all_few ship cargo call before (after ∷ plans) [] formed legal = omega arith
-all_few ship cargo call before (after ∷ plans) (f ∷ fs) formed legal =
-    omega (arith, counted_few ship cargo call f before formed, all_few ship cargo (suc call) after plans fs legal.0.stowed.well_formed legal.1)
+-- the prices from a call on
+abbrev AreFrom : Cargo → ℕ → List ℕ → Type 0
+AreFrom cargo call prices = (i : ℕ) → price cargo (call + i) ≡ slice_index_or prices i 0
 
--- the count of departures is at most the greatest of least lifts
-pub count_few : (m : Voyage) (plans : List Plan) (n : ℕ) → IsProblem m → ArePlans m plans → HasCount m.ship m.cargo plans n → n ≤ most_lifts m
-count_few m plans n rules made count =
+first_price : (cargo : Cargo) (call : ℕ) (prices : List ℕ) → AreFrom cargo call prices → price cargo call ≡ slice_index_or prices 0 0
+first_price cargo call prices h = let e : call ≡ call + 0 = omega arith in ap (price cargo) e ∙ h 0
+
+next_price : (cargo : Cargo) (call i : ℕ) → price cargo (suc call + i) ≡ price cargo (call + suc i)
+next_price cargo call i = let e : suc call + i ≡ call + suc i = omega arith in ap (price cargo) e
+
+all_few : (ship : Ship) (cargo : Cargo) (call : ℕ) (before : Plan) (plans : List Plan) (sets : List (ℕ → Bool)) (prices : List ℕ) → AreFrom cargo call prices → IsWellFormed ship cargo before → AreDepartures ship cargo call plans
+    → cost_of_lifts cargo call before plans sets ≤ length cargo.containers * sum prices
+all_few ship cargo call before [] sets prices from formed legal = omega arith
+all_few ship cargo call before (after ∷ plans) [] prices from formed legal = omega arith
+all_few ship cargo call before (after ∷ plans) (f ∷ fs) [] from formed legal =
+    let here : length cargo.containers * price cargo call ≡ length cargo.containers * 0 = ap (λ (t : ℕ). length cargo.containers * t) (first_price cargo call [] from) in
+    let rest = all_few ship cargo (suc call) after plans fs [] (λ i. next_price cargo call i ∙ from (suc i)) legal.0.stowed.well_formed legal.1 in
+    omega (arith, counted_few ship cargo call f before formed, here, rest)
+all_few ship cargo call before (after ∷ plans) (f ∷ fs) (p ∷ ps) from formed legal =
+    let here : length cargo.containers * price cargo call ≡ length cargo.containers * p = ap (λ (t : ℕ). length cargo.containers * t) (first_price cargo call (p ∷ ps) from) in
+    let rest = all_few ship cargo (suc call) after plans fs ps (λ i. next_price cargo call i ∙ from (suc i)) legal.0.stowed.well_formed legal.1 in
+    let both : length cargo.containers * sum (p ∷ ps) ≡ length cargo.containers * p + length cargo.containers * sum ps = ap (λ (t : ℕ). length cargo.containers * t) (sum_front p ps) ∙ mul-add (length cargo.containers) p (sum ps) in
+    omega (arith, counted_few ship cargo call f before formed, here, rest, both)
+
+-- the cost of departures is at most the most that a voyage needs to cost
+pub cost_few : (m : Voyage) (plans : List Plan) (n : ℕ) → IsProblem m → ArePlans m plans → HasCost m.ship m.cargo plans n → n ≤ most_cost m.cargo
+cost_few m plans n rules made cost =
     let sailed = closed_voyage m.ship m.cargo 0 m.cargo.arrival plans (filled_all m.cargo.arrival plans) (ship_is_divided m.ship rules.ship) (cargo_in_order m.cargo rules.cargo) rules.arrives made.legal (are_closed m.ship m.cargo.arrival plans) in
-    let least = count.least sailed.0 (record { each_call = made.each_call; voyage = sailed.1 }) in
-    let few = all_few m.ship m.cargo 1 m.cargo.arrival plans (filled_all m.cargo.arrival plans) rules.arrives.well_formed made.legal in
-    let many : length plans ≡ calls m - 1 = omega (arith, made.each_call) in
-    let same : length m.cargo.containers * length plans ≡ most_lifts m = ap (λ (k : ℕ). length m.cargo.containers * k) many in
-    omega (arith, least, few, same, sailed.2)
+    let least = cost.least sailed.0 (record { each_call = made.each_call; voyage = sailed.1 }) in
+    let from : AreFrom m.cargo 1 m.cargo.tariff = λ i. let e : 1 + i ≡ suc i = omega arith in ap (price m.cargo) e ∙ price_at m.cargo i in
+    let few = all_few m.ship m.cargo 1 m.cargo.arrival plans (filled_all m.cargo.arrival plans) m.cargo.tariff from rules.arrives.well_formed made.legal in
+    omega (arith, least, few, sailed.2)

@@ -1,4 +1,4 @@
--- A box without multipliers closes at 0, so one leaf is the tree of a search for fewer rehandles than none.
+-- A box without multipliers closes at 0, so one leaf is the tree of a search for less than no cost.
 use Rattle.std.proofs.Common.{◌≡◌, ℕ, ◌≤◌, true, [], refl, sym, ap, subst, arith, inr}
 use Rattle.std.specs.Prelude.{Result, Ok, Err, IfOk}
 use Rattle.std.proofs.lemmas.Bool.{both_ways}

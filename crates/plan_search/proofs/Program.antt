@@ -1,21 +1,20 @@
 -- The program of a voyage, as the search takes it.
-use Rattle.std.proofs.Common.{◌≡◌, Bool, true, false, pos, ◌≤ℤ◌, arith, subst}
+use Rattle.std.proofs.Common.{◌≡◌, ℕ, true, pos, ◌≤ℤ◌, arith, subst}
 use borrow.Author.Differences.{ints}
 use Rattle.zero_one_rows.specs.declared.program.Row.{Row}
-use Rattle.zero_one_rows.specs.Variables.{Voyage, is_rehandled, var}
-use Rattle.zero_one_rows.specs.Rows.{whole, bit}
+use Rattle.zero_one_rows.specs.Variables.{Voyage, var, var_cost}
+use Rattle.zero_one_rows.specs.Rows.{whole}
 use Rattle.certificate.specs.Entries.{same_row}
 use Rattle.certificate.proofs.RowsAlike.{same_equal, same_itself}
 use Rattle.search_core.specs.Machine.{NoneNegative}
 use Rattle.search_core.specs.Outcomes.{Tells}
 
-bit_from : (b : Bool) → pos 0 ≤ℤ bit b
-bit_from true = omega (arith, ints)
-bit_from false = omega (arith, ints)
+from_zero : (n : ℕ) → pos 0 ≤ℤ pos n
+from_zero n = omega (arith, ints)
 
 -- no cost is negative
 pub costs_from : (m : Voyage) → NoneNegative (whole m)
-costs_from m v l = bit_from (is_rehandled m (var m v))
+costs_from m v l = from_zero (var_cost m (var m v))
 
 -- the comparison of rows tells them apart
 pub tells_rows : Tells same_row

@@ -1,6 +1,7 @@
 -- What a search leaves, on the way to a certificate. No public clause cites this module.
 use Rattle.std.specs.Prelude.{◌≡◌, ◌≢◌, ◌⊎◌, ℕ, ◌+◌, ◌<◌, ◌≤◌, ◌^◌, ◌==◌, Bool, true, false, List, [], ◌∷◌, length, Option, Some, None, pos, ◌≤ℤ◌}
 use Rattle.stow_data.specs.Plans.{Plan}
+use Rattle.stow_data.specs.Shipment.{most_cost}
 use Rattle.proof_trees.specs.Program.{cost_of}
 use Rattle.proof_trees.specs.Boxes.{Box}
 use Rattle.zero_one_rows.specs.Variables.{Voyage}
@@ -12,37 +13,36 @@ use Rattle.certificate.specs.declared.tree.Outcome.TheVariants.{Optimal, Gap, No
 use Rattle.bound_checker.specs.Entries.{ProvesBound}
 use Rattle.model_bridge.specs.Pairs.{ones}
 use Rattle.model_bridge.specs.Sailed.{IsFull, BreaksNone}
-use Rattle.model_bridge.specs.Laws.{most_lifts}
 use Rattle.plan_search.specs.declared.run.Searched.{Searched}
-use Rattle.plan_search.specs.declared.loaded.Counted.{Counted}
-use Rattle.plan_search.specs.Loaded.{AreLoaded, IsCountOf, ArePlans}
+use Rattle.plan_search.specs.declared.loaded.PricedPlans.{PricedPlans}
+use Rattle.plan_search.specs.Loaded.{AreLoaded, IsCostOf, ArePlans}
 use Rattle.plan_search.specs.Trees.{IsSettled, IsLean, IsEarnest, LeavesEmpty, handled}
 
--- plans with their count, or none
+-- plans, or none
 abbrev pub ArePlansOrNone : Voyage → Option (List Plan) → Type 0
 ArePlansOrNone m None = Unit {0}
 ArePlansOrNone m (Some plans) = ArePlans m plans
 
--- legal departures with their rehandle count, or none with one above all
-pub record IsCounted (m : Voyage) (c : Counted) : Type 0 where
+-- legal departures with their cost, or none with one above all
+pub record IsPriced (m : Voyage) (c : PricedPlans) : Type 0 where
   pub plans : ArePlansOrNone m c.plans
-  pub count : IsCountOf m c.plans c.count
+  pub cost : IsCostOf m c.plans c.cost
 
 -- the same, and there are some
-pub record IsPlanned (m : Voyage) (c : Counted) : Type 0 where
+pub record IsPlanned (m : Voyage) (c : PricedPlans) : Type 0 where
   pub planned : c.plans ≢ None
-  pub counted : IsCounted m c
+  pub priced : IsPriced m c
 
 -- the same of the loader's plans
-pub record IsLoaded (m : Voyage) (c : Counted) : Type 0 where
+pub record IsLoaded (m : Voyage) (c : PricedPlans) : Type 0 where
   pub loads : AreLoaded m c.plans
-  pub counted : IsCounted m c
-  pub low : c.count ≤ most_lifts m + 1
+  pub priced : IsPriced m c
+  pub low : c.cost ≤ most_cost m.cargo + 1
 
--- plans that rehandle at most as often as the first ones, and are none only where these are none
-pub record IsImproved (m : Voyage) (first c : Counted) : Type 0 where
-  pub counted : IsCounted m c
-  pub no_worse : c.count ≤ first.count
+-- plans that cost at most as much as the first ones, and are none only where these are none
+pub record IsImproved (m : Voyage) (first c : PricedPlans) : Type 0 where
+  pub priced : IsPriced m c
+  pub no_worse : c.cost ≤ first.cost
   pub unplanned : c.plans ≡ None → first.plans ≡ None
 
 -- the box is full, breaks no base row, and costs this
@@ -80,14 +80,14 @@ abbrev pub IsFullOrNone : Voyage → Option Box → Type 0
 IsFullOrNone m None = Unit {0}
 IsFullOrNone m (Some b) = IsFull m b × BreaksNone m b
 
--- plans that rehandle at most what the box costs
-pub record IsSailed (m : Voyage) (b : Box) (c : Counted) : Type 0 where
+-- plans that cost at most what the box costs
+pub record IsSailed (m : Voyage) (b : Box) (c : PricedPlans) : Type 0 where
   pub planned : c.plans ≢ None
-  pub counted : IsCounted m c
-  pub cheap : pos c.count ≤ℤ cost_of (base m) (ones b)
+  pub priced : IsPriced m c
+  pub cheap : pos c.cost ≤ℤ cost_of (base m) (ones b)
 
 -- the plans of the full box, or the first ones where there is none
-abbrev pub AreChosen : Voyage → Counted → Option Box → Counted → Type 0
+abbrev pub AreChosen : Voyage → PricedPlans → Option Box → PricedPlans → Type 0
 AreChosen m first None c = c ≡ first
 AreChosen m first (Some b) c = IsSailed m b c
 
@@ -97,9 +97,9 @@ outcome_of (Some plans) false = Gap
 outcome_of None true = NoPlan
 outcome_of None false = Undecided
 
-abbrev pub rehandles_of : Option (List Plan) → ℕ → Option ℕ
-rehandles_of (Some plans) n = Some n
-rehandles_of None n = None
+abbrev pub cost_of_plans : Option (List Plan) → ℕ → Option ℕ
+cost_of_plans (Some plans) n = Some n
+cost_of_plans None n = None
 
-abbrev pub head_of : Counted → ℕ → ℕ → Head
-head_of c bound nodes = record { outcome = outcome_of c.plans (bound == c.count); rehandles = rehandles_of c.plans c.count; bound = bound; nodes = nodes }
+abbrev pub head_of : PricedPlans → ℕ → ℕ → Head
+head_of c bound nodes = record { outcome = outcome_of c.plans (bound == c.cost); rehandles = cost_of_plans c.plans c.cost; bound = bound; nodes = nodes }

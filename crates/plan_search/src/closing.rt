@@ -2,23 +2,23 @@
 ghost use Rattle.std.specs.Prelude.{◌≡◌, IfOk};
 ghost use Rattle.model_bridge.specs.Laws.{IsProblem};
 ghost use Rattle.model_bridge.specs.Sailed.{IsFull, BreaksNone};
-ghost use Rattle.plan_search.specs.Found.{IsSailed, IsFullOrNone, AreChosen, outcome_of, rehandles_of, head_of};
+ghost use Rattle.plan_search.specs.Found.{IsSailed, IsFullOrNone, AreChosen, outcome_of, cost_of_plans, head_of};
 
-use crate::loaded::{Counted, count_of};
+use crate::loaded::{PricedPlans, cost_of};
 use certificate::{Head, Outcome};
 use model_bridge::plan_of;
 use std::alloc::Global;
 use stow_data::{Cargo, NoMemory, PlanList, Ship};
 use zero_one_model::{Box01, Model};
 
-/// The plans of a full box that breaks no base row, with their rehandle count.
+/// The plans of a full box that breaks no base row, with their cost.
 pub fn plans_of(
     alloc: Global,
     ship: &Ship,
     cargo: &Cargo,
     model: &Model,
     full: &Box01,
-) -> Result<Counted, NoMemory>
+) -> Result<PricedPlans, NoMemory>
     requires ship { model.now.ship ≡ ship.now }
     requires cargo { model.now.cargo ≡ cargo.now }
     requires problem { IsProblem model.now }
@@ -27,10 +27,10 @@ pub fn plans_of(
     ensures { IfOk result (IsSailed model.now full.now) }
 {
     let plans = plan_of(alloc, ship, cargo, model, full)?;
-    let count = count_of(alloc, ship, cargo, model, &plans)?;
-    Ok(Counted {
+    let cost = cost_of(alloc, ship, cargo, model, &plans)?;
+    Ok(PricedPlans {
         plans: Some(plans),
-        count,
+        cost,
     })
 }
 
@@ -40,9 +40,9 @@ pub fn chosen_plans(
     ship: &Ship,
     cargo: &Cargo,
     model: &Model,
-    first: Counted,
+    first: PricedPlans,
     full: Option<Box01>,
-) -> Result<Counted, NoMemory>
+) -> Result<PricedPlans, NoMemory>
     requires ship { model.now.ship ≡ ship.now }
     requires cargo { model.now.cargo ≡ cargo.now }
     requires problem { IsProblem model.now }
@@ -55,7 +55,7 @@ pub fn chosen_plans(
     }
 }
 
-/// What is known of plans, or of none, by whether the bound reaches their number.
+/// What is known of plans, or of none, by whether the bound reaches their cost.
 fn outcome_of(plans: &Option<PlanList>, is_reached: bool) -> Outcome
     ensures { result ≡ outcome_of plans.now is_reached }
 {
@@ -67,23 +67,23 @@ fn outcome_of(plans: &Option<PlanList>, is_reached: bool) -> Outcome
     }
 }
 
-/// The rehandles of plans, if there are some.
-fn rehandles_of(plans: &Option<PlanList>, count: u64) -> Option<u64>
-    ensures { result ≡ rehandles_of plans.now count }
+/// The cost of plans, if there are some.
+fn cost_of_plans(plans: &Option<PlanList>, cost: u64) -> Option<u64>
+    ensures { result ≡ cost_of_plans plans.now cost }
 {
     match plans {
-        Some(_) => Some(count),
+        Some(_) => Some(cost),
         None => None,
     }
 }
 
 /// The head of the certificate.
-pub fn head_of(chosen: &Counted, bound: u64, nodes: u64) -> Head
+pub fn head_of(chosen: &PricedPlans, bound: u64, nodes: u64) -> Head
     ensures { result ≡ head_of chosen.now bound nodes }
 {
     Head {
-        outcome: outcome_of(&chosen.plans, bound == chosen.count),
-        rehandles: rehandles_of(&chosen.plans, chosen.count),
+        outcome: outcome_of(&chosen.plans, bound == chosen.cost),
+        rehandles: cost_of_plans(&chosen.plans, chosen.cost),
         bound,
         nodes,
     }

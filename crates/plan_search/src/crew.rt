@@ -1,7 +1,6 @@
 //! The search of a program over tables that are built for it.
 ghost use Rattle.std.specs.Prelude.{◌≡◌, ◌<◌, ◌≤◌, ◌+◌, IfOk, length};
-ghost use Rattle.stow_data.specs.Shipment.{IsCargo};
-ghost use Rattle.node_solver.specs.Work.{most_rehandles};
+ghost use Rattle.stow_data.specs.Shipment.{IsCargo, most_cost};
 ghost use Rattle.search_core.specs.Bags.{Every};
 ghost use Rattle.steal_pool.specs.Found.{IsFound};
 ghost use Rattle.parallel_search.specs.Starts.{IsAsked};
@@ -93,7 +92,7 @@ pub fn search_program<G: Gate + Sync, R: Threads + Wait + Sync>(
     requires cargo { IsCargo model.now.cargo }
     requires workers { (0 < workers) × (workers ≤ 16) }
     requires nodes { budget ≤ 100000 }
-    requires start { start ≤ most_rehandles model.now + 1 }
+    requires start { start ≤ most_cost model.now.cargo + 1 }
     ensures found { IfOk result (IsFound model.now start budget) }
     ensures tally { IfOk result (λ f. IsTallied 1024 workers f.journals f.tally) }
 {

@@ -2,10 +2,10 @@
 ghost use Rattle.std.specs.Prelude.{◌≡◌, IfOk, IfSome};
 ghost use Rattle.stow_data.specs.Shipment.{IsCargo};
 ghost use Rattle.model_bridge.specs.Laws.{IsProblem};
-ghost use Rattle.plan_search.specs.Found.{IsCounted, IsPlanned, IsImproved};
+ghost use Rattle.plan_search.specs.Found.{IsPriced, IsPlanned, IsImproved};
 
 use crate::closing::plans_of;
-use crate::loaded::Counted;
+use crate::loaded::PricedPlans;
 use heuristic::{HeuristicLimits, Planner};
 use node_work::root_bound;
 use partial_plan::breaks_none;
@@ -48,7 +48,7 @@ fn looks_of(budget: u64) -> u64 {
     looks.min(MOST_LOOKS)
 }
 
-/// How many rehandles are good enough, so that no voyage is begun once one has no more: what the root tells, where it is cheap.
+/// What cost is good enough, so that no voyage is begun once one costs no more: what the root tells, where that is cheap.
 fn enough_of(alloc: Global, model: &Model, most: u64) -> Result<u64, NoMemory>
     requires { IsCargo model.now.cargo }
 {
@@ -68,7 +68,7 @@ fn guessed(
     model: &Model,
     planner: &mut Planner,
     limits: HeuristicLimits,
-) -> Result<Option<Counted>, NoMemory>
+) -> Result<Option<PricedPlans>, NoMemory>
     requires ship { model.now.ship ≡ ship.now }
     requires cargo { model.now.cargo ≡ cargo.now }
     requires problem { IsProblem model.now }
@@ -94,19 +94,19 @@ pub fn improved(
     model: &Model,
     planner: &mut Planner,
     budget: u64,
-    first: Counted,
-) -> Result<Counted, NoMemory>
+    first: PricedPlans,
+) -> Result<PricedPlans, NoMemory>
     requires ship { model.now.ship ≡ ship.now }
     requires cargo { model.now.cargo ≡ cargo.now }
     requires problem { IsProblem model.now }
-    requires first { IsCounted model.now first }
+    requires first { IsPriced model.now first }
     ensures { IfOk result (IsImproved model.now first) }
 {
-    if first.count == 0 {
+    if first.cost == 0 {
         return Ok(first);
     }
-    let enough = enough_of(alloc, model, first.count)?;
-    if first.count <= enough {
+    let enough = enough_of(alloc, model, first.cost)?;
+    if first.cost <= enough {
         return Ok(first);
     }
     // Any voyage will do to begin with, since its stacks are planned anew again and again.
@@ -117,7 +117,7 @@ pub fn improved(
         looks: looks_of(budget),
     };
     match guessed(alloc, ship, cargo, model, planner, limits)? {
-        Some(found) if found.count < first.count => Ok(found),
+        Some(found) if found.cost < first.cost => Ok(found),
         _ => Ok(first),
     }
 }

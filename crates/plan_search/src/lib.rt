@@ -1,4 +1,4 @@
-//! The plans of a voyage with few rehandles, and the certificate of a bound on the rehandles of every legal voyage.
+//! The plans of a voyage of low cost, and the certificate of a bound on the cost of every legal voyage.
 #![tactic(auto)]
 
 mod closing;

@@ -26,7 +26,7 @@ pub struct Planned {
     pub plans: Option<PlanList>,
 }
 
-/// The best plans that are found of a voyage, with the certificate of a bound on the rehandles of every legal voyage.
+/// The best plans that are found of a voyage, with the certificate of a bound on the cost of every legal voyage.
 ///
 /// The loader's plans come first, then those of voyages by chance where they are better. The search looks for still better
 /// ones, with 1 to 16 workers, at most as many nodes as the budget says, and its tree proves the bound.
@@ -53,18 +53,9 @@ pub fn plan_voyage<G: Gate + Sync, R: Threads + Wait + Sync>(
     let first = loaded(alloc, ship, cargo, model)?;
     let mut planner = Planner::new(alloc, model)?;
     let begun = improved(alloc, ship, cargo, model, &mut planner, budget, first)?;
-    let found = search_tree(
-        rt,
-        alloc,
-        model,
-        planner,
-        workers,
-        budget,
-        begun.count,
-        gate,
-    )?;
+    let found = search_tree(rt, alloc, model, planner, workers, budget, begun.cost, gate)?;
     let chosen = chosen_plans(alloc, ship, cargo, model, begun, found.full)?;
-    let bound = settled_bound(alloc, model, &found.tree, chosen.count)?;
+    let bound = settled_bound(alloc, model, &found.tree, chosen.cost)?;
     bounds_are_of_voyages();
     Ok(Planned {
         head: head_of(&chosen, bound, found.nodes),

@@ -1,6 +1,7 @@
 //! The search, and its tree.
 ghost use Rattle.std.specs.Prelude.{◌≡◌, ◌+◌, ◌≤◌, IfOk};
-ghost use Rattle.model_bridge.specs.Laws.{IsProblem, most_lifts};
+ghost use Rattle.stow_data.specs.Shipment.{most_cost};
+ghost use Rattle.model_bridge.specs.Laws.{IsProblem};
 ghost use Rattle.plan_search.specs.Found.{IsSearched, one_leaf};
 
 use crate::crew::search_program;
@@ -32,7 +33,7 @@ pub struct Searched {
     pub full: Option<Box01>,
 }
 
-/// The tree of one box, in which no row has a multiplier: it closes at 0, for nothing rehandles less.
+/// The tree of one box, in which no row has a multiplier: it closes at 0, for nothing costs less.
 fn one_leaf(alloc: Global) -> Result<Searched, NoMemory>
     ensures { IfOk result (λ s. s ≡ one_leaf) }
 {
@@ -67,7 +68,7 @@ pub fn search_tree<G: Gate + Sync, R: Threads + Wait + Sync>(
     requires most_workers { workers ≤ 16 }
     requires nodes { 1 ≤ budget }
     requires most_nodes { budget ≤ 100000 }
-    requires low { start ≤ most_lifts model.now + 1 }
+    requires low { start ≤ most_cost model.now.cargo + 1 }
     ensures { IfOk result (IsSearched model.now budget start) }
 {
     if start == 0 {

@@ -11,8 +11,8 @@ pub settled_bound-requires-clause-settled : goal.settled_bound-requires-clause-s
 settled_bound-requires-clause-settled g c =
     let m = c.args.model.now in
     let found = c.in_ok-found.found in
-    let low = chosen_low m c.in_ok-begun.begun.count found.best c.in_ok-begun.begun c.in_ok-chosen.chosen found.full refl c.in_ok-found.ensures.best c.in_ok-chosen.ensures in
-    settled_lesser same_row (whole m) found.best c.in_ok-chosen.chosen.count low (map (entry_of m) found.tree) c.in_ok-found.ensures.settled
+    let low = chosen_low m c.in_ok-begun.begun.cost found.best c.in_ok-begun.begun c.in_ok-chosen.chosen found.full refl c.in_ok-found.ensures.best c.in_ok-chosen.ensures in
+    settled_lesser same_row (whole m) found.best c.in_ok-chosen.chosen.cost low (map (entry_of m) found.tree) c.in_ok-found.ensures.settled
 
 pub returns-clause-certified : goal.returns-clause-certified
 returns-clause-certified g c =
