@@ -1,10 +1,10 @@
--- The check of departure files: the rehandles of a legal file set, or the first refusal.
+-- The check of departure files: the cost of a legal file set, or the first refusal.
 use Rattle.std.specs.Prelude.{◌≡◌, ◌⊎◌, ℕ, suc, List, [], ◌∷◌, map, Err}
 use Rattle.stow_data.specs.Ship.{Ship}
 use Rattle.stow_data.specs.Shipment.{Cargo}
 use Rattle.stow_data.specs.Plans.{Plan}
 use Rattle.stowage_rules.specs.declared.faults.RuleBroken.{RuleBroken}
-use Rattle.voyage_meaning.specs.Voyage.{HasCount}
+use Rattle.voyage_meaning.specs.Voyage.{HasCost}
 use Rattle.plan_lifts.specs.Lifted.{IsFirstIllegal, IsLifted}
 use Rattle.plan_lifts.specs.declared.lifting.Lifted.{Lifted}
 use Rattle.plan_lifts.specs.declared.lifting.LiftsFault.{LiftsFault}
@@ -17,11 +17,11 @@ use Rattle.plan_files.specs.declared.checking.FileSet.{FileSet}
 use Rattle.plan_files.specs.declared.plan_faults.PlanNo.{PlanNo}
 use Rattle.plan_files.specs.declared.plan_faults.PlanNo.TheVariants.{File, Rule, NoMemory}
 
--- the files are a legal file set, whose departures take so many rehandles: no legal voyage with them has fewer
-pub record HasRehandles (ship : Ship) (cargo : Cargo) (messages : List (List CellGroup)) (count : ℕ) : Type 0 where
+-- the files are a legal file set, whose departures cost so much: no legal voyage with them costs less
+pub record FilesCost (ship : Ship) (cargo : Cargo) (messages : List (List CellGroup)) (number : ℕ) : Type 0 where
   pub departures : List Plan
   pub legal : IsLegalFileSet ship cargo messages departures
-  pub counts : HasCount ship cargo departures count
+  pub costs : HasCost ship cargo departures number
 
 -- this is why the file of the call shows no plan
 abbrev pub IsFileFault : Ship → Cargo → ℕ → Message → PlanNo → Type 0
@@ -35,10 +35,10 @@ IsUnshown ship cargo call messages NoMemory = Unit {0}
 IsUnshown ship cargo call [] e = ⊥
 IsUnshown ship cargo call (message ∷ messages) e = IsFileFault ship cargo call message e ⊎ (((plan : Plan) × Shows ship cargo call (shown_by message) plan) × IsUnshown ship cargo (suc call) messages e)
 
--- departures of calls from 1 on, by all five rules, with what must be lifted on a voyage with them, and their rehandles
+-- departures of calls from 1 on, by all five rules, with what must be lifted on a voyage with them, and their cost
 pub record HasLifts (ship : Ship) (cargo : Cargo) (departures : List Plan) (lifted : Lifted) : Type 0 where
   pub lists : IsLifted ship cargo departures lifted.lists
-  pub counts : HasCount ship cargo departures lifted.count
+  pub costs : HasCost ship cargo departures lifted.cost
 
 -- the files are a legal file set, whose departures and lifts are these
 pub record IsSetOf (ship : Ship) (cargo : Cargo) (messages : List (List CellGroup)) (set : FileSet) : Type 0 where

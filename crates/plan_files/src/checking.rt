@@ -3,7 +3,7 @@ ghost use Rattle.std.specs.Prelude.{◌≡◌, ◌≤◌, ◌<◌, ◌+◌, ◌^
 ghost use Rattle.stowage_rules.specs.Departure.{HasArrival};
 ghost use Rattle.plan_lifts.specs.Lifted.{ArePlans};
 ghost use Rattle.plan_files.specs.Shown.{ShowAll, Shows, shown_by};
-ghost use Rattle.plan_files.specs.Checked.{HasLifts, HasRehandles, IsFileFault, IsPlanNo, IsRuleFault, IsSetOf, IsUnshown, told_by};
+ghost use Rattle.plan_files.specs.Checked.{FilesCost, HasLifts, IsFileFault, IsPlanNo, IsRuleFault, IsSetOf, IsUnshown, told_by};
 
 use crate::file_faults::FileNo;
 use crate::plan_faults::PlanNo;
@@ -19,7 +19,7 @@ use stow_data::{CallNo, Cargo, Plan, PlanList, Ship};
 pub struct FileSet {
     /// The departures, of which the first is that of call 1.
     pub plans: PlanList,
-    /// What must be lifted on a voyage with them, and their rehandles.
+    /// What must be lifted on a voyage with them, and their cost.
     pub lifted: Lifted,
 }
 
@@ -126,7 +126,7 @@ pub fn file_set_of(
     shown_set(alloc, ship, cargo, messages.as_slice())
 }
 
-/// The rehandles of these departures.
+/// The cost of these departures.
 pub fn check_plan(
     alloc: Global,
     ship: &Ship,
@@ -136,10 +136,10 @@ pub fn check_plan(
     requires arrival { HasArrival ship.now cargo.now }
     requires each_call { length messages.now + 1 ≡ length cargo.now.rotation }
     requires few { All (λ m. length m.groups ≤ 2 ^ 29) messages.now }
-    ensures { MatchResult result (λ count. HasRehandles ship.now cargo.now (map shown_by messages.now) count) (λ e. IsPlanNo ship.now cargo.now messages.now e) }
+    ensures { MatchResult result (λ cost. FilesCost ship.now cargo.now (map shown_by messages.now) cost) (λ e. IsPlanNo ship.now cargo.now messages.now e) }
 {
     match file_set_of(alloc, ship, cargo, messages) {
-        Ok(set) => Ok(set.lifted.count),
+        Ok(set) => Ok(set.lifted.cost),
         Err(no) => Err(no),
     }
 }

@@ -10,7 +10,7 @@ ghost use Rattle.plan_files.specs.declared.plan_faults.PlanNo.{PlanNo};
 ghost use Rattle.plan_files.specs.declared.plan_faults.PlanNo.TheVariants.{NoMemory as WantOfMemory};
 ghost use Rattle.plan_files.specs.Checked.{IsPlanNo};
 
-/// Where files are a legal file set, only want of memory is an answer in place of their rehandles.
+/// Where files are a legal file set, only want of memory is an answer in place of their cost.
 pub fn legal_is_checked()
     ensures { (ship : Ship) (cargo : Cargo) (messages : List Message) (departures : List Plan) (e : PlanNo) → IsShip ship → IsCargo cargo → IsLegalFileSet ship cargo (map shown_by messages) departures → IsPlanNo ship cargo messages e → e ≡ WantOfMemory }
 {}

@@ -1,4 +1,4 @@
-//! Departure files (ISO 9735, SMDG BAPLIE 2.2): the file of a call, as a message and as its text; the plan that a file shows, or why it shows none; and whether files show the departures of a legal voyage, and how many rehandles these take.
+//! Departure files (ISO 9735, SMDG BAPLIE 2.2): the file of a call, as a message and as its text; the plan that a file shows, or why it shows none; and whether files show the departures of a legal voyage, and what these cost.
 #![tactic(auto)]
 
 mod cell_groups;
