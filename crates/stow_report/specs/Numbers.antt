@@ -17,10 +17,11 @@ numbers_line (Rehandles said found) = of_numbers 1 (pos said ∷ pos found ∷ [
 numbers_line (Nodes said found) = of_numbers 2 (pos said ∷ pos found ∷ [])
 numbers_line Outcome = of_numbers 3 []
 
-abbrev pub rehandles_text : Option ℕ → List ℕ
-rehandles_text None = codes "none"
-rehandles_text (Some n) = decimal n
+-- a cost, or that there is none
+abbrev pub cost_text : Option ℕ → List ℕ
+cost_text None = codes "none"
+cost_text (Some n) = decimal n
 
--- that all holds, and the certificate's rehandles and bound
+-- that all holds, and the certificate's cost and bound
 abbrev pub yes_text : Head → List ℕ
-yes_text head = codes "check yes\nrehandles " ++ (rehandles_text head.rehandles ++ (codes "\nbound " ++ (decimal head.bound ++ codes "\n")))
+yes_text head = codes "check yes\ncost " ++ (cost_text head.rehandles ++ (codes "\nbound " ++ (decimal head.bound ++ codes "\n")))

@@ -1,4 +1,4 @@
--- The report of a plan: the outcome, the rehandles, the bound and the number of nodes, a line for each.
+-- The report of a plan: the outcome, the cost, the bound and the number of nodes, a line for each.
 use Rattle.std.specs.Prelude.{ℕ, List, ◌++◌, codes, Option, Some, None}
 use Rattle.std.specs.Fmt.{decimal}
 use Rattle.certificate.specs.declared.tree.Head.{Head}
@@ -12,10 +12,10 @@ number_line word n = word ++ (decimal n ++ codes "\n")
 abbrev pub outcome_line : Outcome → List ℕ
 outcome_line outcome = codes "outcome " ++ (outcome_text outcome ++ codes "\n")
 
--- the rehandles of the plan, or none where there is no plan
-abbrev pub rehandles_line : Option ℕ → List ℕ
-rehandles_line None = codes "rehandles none\n"
-rehandles_line (Some n) = number_line (codes "rehandles ") n
+-- the cost of the plan, or none where there is no plan
+abbrev pub cost_line : Option ℕ → List ℕ
+cost_line None = codes "cost none\n"
+cost_line (Some n) = number_line (codes "cost ") n
 
 abbrev pub report_text : Head → List ℕ
-report_text head = outcome_line head.outcome ++ (rehandles_line head.rehandles ++ (number_line (codes "bound ") head.bound ++ number_line (codes "nodes ") head.nodes))
+report_text head = outcome_line head.outcome ++ (cost_line head.rehandles ++ (number_line (codes "bound ") head.bound ++ number_line (codes "nodes ") head.nodes))

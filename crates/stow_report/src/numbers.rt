@@ -1,6 +1,6 @@
 //! A certificate's numbers: why they are refused, and what is printed of a certificate that is confirmed.
 ghost use Rattle.std.specs.Prelude.{◌≡◌, IfOk, OnOk, ◌++◌};
-ghost use Rattle.stow_report.specs.Numbers.{numbers_line, of_numbers, rehandles_text, yes_text};
+ghost use Rattle.stow_report.specs.Numbers.{numbers_line, of_numbers, cost_text, yes_text};
 
 use crate::lines::{Group, Line, numbered};
 use certificate::Head;
@@ -11,11 +11,11 @@ use stow_data::{Bytes, NoMemory};
 /// Why the numbers of a certificate are refused: the first of these that holds.
 #[derive(Clone, Copy)]
 pub enum NumbersNo {
-    /// The departure files take another number of rehandles than the certificate says.
+    /// The departure files have another cost than the certificate says in its line `rehandles`.
     Rehandles { said: u64, found: u64 },
     /// The tree has another number of records that aren't left open.
     Nodes { said: u64, found: u64 },
-    /// The outcome doesn't fit the rehandles and the bound.
+    /// The outcome doesn't fit the cost and the bound.
     Outcome,
 }
 
@@ -45,22 +45,22 @@ pub fn numbers_line(alloc: Global, no: NumbersNo) -> Result<Line, NoMemory>
     }
 }
 
-/// Appends a number of rehandles, or that there is none.
-fn write_rehandles(out: &mut Bytes, rehandles: Option<u64>) -> Result<(), NoMemory>
-    ensures { OnOk result (out.new ≡ out.old ++ rehandles_text rehandles) }
+/// Appends a cost, or that there is none.
+fn write_cost(out: &mut Bytes, cost: Option<u64>) -> Result<(), NoMemory>
+    ensures { OnOk result (out.new ≡ out.old ++ cost_text cost) }
 {
-    match rehandles {
+    match cost {
         Some(number) => out.extend(Buffer::new().format(number).as_bytes()),
         None => out.extend(b"none"),
     }
 }
 
-/// What a check prints where it refuses nothing: that it says yes, and the certificate's rehandles and bound.
+/// What a check prints where it refuses nothing: that it says yes, and the certificate's cost and bound.
 pub fn confirmed(alloc: Global, head: &Head) -> Result<Bytes, NoMemory>
     ensures { IfOk result (λ text. text ≡ yes_text head.now) }
 {
-    let mut text = Bytes::of(alloc, b"check yes\nrehandles ")?;
-    write_rehandles(&mut text, head.rehandles)?;
+    let mut text = Bytes::of(alloc, b"check yes\ncost ")?;
+    write_cost(&mut text, head.rehandles)?;
     text.extend(b"\nbound ")?;
     text.extend(Buffer::new().format(head.bound).as_bytes())?;
     text.push(b'\n')?;

@@ -1,21 +1,21 @@
 //! The report of a plan.
 ghost use Rattle.std.specs.Prelude.{◌≡◌, ◌++◌, IfOk, OnOk};
 ghost use Rattle.certificate.specs.Text.{outcome_text};
-ghost use Rattle.stow_report.specs.Reports.{number_line, rehandles_line, outcome_line, report_text};
+ghost use Rattle.stow_report.specs.Reports.{number_line, cost_line, outcome_line, report_text};
 
 use certificate::{Head, Outcome};
 use itoa::Buffer;
 use std::alloc::Global;
 use stow_data::{Bytes, NoMemory};
 
-/// What is printed of a plan: its outcome, its rehandles, the bound and the number of nodes, as the head of its
+/// What is printed of a plan: its outcome, its cost, the bound and the number of nodes, as the head of its
 /// certificate has them, a line for each.
 pub fn report(alloc: Global, head: &Head) -> Result<Bytes, NoMemory>
     ensures { IfOk result (λ text. text ≡ report_text head.now) }
 {
     let mut out = Bytes::new(alloc);
     write_outcome(&mut out, head.outcome)?;
-    write_rehandles(&mut out, head.rehandles)?;
+    write_cost(&mut out, head.rehandles)?;
     write_number(&mut out, b"bound ", head.bound)?;
     write_number(&mut out, b"nodes ", head.nodes)?;
     Ok(out)
@@ -42,13 +42,13 @@ fn write_outcome(out: &mut Bytes, outcome: Outcome) -> Result<(), NoMemory>
     out.push(b'\n')
 }
 
-/// Appends the line of the rehandles, or of none.
-fn write_rehandles(out: &mut Bytes, rehandles: Option<u64>) -> Result<(), NoMemory>
-    ensures { OnOk result (out.new ≡ out.old ++ rehandles_line rehandles) }
+/// Appends the line of the cost, or of none.
+fn write_cost(out: &mut Bytes, cost: Option<u64>) -> Result<(), NoMemory>
+    ensures { OnOk result (out.new ≡ out.old ++ cost_line cost) }
 {
-    match rehandles {
-        None => out.extend(b"rehandles none\n"),
-        Some(count) => write_number(out, b"rehandles ", count),
+    match cost {
+        None => out.extend(b"cost none\n"),
+        Some(number) => write_number(out, b"cost ", number),
     }
 }
 
