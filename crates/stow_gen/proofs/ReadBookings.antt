@@ -10,7 +10,7 @@ use Rattle.stow_data.specs.Digits.{digit}
 use Rattle.stow_gen.specs.Draws.{after_lot, lot}
 use Rattle.stow_gen.specs.Bookings.{bookings_text}
 use Rattle.bookings.specs.declared.shipment.Booking.{Booking}
-use Rattle.bookings.specs.Reading.{booking_at, bookings_in, bookings_of, containers_in, rotation_in, has_id}
+use Rattle.bookings.specs.Reading.{booking_at, bookings_in, bookings_of, containers_in, rotation_in, tariff_in, has_id}
 use Rattle.bookings.specs.Rules.{IsBookings}
 use Rattle.bookings.proofs.RuleLaws.{bookings_are}
 use Rattle.stow_gen.specs.MadeBookings.{booking_of_lot, bookings_from, bookings_with, id_of, made_bookings}
@@ -71,7 +71,7 @@ count (suc left) k state = ap suc (count left (k + 1) (after_lot state))
 -- over any entries that are 120 tables
 top_read : (entries : Items) (bookings : List Booking) → all_tables entries ≡ true → item_count entries ≡ 120 → each_after (booking_at 6) [] entries ≡ Ok bookings
     → bookings_in (top entries) ≡ Ok (bookings_with bookings)
-unfolding bookings_in rotation_in containers_in each_after
+unfolding bookings_in rotation_in tariff_in containers_in each_after
 top_read entries bookings a b c = rw (a, b, c) refl
 
 pub made_is_read : (n : ℕ) → bookings_of (bookings_text n) ≡ Ok (made_bookings n)

@@ -1,5 +1,5 @@
 -- The bookings of the made ship of a number: 120 containers over six calls.
-use Rattle.std.specs.Prelude.{ℕ, zero, suc, ◌+◌, Bool, false, codes, negsuc, if◌then◌else◌, List, [], ◌∷◌, ◌++◌, Some, None}
+use Rattle.std.specs.Prelude.{ℕ, zero, suc, ◌+◌, Bool, false, codes, negsuc, if◌then◌else◌, List, [], ◌∷◌, ◌++◌, Some, None, replicate}
 use Rattle.stow_data.specs.declared.geometry.Length.TheVariants.{Forty}
 use Rattle.stow_gen.specs.declared.draws.Lot.{Lot}
 use Rattle.stow_gen.specs.Draws.{after_lot, lot}
@@ -49,6 +49,7 @@ bookings_with containers = record {
   recipient = codes "STOW";
   date = codes "2601010000";
   rotation = made_rotation;
+  tariff = replicate 5 1;
   containers = containers;
 }
 
