@@ -4,7 +4,7 @@ use Rattle.std.specs.Prelude.{IsSome}
 use Rattle.std.proofs.Math.Nat.{min-le_left}
 use Rattle.std.proofs.lemmas.Option.{same_Some}
 use Rattle.stow_data.specs.Ship.{Ship}
-use Rattle.stow_data.specs.Shipment.{Cargo, IsCargo}
+use Rattle.stow_data.specs.Shipment.{Cargo, IsCargo, most_cost}
 use Rattle.stow_data.specs.Profile.{IsShip}
 use Rattle.stow_data.specs.Plans as stowed
 use Rattle.proof_trees.proofs.Lesser.{proves_lesser}
@@ -18,10 +18,10 @@ use Rattle.certificate.specs.declared.refusals.BoundNo.{BoundNo}
 use Rattle.certificate.specs.Entries.{same_row, entry_of}
 use Rattle.bound_checker.specs.Entries.{ProvesBound}
 use Rattle.bound_checker.proofs.Bounding.{proves_nowhere}
-use Rattle.model_bridge.specs.Laws.{IsProblem, most_lifts}
+use Rattle.model_bridge.specs.Laws.{IsProblem}
 use Rattle.plan_files.specs.Shown.{IsLegalFileSet, shown_by}
 use Rattle.plan_files.specs.declared.plan_faults.PlanNo.{PlanNo}
-use Rattle.plan_files.specs.Checked.{HasRehandles, IsPlanNo}
+use Rattle.plan_files.specs.Checked.{FilesCost, IsPlanNo}
 use Rattle.plan_files.proofs.Files.{not_refused}
 use Rattle.stow_report.specs.declared.numbers.NumbersNo.{NumbersNo}
 use Rattle.stow_report.specs.declared.numbers.NumbersNo.TheVariants.{Rehandles, Nodes, Outcome}
@@ -84,7 +84,7 @@ module _ (ship : Ship) (cargo : Cargo) (rules : IsShip ship) (shipped : IsCargo 
   one_found (Some said) (Some a) None h k = absurd k
   one_found (Some said) (Some a) (Some b) h k =
       let same = one_messages texts h.messages k.messages h.read k.read in
-      ap (λ (n : ℕ). Some n) (one_number ship cargo rules shipped k.messages a b (subst (λ (ms : List Message). HasRehandles ship cargo (map shown_by ms) a) same h.set) k.set)
+      ap (λ (n : ℕ). Some n) (one_number ship cargo rules shipped k.messages a b (subst (λ (ms : List Message). FilesCost ship cargo (map shown_by ms) a) same h.set) k.set)
 
   one_illegal : (a b : PlanNo) → AreIllegal ship cargo texts a → AreIllegal ship cargo texts b → a ≡ b
   one_illegal a b h k =
@@ -121,7 +121,7 @@ same_two : (make : ℕ → ℕ → NumbersNo) (a b c d : ℕ) → a ≡ b → c 
 same_two make a b c d e f = ap (λ (x : ℕ). make x c) e ∙ ap (λ (x : ℕ). make b x) f
 
 module _ (m : Voyage) (head : Head) (tree : List Record) where
-  -- where the rehandles that are said are found, they don't differ
+  -- where the cost that is said is found, they don't differ
   not_other : (found : Option ℕ) (said n : ℕ) → head.rehandles ≡ Some said → found ≡ Some n → said ≢ n → found ≡ head.rehandles → ⊥
   not_other found said n e f differ same = differ (sym (same_Some n said (sym f ∙ same ∙ e)))
 
@@ -148,7 +148,7 @@ module _ (m : Voyage) (head : Head) (tree : List Record) where
 
 module _ (m : Voyage) (problem : IsProblem m) (head : Head) (tree : List Record) (texts : List (List ℕ)) where
   proves_checked : ProvesBound m tree head.bound → ProvesBound m tree (checked m head.bound)
-  proves_checked h = proves_lesser same_row (whole m) head.bound (checked m head.bound) (min-le_left head.bound (most_lifts m + 1)) (map (entry_of m) tree) h
+  proves_checked h = proves_lesser same_row (whole m) head.bound (checked m head.bound) (min-le_left head.bound (most_cost m.cargo + 1)) (map (entry_of m) tree) h
 
   pub yes_or_no : (cause : JudgeNo) → cause ≢ NoMemory → Holds m head tree texts → IsNo m head tree texts cause → ⊥
   yes_or_no (Text at fault) named h k = legal_not_faulty m.ship m.cargo problem.ship problem.cargo texts head.rehandles head.rehandles at fault h.files k.0 k.1

@@ -1,4 +1,4 @@
--- Departure files are legal with one number of rehandles, or are refused for one cause.
+-- Departure files are legal with one cost, or are refused for one cause.
 use Rattle.std.proofs.Common.{◌≡◌, ◌≢◌, ℕ, suc, List, [], ◌∷◌, map, Result, Ok, Err, refl, sym, ap, subst, ◌∙◌, inl, inr, arith}
 use Rattle.stow_data.specs.Ship.{Ship}
 use Rattle.stow_data.specs.Shipment.{Cargo, IsCargo}
@@ -6,7 +6,7 @@ use Rattle.stow_data.specs.Profile.{IsShip}
 use Rattle.stow_data.specs.Plans.{Plan}
 use Rattle.stowage_rules.specs.declared.faults.RuleBroken.{RuleBroken}
 use Rattle.stowage_rules.proofs.InRank.{breaks}
-use Rattle.voyage_meaning.specs.Voyage.{HasCount}
+use Rattle.voyage_meaning.specs.Voyage.{HasCost}
 use Rattle.plan_lifts.specs.Lifted.{IsFirstIllegal}
 use Rattle.baplie.specs.declared.parts.Message.{Message}
 use Rattle.plan_files.specs.Shown.{ShowAll, Shows, shown_by}
@@ -15,7 +15,7 @@ use Rattle.plan_files.specs.PlanOf.{plan_of}
 use Rattle.plan_files.proofs.Shown.{shows_told}
 use Rattle.plan_files.specs.declared.plan_faults.PlanNo.{PlanNo}
 use Rattle.plan_files.specs.declared.plan_faults.PlanNo.TheVariants.{File, Rule, NoMemory}
-use Rattle.plan_files.specs.Checked.{HasRehandles, IsPlanNo, IsUnshown}
+use Rattle.plan_files.specs.Checked.{FilesCost, IsPlanNo, IsUnshown}
 use Rattle.voyage_files.proofs.OneRule.{one_rule}
 
 same_ok : {A E : Type 0} (r : Result A E) (a b : A) → r ≡ Ok a → r ≡ Ok b → a ≡ b
@@ -41,14 +41,14 @@ module _ (ship : Ship) (cargo : Cargo) (rules : IsShip ship) (shipped : IsCargo 
       ap (λ (z : Plan). z ∷ ps) (same_ok (plan_of ship cargo call m.groups) p q (tells call m p h.0) (tells call m q k.0))
       ∙ ap (λ (zs : List Plan). q ∷ zs) (one_set (suc call) messages ps qs h.1 k.1)
 
-  -- ## Rehandles
+  -- ## The cost
 
-  one_count : (plans : List Plan) (n k : ℕ) → HasCount ship cargo plans n → HasCount ship cargo plans k → n ≡ k
-  one_count plans n k h g = omega (arith, h.least g.moves g.is_legal, g.is_number, g.least h.moves h.is_legal, h.is_number)
+  one_cost : (plans : List Plan) (n k : ℕ) → HasCost ship cargo plans n → HasCost ship cargo plans k → n ≡ k
+  one_cost plans n k h g = omega (arith, h.least g.moves g.is_legal, g.is_number, g.least h.moves h.is_legal, h.is_number)
 
-  pub one_number : (messages : List Message) (n k : ℕ) → HasRehandles ship cargo (map shown_by messages) n → HasRehandles ship cargo (map shown_by messages) k → n ≡ k
+  pub one_number : (messages : List Message) (n k : ℕ) → FilesCost ship cargo (map shown_by messages) n → FilesCost ship cargo (map shown_by messages) k → n ≡ k
   one_number messages n k h g =
-      one_count g.departures n k (subst (λ (ps : List Plan). HasCount ship cargo ps n) (one_set 1 messages h.departures g.departures h.legal.shown g.legal.shown) h.counts) g.counts
+      one_cost g.departures n k (subst (λ (ps : List Plan). HasCost ship cargo ps n) (one_set 1 messages h.departures g.departures h.legal.shown g.legal.shown) h.costs) g.costs
 
   -- ## Refusals
 

@@ -77,6 +77,6 @@ module _ (ship : Ship) (cargo : Cargo) (texts : List (List ℕ)) where
   taken (Ok set) ms h k = record { messages = ms; read = h; is_set = k }
   taken (Err cause) ms h k = set_refused ms cause h k
 
-  -- a file set takes the rehandles of its lifts
-  pub legal_of : (set : FileSet) → AreSetOf ship cargo texts set → AreLegal ship cargo texts set.lifted.count
-  legal_of set h = record { messages = h.messages; read = h.read; set = record { departures = set.plans; legal = h.is_set.legal; counts = h.is_set.lifts.counts } }
+  -- a file set has the cost of its lifts
+  pub legal_of : (set : FileSet) → AreSetOf ship cargo texts set → AreLegal ship cargo texts set.lifted.cost
+  legal_of set h = record { messages = h.messages; read = h.read; set = record { departures = set.plans; legal = h.is_set.legal; costs = h.is_set.lifts.costs } }

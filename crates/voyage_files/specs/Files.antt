@@ -1,4 +1,4 @@
--- The departure files of a voyage as texts: their messages, and the rehandles that they take.
+-- The departure files of a voyage as texts: their messages, and their cost.
 use Rattle.std.specs.Prelude.{◌≡◌, ◌≢◌, ◌⊎◌, ℕ, suc, List, [], ◌∷◌, map, Option, Some, None}
 use Rattle.stow_data.specs.Ship.{Ship}
 use Rattle.stow_data.specs.Shipment.{Cargo}
@@ -11,7 +11,7 @@ use Rattle.plan_files.specs.Shown.{shown_by}
 use Rattle.plan_files.specs.declared.checking.FileSet.{FileSet}
 use Rattle.plan_files.specs.declared.plan_faults.PlanNo.{PlanNo}
 use Rattle.plan_files.specs.declared.plan_faults.PlanNo.TheVariants as plan
-use Rattle.plan_files.specs.Checked.{HasRehandles, IsPlanNo, IsSetOf}
+use Rattle.plan_files.specs.Checked.{FilesCost, IsPlanNo, IsSetOf}
 use Rattle.voyage_files.specs.declared.refusals.JudgeNo.{JudgeNo}
 use Rattle.voyage_files.specs.declared.refusals.JudgeNo.TheVariants.{Text, Plan, NoMemory}
 
@@ -31,11 +31,11 @@ abbrev pub IsFirstFaulty : ℕ → List (List ℕ) → ℕ → BaplieFault → T
 IsFirstFaulty call [] at fault = ⊥
 IsFirstFaulty call (text ∷ texts) at fault = ((at ≡ call) × HasTextFault text fault) ⊎ (((m : Message) × IsMessageOf text m) × IsFirstFaulty (suc call) texts at fault)
 
--- the texts are those of bay plan messages, which are a legal file set that takes so many rehandles
-pub record AreLegal (ship : Ship) (cargo : Cargo) (texts : List (List ℕ)) (rehandles : ℕ) : Type 0 where
+-- the texts are those of bay plan messages, which are a legal file set of this cost
+pub record AreLegal (ship : Ship) (cargo : Cargo) (texts : List (List ℕ)) (cost : ℕ) : Type 0 where
   pub messages : List Message
   pub read : AreMessages texts messages
-  pub set : HasRehandles ship cargo (map shown_by messages) rehandles
+  pub set : FilesCost ship cargo (map shown_by messages) cost
 
 -- the same file set, with its departures and what must be lifted on a voyage with them
 pub record AreSetOf (ship : Ship) (cargo : Cargo) (texts : List (List ℕ)) (set : FileSet) : Type 0 where
@@ -50,7 +50,7 @@ pub record AreIllegal (ship : Ship) (cargo : Cargo) (texts : List (List ℕ)) (c
   pub named : cause ≢ plan.NoMemory
   pub refused : IsPlanNo ship cargo messages cause
 
--- where a certificate says a number of rehandles, the departure files are a legal file set, which takes the number that is found; where it says none, they aren't looked at
+-- where a certificate says a cost, the departure files are a legal file set of the cost that is found; where it says none, they aren't looked at
 abbrev pub FilesTake : Ship → Cargo → List (List ℕ) → Option ℕ → Option ℕ → Type 0
 FilesTake ship cargo texts None None = Unit {0}
 FilesTake ship cargo texts (Some said) (Some found) = AreLegal ship cargo texts found
@@ -84,7 +84,7 @@ IsTakenNo ship cargo texts (Plan cause) = AreIllegal ship cargo texts cause
 IsTakenNo ship cargo texts NoMemory = Unit {0}
 IsTakenNo ship cargo texts _ = ⊥
 
--- they are refused only where a certificate says a number of rehandles
+-- they are refused only where a certificate says a cost
 abbrev pub IsFilesNo : Ship → Cargo → List (List ℕ) → Option ℕ → JudgeNo → Type 0
 IsFilesNo ship cargo texts None cause = ⊥
 IsFilesNo ship cargo texts (Some said) cause = IsTakenNo ship cargo texts cause

@@ -1,5 +1,6 @@
 -- What a certificate and the departure files of a voyage say, and the first part of it that doesn't hold.
 use Rattle.std.specs.Prelude.{◌≡◌, ◌≢◌, ◌<◌, ◌≤◌, ℕ, ◌+◌, min, Bool, true, false, List, count_by, Option, Some, None, IsSome}
+use Rattle.stow_data.specs.Shipment.{most_cost}
 use Rattle.zero_one_rows.specs.Variables.{Voyage}
 use Rattle.certificate.specs.declared.tree.Head.{Head}
 use Rattle.certificate.specs.declared.tree.Outcome.{Outcome}
@@ -10,7 +11,7 @@ use Rattle.certificate.specs.declared.tree.End.TheVariants.{Leaf, Left, Branch}
 use Rattle.certificate.specs.declared.refusals.BoundNo.{BoundNo}
 use Rattle.bound_checker.specs.Entries.{ProvesBound}
 use Rattle.bound_checker.specs.Faults.{first_fault}
-use Rattle.model_bridge.specs.Laws.{IsVoyageBound, HasNoVoyage, most_lifts}
+use Rattle.model_bridge.specs.Laws.{IsVoyageBound, HasNoVoyage}
 use Rattle.stow_report.specs.declared.numbers.NumbersNo.{NumbersNo}
 use Rattle.stow_report.specs.declared.numbers.NumbersNo.TheVariants as numbers
 use Rattle.voyage_files.specs.declared.refusals.JudgeNo.{JudgeNo}
@@ -26,34 +27,34 @@ was_handled (Branch x) = true
 abbrev pub handled : List Record → ℕ
 handled tree = count_by (λ r. was_handled r.end) tree
 
--- The outcome fits the rehandles and the bound: the plan is as good as the bound, or not quite; there is no legal voyage, since the bound is above the count of any least lifts; or the bound says no such thing
+-- The outcome fits the cost and the bound: the plan is as good as the bound, or not quite; there is no legal voyage, since the bound is above the cost of any least lifts; or the bound says no such thing
 abbrev pub Fits : Voyage → Outcome → Option ℕ → ℕ → Type 0
-Fits m Optimal (Some rehandles) bound = bound ≡ rehandles
-Fits m Gap (Some rehandles) bound = bound < rehandles
-Fits m NoPlan None bound = bound ≡ most_lifts m + 1
-Fits m Undecided None bound = bound ≤ most_lifts m
+Fits m Optimal (Some cost) bound = bound ≡ cost
+Fits m Gap (Some cost) bound = bound < cost
+Fits m NoPlan None bound = bound ≡ most_cost m.cargo + 1
+Fits m Undecided None bound = bound ≤ most_cost m.cargo
 Fits m Optimal None bound = ⊥
 Fits m Gap None bound = ⊥
-Fits m NoPlan (Some rehandles) bound = ⊥
-Fits m Undecided (Some rehandles) bound = ⊥
+Fits m NoPlan (Some cost) bound = ⊥
+Fits m Undecided (Some cost) bound = ⊥
 
--- all that the certificate says holds: of the departure files, where it says a number of rehandles; of the tree; and of the numbers
+-- all that the certificate says holds: of the departure files, where it says a cost; of the tree; and of the numbers
 pub record Holds (m : Voyage) (head : Head) (tree : List Record) (texts : List (List ℕ)) : Type 0 where
   pub files : FilesTake m.ship m.cargo texts head.rehandles head.rehandles
   pub proves : ProvesBound m tree head.bound
   pub nodes : head.nodes ≡ handled tree
   pub fits : Fits m head.outcome head.rehandles head.bound
 
--- what then holds of all legal voyages: none has fewer rehandles than the bound, and where the outcome says so there is none
+-- what then holds of all legal voyages: none costs less than the bound, and where the outcome says so there is none
 pub record Bounds (m : Voyage) (head : Head) : Type 0 where
   pub bounds : IsVoyageBound m head.bound
   pub none : head.outcome ≡ NoPlan → HasNoVoyage m
 
--- the bound at which the tree is checked: one above the rehandles of any least lifts already says that there is no legal voyage
+-- the bound at which the tree is checked: one above the cost of any least lifts already says that there is no legal voyage
 abbrev pub checked : Voyage → ℕ → ℕ
-checked m bound = min bound (most_lifts m + 1)
+checked m bound = min bound (most_cost m.cargo + 1)
 
--- why numbers are refused, where the files take these rehandles: each comes where those before it don't
+-- why numbers are refused, where the files have this cost: each comes where those before it don't
 abbrev pub IsNumbersNo : Voyage → Head → List Record → Option ℕ → NumbersNo → Type 0
 IsNumbersNo m head tree found (numbers.Rehandles said n) = (head.rehandles ≡ Some said) × (found ≡ Some n) × (said ≢ n)
 IsNumbersNo m head tree found (numbers.Nodes said n) = (found ≡ head.rehandles) × (said ≡ head.nodes) × (n ≡ handled tree) × (said ≢ n)
@@ -72,7 +73,7 @@ pub record RefusesNumbers (m : Voyage) (head : Head) (tree : List Record) (texts
   pub proves : ProvesBound m tree (checked m head.bound)
   pub why : IsNumbersNo m head tree found cause
 
--- the first part that doesn't hold: the departure files, each by itself and then as a set, where the certificate says a number of rehandles; then the tree; then the numbers
+-- the first part that doesn't hold: the departure files, each by itself and then as a set, where the certificate says a cost; then the tree; then the numbers
 abbrev pub IsNo : Voyage → Head → List Record → List (List ℕ) → JudgeNo → Type 0
 IsNo m head tree texts (Text call fault) = IsSome head.rehandles × IsFirstFaulty 1 texts call fault
 IsNo m head tree texts (Plan cause) = IsSome head.rehandles × AreIllegal m.ship m.cargo texts cause
@@ -88,13 +89,13 @@ IsTreeNo m tree bound (Bound cause) = first_fault m tree bound ≡ Some cause
 IsTreeNo m tree bound NoMemory = Unit {0}
 IsTreeNo m tree bound _ = ⊥
 
--- the number of rehandles that a certificate says and the one that is found differ
+-- the cost that a certificate says and the one that is found differ
 abbrev pub AreOther : Option ℕ → Option ℕ → NumbersNo → Type 0
 AreOther (Some a) (Some b) (numbers.Rehandles said found) = (a ≡ said) × (b ≡ found) × (said ≢ found)
 AreOther _ _ _ = ⊥
 
 -- the numbers are those that are found, and the outcome fits
 pub record NumbersHold (m : Voyage) (head : Head) (tree : List Record) (found : Option ℕ) : Type 0 where
-  pub rehandles : found ≡ head.rehandles
+  pub cost : found ≡ head.rehandles
   pub nodes : head.nodes ≡ handled tree
   pub fits : Fits m head.outcome head.rehandles head.bound

@@ -1,12 +1,13 @@
 //! The parts of a check, in their order.
 ghost use Rattle.std.specs.Prelude.{◌≡◌, ◌<◌, ◌≤◌, ◌^◌, ◌+◌, All, IfErr, IsSome, MatchResult, OnOk, length, min};
 ghost use Rattle.bound_checker.specs.Entries.{ProvesBound};
-ghost use Rattle.model_bridge.specs.Laws.{IsProblem, IsVoyageBound, HasNoVoyage, most_lifts};
+ghost use Rattle.stow_data.specs.Shipment.{most_cost};
+ghost use Rattle.model_bridge.specs.Laws.{IsProblem, IsVoyageBound, HasNoVoyage};
 ghost use Rattle.voyage_files.specs.Judged.{Bounds, Holds, IsNo, IsTreeNo, checked};
 
 use crate::numbers::numbers_no;
 use crate::refusals::JudgeNo;
-use crate::texts::rehandles_found;
+use crate::texts::cost_found;
 use bound_checker::{BoundNo, check_bound};
 use certificate::{Head, Tree};
 use model_bridge::bounds_are_of_voyages;
@@ -14,7 +15,7 @@ use std::alloc::Global;
 use stow_data::{Bytes, Cargo, Ship};
 use zero_one_model::Model;
 
-/// A bound, or the least above the rehandles of any least lifts where it is greater.
+/// A bound, or the least above the cost of any least lifts where it is greater.
 fn checked(bound: u64, most: u64) -> u64
     ensures { result ≡ min bound (most + 1) }
 {
@@ -27,7 +28,7 @@ fn check_tree(alloc: Global, model: &Model, tree: &Tree, bound: u64) -> Result<(
     requires few { length tree.now < 2 ^ 32 }
     ensures proves { OnOk result (ProvesBound model.now tree.now bound) }
     ensures bounds { OnOk result (IsVoyageBound model.now bound) }
-    ensures none { OnOk result (bound ≡ most_lifts model.now + 1 → HasNoVoyage model.now) }
+    ensures none { OnOk result (bound ≡ most_cost model.now.cargo + 1 → HasNoVoyage model.now) }
     ensures refused { IfErr result (IsTreeNo model.now tree.now bound) }
 {
     bounds_are_of_voyages();
@@ -38,10 +39,10 @@ fn check_tree(alloc: Global, model: &Model, tree: &Tree, bound: u64) -> Result<(
     }
 }
 
-/// Whether all holds that a certificate says of a voyage: where it says a number of rehandles, the texts of the
+/// Whether all holds that a certificate says of a voyage: where it says a cost, the texts of the
 /// departure files, of which the first is that of call 1, are bay plan messages and these a legal file set; the tree
 /// proves the bound; and the numbers are those that are found. Else the first of these parts that doesn't hold. Where
-/// all holds, no legal voyage has fewer rehandles than the bound, and with the outcome `no-plan` there is none.
+/// all holds, no legal voyage costs less than the bound, and with the outcome `no-plan` there is none.
 pub fn judge(
     alloc: Global,
     ship: &Ship,
@@ -60,7 +61,7 @@ pub fn judge(
     ensures bounds { OnOk result (Bounds model.now head.now) }
     ensures refused { IfErr result (IsNo model.now head.now tree.now texts.now) }
 {
-    let found = rehandles_found(alloc, ship, cargo, head.rehandles, texts)?;
+    let found = cost_found(alloc, ship, cargo, head.rehandles, texts)?;
     let bound = checked(head.bound, model.limit());
     check_tree(alloc, model, tree, bound)?;
     match numbers_no(model, head, tree, found) {

@@ -29,22 +29,22 @@ fn handled(tree: &Tree) -> u64
     count
 }
 
-/// Whether the outcome fits the rehandles and the bound.
+/// Whether the outcome fits the cost and the bound.
 fn fits(model: &Model, head: &Head) -> bool
     ensures { IsTrue result ↔ Fits model.now head.now.outcome head.now.rehandles head.now.bound }
 {
     let most = model.limit();
     match (head.outcome, head.rehandles) {
-        (Outcome::Optimal, Some(rehandles)) => head.bound == rehandles,
-        (Outcome::Gap, Some(rehandles)) => head.bound < rehandles,
+        (Outcome::Optimal, Some(cost)) => head.bound == cost,
+        (Outcome::Gap, Some(cost)) => head.bound < cost,
         (Outcome::NoPlan, None) => head.bound > most && head.bound - most == 1,
         (Outcome::Undecided, None) => head.bound <= most,
         _ => false,
     }
 }
 
-/// The rehandles that a certificate says and those that are found, where they differ.
-fn other_rehandles(said: Option<u64>, found: Option<u64>) -> Option<NumbersNo>
+/// The cost that a certificate says and the one that is found, where they differ.
+fn other_cost(said: Option<u64>, found: Option<u64>) -> Option<NumbersNo>
     requires { is_some said ≡ is_some found }
     ensures same { result ≡ None → found ≡ said }
     ensures other { IfSome result (AreOther said found) }
@@ -55,12 +55,12 @@ fn other_rehandles(said: Option<u64>, found: Option<u64>) -> Option<NumbersNo>
     }
 }
 
-/// The first number that isn't as it is found, where the departure files take these rehandles.
+/// The first number that isn't as it is found, where the departure files have this cost.
 pub fn numbers_no(model: &Model, head: &Head, tree: &Tree, found: Option<u64>) -> Option<NumbersNo>
     requires { is_some head.now.rehandles ≡ is_some found }
     ensures { MatchOption result (NumbersHold model.now head.now tree.now found) (IsNumbersNo model.now head.now tree.now found) }
 {
-    if let Some(no) = other_rehandles(head.rehandles, found) {
+    if let Some(no) = other_cost(head.rehandles, found) {
         return Some(no);
     }
     let nodes = handled(tree);

@@ -1,4 +1,4 @@
-//! The departure files as bay plan messages, and the rehandles that they take.
+//! The departure files as bay plan messages, and their cost.
 ghost use Rattle.std.specs.Prelude.{◌≡◌, ◌≤◌, ◌<◌, ◌^◌, ◌+◌, All, IsSome, MatchResult, length, map};
 ghost use Rattle.stowage_rules.specs.Departure.{HasArrival};
 ghost use Rattle.baplie.specs.Messages.{IsMessageOf};
@@ -78,26 +78,21 @@ pub fn departures_in(
     set_of(alloc, ship, cargo, &messages)
 }
 
-/// The rehandles that the departure files take, or why they are no legal file set.
-fn rehandles_taken(
-    alloc: Global,
-    ship: &Ship,
-    cargo: &Cargo,
-    texts: &[Bytes],
-) -> Result<u64, JudgeNo>
+/// The cost of the departure files, or why they are no legal file set.
+fn cost_taken(alloc: Global, ship: &Ship, cargo: &Cargo, texts: &[Bytes]) -> Result<u64, JudgeNo>
     requires arrival { HasArrival ship.now cargo.now }
     requires each_call { length texts.now + 1 ≡ length cargo.now.rotation }
     requires short { All (λ text. length text ≤ 2 ^ 29) texts.now }
-    ensures { MatchResult result (λ count. AreLegal ship.now cargo.now texts.now count) (λ no. IsTakenNo ship.now cargo.now texts.now no) }
+    ensures { MatchResult result (λ cost. AreLegal ship.now cargo.now texts.now cost) (λ no. IsTakenNo ship.now cargo.now texts.now no) }
 {
     match departures_in(alloc, ship, cargo, texts) {
-        Ok(set) => Ok(set.lifted.count),
+        Ok(set) => Ok(set.lifted.cost),
         Err(no) => Err(no),
     }
 }
 
-/// The same where a certificate says a number of rehandles; else the files aren't looked at.
-pub fn rehandles_found(
+/// The same where a certificate says a cost; else the files aren't looked at.
+pub fn cost_found(
     alloc: Global,
     ship: &Ship,
     cargo: &Cargo,
@@ -111,6 +106,6 @@ pub fn rehandles_found(
 {
     match said {
         None => Ok(None),
-        Some(_) => Ok(Some(rehandles_taken(alloc, ship, cargo, texts)?)),
+        Some(_) => Ok(Some(cost_taken(alloc, ship, cargo, texts)?)),
     }
 }

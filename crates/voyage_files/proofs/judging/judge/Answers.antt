@@ -6,8 +6,8 @@ use Rattle.voyage_files.specs.Judged.{IsTreeNo, checked}
 use Rattle.voyage_files.proofs.Bounding.{arrives, files_refused, holds, no_of_voyage, of_voyage, tree_refused}
 use Rattle.voyage_files.proofs.judging.judge.Goals as goal
 
-pub rehandles_found-requires-clause-arrival : goal.rehandles_found-requires-clause-arrival
-rehandles_found-requires-clause-arrival c = arrives c.args.model.now c.args.ship.now c.args.cargo.now c.requires.voyage c.requires.problem.arrives
+pub cost_found-requires-clause-arrival : goal.cost_found-requires-clause-arrival
+cost_found-requires-clause-arrival c = arrives c.args.model.now c.args.ship.now c.args.cargo.now c.requires.voyage c.requires.problem.arrives
 
 pub returns-in_err-found-clause-refused : goal.returns-in_err-found-clause-refused
 returns-in_err-found-clause-refused c =
