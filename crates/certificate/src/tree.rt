@@ -92,12 +92,12 @@ fn keep_raises(alloc: Global, raises: &[Raise]) -> Result<KeptRaiseList, NoMemor
 /// The records of a proof tree in preorder.
 pub type Tree = Seq<Record>;
 
-/// What is known of the least number of rehandles.
+/// What is known of the least cost of a voyage.
 #[derive(Clone, Copy)]
 pub enum Outcome {
-    /// The plan has as few rehandles as the bound.
+    /// The plan costs as much as the bound.
     Optimal,
-    /// The plan has more rehandles than the bound.
+    /// The plan costs more than the bound.
     Gap,
     /// There is no legal voyage.
     NoPlan,
@@ -110,7 +110,7 @@ pub enum Outcome {
 pub struct Head {
     pub outcome: Outcome,
 
-    /// The plan's rehandles; a plan stands beside the certificate exactly for the outcomes optimal and gap.
+    /// The plan's cost, which the text's line `rehandles` has; a plan stands beside the certificate exactly for the outcomes optimal and gap.
     pub rehandles: Option<u64>,
     pub bound: u64,
 

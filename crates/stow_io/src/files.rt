@@ -16,7 +16,7 @@ pub type FileList = Seq<NamedFile>;
 pub enum Finding {
     /// All is as it was asked for.
     Fine,
-    /// A plan, whose rehandles are above the bound; the node budget was spent.
+    /// A plan that costs more than the bound; the node budget was spent.
     Gap,
     /// There is no legal voyage.
     NoPlan,
