@@ -12,7 +12,7 @@ use Rattle.certificate.specs.declared.tree.Outcome.TheVariants as outcome
 use Rattle.certificate.specs.declared.tree.Record.{Record}
 use Rattle.certificate.specs.Text.{cert_text}
 use Rattle.model_bridge.specs.Laws.{HasNoVoyage}
-use Rattle.plan_search.specs.Certified.{OutcomeHolds, CountsVoyage, Certifies}
+use Rattle.plan_search.specs.Certified.{OutcomeHolds, CostsVoyage, Certifies}
 use Rattle.stow_io.specs.declared.files.Finding.{Finding}
 use Rattle.stow_io.specs.declared.files.Finding.TheVariants as finding
 use Rattle.stow_io.specs.Writing.{with_files}
@@ -58,16 +58,16 @@ none_is outcome.Gap e = cc
 none_is outcome.NoPlan e = refl
 none_is outcome.Undecided e = cc
 
--- a plan has rehandles, which are those of a legal voyage
-optimal_sails : (m : Voyage) (budget : ℕ) (loaded : Option (List stowed.Plan)) (start : ℕ) (rehandles : Option ℕ) (bound nodes : ℕ) → OutcomeHolds m budget loaded start outcome.Optimal rehandles bound nodes → IfSome rehandles (CountsVoyage m) → HasNoVoyage m → ⊥
+-- a plan has a cost, which is that of a legal voyage
+optimal_sails : (m : Voyage) (budget : ℕ) (loaded : Option (List stowed.Plan)) (start : ℕ) (cost : Option ℕ) (bound nodes : ℕ) → OutcomeHolds m budget loaded start outcome.Optimal cost bound nodes → IfSome cost (CostsVoyage m) → HasNoVoyage m → ⊥
 optimal_sails m budget loaded start None bound nodes h voyage none = h
 optimal_sails m budget loaded start (Some n) bound nodes h voyage none = none voyage.1.moves voyage.0 voyage.1.is_legal
 
-gap_sails : (m : Voyage) (budget : ℕ) (loaded : Option (List stowed.Plan)) (start : ℕ) (rehandles : Option ℕ) (bound nodes : ℕ) → OutcomeHolds m budget loaded start outcome.Gap rehandles bound nodes → IfSome rehandles (CountsVoyage m) → HasNoVoyage m → ⊥
+gap_sails : (m : Voyage) (budget : ℕ) (loaded : Option (List stowed.Plan)) (start : ℕ) (cost : Option ℕ) (bound nodes : ℕ) → OutcomeHolds m budget loaded start outcome.Gap cost bound nodes → IfSome cost (CostsVoyage m) → HasNoVoyage m → ⊥
 gap_sails m budget loaded start None bound nodes h voyage none = h
 gap_sails m budget loaded start (Some n) bound nodes h voyage none = none voyage.1.moves voyage.0 voyage.1.is_legal
 
-no_voyage : (m : Voyage) (budget : ℕ) (loaded : Option (List stowed.Plan)) (start : ℕ) (rehandles : Option ℕ) (bound nodes : ℕ) → OutcomeHolds m budget loaded start outcome.NoPlan rehandles bound nodes → HasNoVoyage m
+no_voyage : (m : Voyage) (budget : ℕ) (loaded : Option (List stowed.Plan)) (start : ℕ) (cost : Option ℕ) (bound nodes : ℕ) → OutcomeHolds m budget loaded start outcome.NoPlan cost bound nodes → HasNoVoyage m
 no_voyage m budget loaded start None bound nodes h = h.none
 no_voyage m budget loaded start (Some n) bound nodes h = absurd h
 

@@ -50,14 +50,14 @@ pub problem_of : (v : BookedVoyage) → IsBooked v → IsProblem (voyage_of v)
 problem_of v b = record { ship = b.ship_rules; cargo = b.cargo_rules; arrives = b.settled.1 }
 
 -- so can plans of a certificate, or none
-pub can_be_written : (v : BookedVoyage) (rehandles : Option ℕ) (plans : Option (List Plan)) → HasPlans (voyage_of v) rehandles plans → ArePlansOrNone v plans
+pub can_be_written : (v : BookedVoyage) (cost : Option ℕ) (plans : Option (List Plan)) → HasPlans (voyage_of v) cost plans → ArePlansOrNone v plans
 can_be_written v None None h = tt
 can_be_written v None (Some plans) h = absurd h
 can_be_written v (Some n) None h = absurd h
 can_be_written v (Some n) (Some plans) h = are_plans v plans h.0.legal h.0.each_call
 
 -- the departure files show the plans
-sail : (base : List ℕ) (v : BookedVoyage) (rehandles : Option ℕ) (plans : Option (List Plan)) → IsBooked v → HasPlans (voyage_of v) rehandles plans → Sail base v (departure_files base v plans) rehandles
+sail : (base : List ℕ) (v : BookedVoyage) (cost : Option ℕ) (plans : Option (List Plan)) → IsBooked v → HasPlans (voyage_of v) cost plans → Sail base v (departure_files base v plans) cost
 sail base v None None b h = refl
 sail base v None (Some plans) b h = absurd h
 sail base v (Some n) None b h = absurd h
@@ -70,7 +70,7 @@ sail base v (Some n) (Some plans) b h =
       messages = messages_of v 1 plans;
       read = all_read base v 1 plans b (all_formed v.ship v.cargo 1 plans h.0.legal) (omega (arith, each, calls));
       shown = record { each_call = each; shown = all_shown v 1 plans b h.0.legal; legal = h.0.legal };
-      count = h.1;
+      costs = h.1;
     }
 
 -- the texts of a certificate and its plans are a plan's answer

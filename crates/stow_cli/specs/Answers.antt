@@ -87,7 +87,7 @@ pub record IsChecked (base : List ℕ) (files : Option Files) (v : BookedVoyage)
   pub problem : IsProblem (voyage_of v)
   pub reads : ReadsCert base files v a
 
--- The model's limits come first. Then `check` says yes exactly where the certificate is one, where the departure files that it speaks of are bay plans, a legal file set, and take the rehandles that it says, where its tree proves its bound, and where its numbers and its outcome are those that are found. Else the line names the first part that doesn't hold, in the order certificate, departure files each by itself, departure files as a set, tree, numbers
+-- The model's limits come first. Then `check` says yes exactly where the certificate is one, where the departure files that it speaks of are bay plans, a legal file set, and cost what it says, where its tree proves its bound, and where its numbers and its outcome are those that are found. Else the line names the first part that doesn't hold, in the order certificate, departure files each by itself, departure files as a set, tree, numbers
 abbrev pub CheckOf : List ℕ → Option Files → BookedVoyage → Answer → Type 0
 CheckOf base files v a = IsLarge (voyage_of v) a ⊎ IsChecked base files v a
 

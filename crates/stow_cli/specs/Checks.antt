@@ -27,10 +27,10 @@ use Rattle.stow_cli.specs.Work.{cert_name, file_name}
 
 -- ## Departure files
 
--- a file for each call but the last where a number of rehandles is said, and none else
+-- a file for each call but the last where a cost is said, and none else
 abbrev pub count_beside : BookedVoyage → Option ℕ → ℕ
 count_beside v None = 0
-count_beside v (Some rehandles) = length v.cargo.rotation - 1
+count_beside v (Some cost) = length v.cargo.rotation - 1
 
 -- how many departure files a certificate speaks of
 abbrev pub files_beside : BookedVoyage → Head → ℕ

@@ -1,4 +1,4 @@
--- What the files of a plan mean: the departures of a legal voyage, their rehandle count, and the certificate of a bound.
+-- What the files of a plan mean: the departures of a legal voyage, their cost, and the certificate of a bound.
 use Rattle.std.specs.Prelude.{◌≡◌, ◌<◌, ◌+◌, ◌*◌, ℕ, length, List, [], ◌∷◌, ◌++◌, map, Option, Some, None}
 use Rattle.stow_data.specs.Plans.{Plan}
 use Rattle.plan_files.specs.Shown.{IsLegalFileSet, shown_by}
@@ -7,7 +7,7 @@ use Rattle.baplie.specs.Messages.{IsMessageOf}
 use Rattle.stow_io.specs.declared.files.NamedFile.{NamedFile}
 use Rattle.stow_io.specs.declared.files.Work.{Work}
 use Rattle.stow_report.specs.Reports.{report_text}
-use Rattle.voyage_meaning.specs.Voyage.{HasCount}
+use Rattle.voyage_meaning.specs.Voyage.{HasCost}
 use Rattle.zero_one_rows.specs.Variables.{Voyage, variables}
 use Rattle.certificate.specs.declared.tree.Head.{Head}
 use Rattle.certificate.specs.declared.tree.Record.{Record}
@@ -26,21 +26,21 @@ ReadAs (f ∷ fs) (m ∷ ms) = IsMessageOf f.bytes m × ReadAs fs ms
 ReadAs [] (m ∷ ms) = ⊥
 ReadAs (f ∷ fs) [] = ⊥
 
--- The departure files of calls 1 to N-1. They read as bay plan messages, which show legal departures; these are those of a legal voyage, and their rehandle count, the least of all legal voyages with these departures, is this number.
-pub record AreDepartures (base : List ℕ) (v : BookedVoyage) (files : List NamedFile) (rehandles : ℕ) : Type 0 where
+-- The departure files of calls 1 to N-1. They read as bay plan messages, which show legal departures; these are those of a legal voyage, and their cost, the least of all legal voyages with these departures, is this number.
+pub record AreDepartures (base : List ℕ) (v : BookedVoyage) (files : List NamedFile) (cost : ℕ) : Type 0 where
   pub departures : List Plan
   pub files_are : files ≡ files_of base v 1 departures
   pub messages : List Message
   pub read : ReadAs files messages
   pub shown : IsLegalFileSet v.ship v.cargo (map shown_by messages) departures
-  pub count : HasCount v.ship v.cargo departures rehandles
+  pub costs : HasCost v.ship v.cargo departures cost
 
--- the departure files of so many rehandles; none where there is no plan
+-- the departure files of this cost; none where there is no plan
 abbrev pub Sail : List ℕ → BookedVoyage → List NamedFile → Option ℕ → Type 0
 Sail base v files None = files ≡ []
-Sail base v files (Some rehandles) = AreDepartures base v files rehandles
+Sail base v files (Some cost) = AreDepartures base v files cost
 
--- The answer of a plan with a budget of nodes: the departure files of the rehandles that the head of the certificate names, and the certificate; the report has the head's values, and the run found what its outcome says.
+-- The answer of a plan with a budget of nodes: the departure files of the cost that the head of the certificate names, and the certificate; the report has the head's values, and the run found what its outcome says.
 pub record Sails (base : List ℕ) (v : BookedVoyage) (budget : ℕ) (work : Work) : Type 0 where
   pub head : Head
   pub tree : List Record

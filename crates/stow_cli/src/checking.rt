@@ -129,7 +129,7 @@ fn check_files<'a, F: Folder>(
     }
 }
 
-/// How many departure files a certificate speaks of: one for each call but the last where it says a number of rehandles.
+/// How many departure files a certificate speaks of: one for each call but the last where it says a cost.
 fn files_beside(v: &BookedVoyage, head: &Head) -> u32
     ensures { result ≡ files_beside v.now head.now }
 {

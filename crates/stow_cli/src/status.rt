@@ -11,7 +11,7 @@ pub enum Status {
     No,
     /// The words are not taken, or a number among them is out of its range.
     Words,
-    /// The node budget was spent; a plan is written, whose rehandles are above the bound.
+    /// The node budget was spent; a plan is written, whose cost is above the bound.
     Gap,
     /// There is no legal voyage.
     NoPlan,
