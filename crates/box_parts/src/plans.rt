@@ -43,7 +43,7 @@ fn write_stays(model: &Model, b: &Box01, out: &mut Bytes) -> Result<(), NoMemory
     out.extend(b"\n")
 }
 
-/// The cheapest voyage by chance after so many runs: how often it rehandles, and the variables of its stays.
+/// The cheapest voyage by chance after so many runs: what it costs, and the variables of its stays.
 pub fn write_voyage(
     alloc: Global,
     model: &Model,
@@ -62,7 +62,7 @@ pub fn write_voyage(
     let Some(voyage) = planner.full_box(alloc, model)? else {
         return out.extend(b"no voyage\n");
     };
-    write_count(out, b"rehandles", planner.cost().unwrap_or(u64::MAX))?;
+    write_count(out, b"cost", planner.cost().unwrap_or(u64::MAX))?;
     write_stays(model, &voyage, out)
 }
 

@@ -1,7 +1,7 @@
 //! From plans to full boxes and back.
 ghost use Rattle.std.specs.Prelude.{◌≡◌, ◌<◌, IfOk, length};
 ghost use Rattle.stowage_rules.specs.Departure.{HasArrival};
-ghost use Rattle.voyage_meaning.specs.Voyage.{HasCount};
+ghost use Rattle.voyage_meaning.specs.Voyage.{HasCost};
 ghost use Rattle.plan_lifts.specs.Lifted.{IsLifted};
 ghost use Rattle.zero_one_rows.specs.Variables.{variables};
 ghost use Rattle.model_bridge.specs.Laws.{IsProblem};
@@ -78,8 +78,8 @@ fn write_ones(model: &Model, full: &Box01, out: &mut Bytes) -> Result<(), NoMemo
     Ok(())
 }
 
-/// The rehandle count of legal departures.
-fn write_rehandles(
+/// The cost of legal departures.
+fn write_cost(
     alloc: Global,
     ship: &Ship,
     cargo: &Cargo,
@@ -90,13 +90,13 @@ fn write_rehandles(
     requires plans { ArePlans ship.now cargo.now plans.now }
 {
     match lifts(alloc, ship, cargo, plans) {
-        Ok(lifted) => write_count(out, b"rehandles", lifted.count),
+        Ok(lifted) => write_count(out, b"cost", lifted.cost),
         Err(LiftsFault::Illegal { .. }) => out.extend(b"illegal\n"),
         Err(LiftsFault::NoMemory) => Err(NoMemory),
     }
 }
 
-/// A full box that breaks no base row: its ones, its cost, and its plans with their rehandles.
+/// A full box that breaks no base row: its ones, its cost, and its plans with their cost.
 fn write_sailed(
     alloc: Global,
     ship: &Ship,
@@ -116,7 +116,7 @@ fn write_sailed(
     write_count(out, b"cost", cost_of(model, full))?;
     let plans = plan_of(alloc, ship, cargo, model, full)?;
     write_departures(&plans, out)?;
-    write_rehandles(alloc, ship, cargo, &plans, out)
+    write_cost(alloc, ship, cargo, &plans, out)
 }
 
 /// Legal departures, what is lifted between them, the moves of it, and their full box.
@@ -156,11 +156,11 @@ fn write_lifted(
     requires problem { IsProblem model.now }
     requires plans { ArePlans ship.now cargo.now plans.now }
     requires lists { IsLifted ship.now cargo.now plans.now lifted.now.lists }
-    requires count { HasCount ship.now cargo.now plans.now lifted.now.count }
+    requires costs { HasCost ship.now cargo.now plans.now lifted.now.cost }
 {
     write_departures(plans, out)?;
     write_lists(&lifted.lists, out)?;
-    write_count(out, b"rehandles", lifted.count)?;
+    write_count(out, b"cost", lifted.cost)?;
     let voyage = moves_of(alloc, ship, cargo, plans, lifted)?;
     write_voyage(alloc, ship, cargo, plans, &voyage, out)?;
     let full = assignment_of(alloc, ship, cargo, model, plans, lifted)?;

@@ -7,7 +7,7 @@
 //! - `steps` tightens the free box by the steps of the records, one by one, and tells of each whether it is violated before, and the box.
 //! - `along` fixes the variables of the records one by one, tightens the box by all base rows after each, and tells how it ends, and the box.
 //! - `dive` fixes what a planned voyage has at 1, one by one, and tightens the box after each, so many times over.
-//! - `voyage` sails so many voyages by chance, and tells how often the cheapest rehandles, and the variables of its stays.
+//! - `voyage` sails so many voyages by chance, and tells what the cheapest costs, and the variables of its stays.
 //! - `value` tells the dual value of the box and the multipliers of the records, by its definition and kept from step to step.
 //! - `raise` raises these multipliers against a cut, and looks whether any row of the program raises the dual value after that.
 //! - `root` raises multipliers of the tightened free box, so many times over.

@@ -1,7 +1,7 @@
 //! Nodes of the search.
 ghost use Rattle.std.specs.Prelude.{◌≡◌, ℕ, ◌≤◌, ◌+◌, ◌++◌, ◌∷◌, [], IfOk, OnOk};
-ghost use Rattle.stow_data.specs.Shipment.{IsCargo};
-ghost use Rattle.node_solver.specs.Work.{IsNode, EndsBranched, begins_at, most_rehandles};
+ghost use Rattle.stow_data.specs.Shipment.{IsCargo, most_cost};
+ghost use Rattle.node_solver.specs.Work.{IsNode, EndsBranched, begins_at};
 ghost use Rattle.zero_one_rows.specs.Variables.{Voyage};
 
 use box_parts::write_count;
@@ -29,7 +29,7 @@ fn root(alloc: Global) -> Node
 /// A cut that the program allows: this one or the greatest.
 fn cut_at(model: &Model, most: u64) -> u64
     requires { IsCargo model.now.cargo }
-    ensures { result ≤ most_rehandles model.now + 1 }
+    ensures { result ≤ most_cost model.now.cargo + 1 }
 {
     most.min(model.limit() + 1)
 }
@@ -72,7 +72,7 @@ fn go_down(
 ) -> Result<bool, NoMemory>
     requires cargo { IsCargo state.old.cargo }
     requires trail { IsNode state.old node.old }
-    requires cut { cut ≤ most_rehandles state.old + 1 }
+    requires cut { cut ≤ most_cost state.old.cargo + 1 }
     ensures same { state.new ≡ state.old }
     ensures trail { OnOk result (IsNode state.old node.new) }
 {
@@ -89,7 +89,7 @@ fn go_down(
 /// Goes down from the root to where nothing is divided.
 fn bottom(alloc: Global, state: &mut WorkerState, cut: u64) -> Result<Node, NoMemory>
     requires cargo { IsCargo state.old.cargo }
-    requires cut { cut ≤ most_rehandles state.old + 1 }
+    requires cut { cut ≤ most_cost state.old.cargo + 1 }
     ensures same { state.new ≡ state.old }
     ensures trail { IfOk result (IsNode state.old) }
 {
@@ -110,7 +110,7 @@ fn go_down_often(
     times: u64,
 ) -> Result<u64, NoMemory>
     requires cargo { IsCargo state.old.cargo }
-    requires cut { cut ≤ most_rehandles state.old + 1 }
+    requires cut { cut ≤ most_cost state.old.cargo + 1 }
 {
     let mut nodes: u64 = 0;
     for _ in 0..times {

@@ -284,7 +284,7 @@ fn add_messages(
     add_messages(alloc, files, others, messages, out)
 }
 
-/// Prints the rehandles of the departures that files show, of which the first is that of call 1, or why they are refused.
+/// Prints the cost of the departures that files show, of which the first is that of call 1, or why they are refused.
 pub fn say_check(
     alloc: Global,
     v: &BookedVoyage,
@@ -304,7 +304,7 @@ pub fn say_check(
     said
 }
 
-/// Prints the rehandles of the departures that messages show, of which the first is that of call 1, or why they are refused.
+/// Prints the cost of the departures that messages show, of which the first is that of call 1, or why they are refused.
 fn say_checked(
     alloc: Global,
     v: &BookedVoyage,
@@ -319,7 +319,7 @@ fn say_checked(
     }
     comes_in_stowed(v);
     match check_plan(alloc, &v.ship, &v.cargo, messages) {
-        Ok(count) => Ok(say_count(out, "rehandles", count)?),
+        Ok(cost) => Ok(say_count(out, "cost", cost)?),
         Err(PlanNo::NoMemory) => Err(Stop::NoMemory),
         Err(no) => Ok(say_plan_no(alloc, out, no)?),
     }

@@ -2,7 +2,7 @@
 ghost use Rattle.std.specs.Prelude.{◌≡◌, ◌+◌, IfOk, IsTrue, length};
 ghost use Rattle.stowage_rules.specs.Departure.{HasArrival};
 ghost use Rattle.voyage_meaning.specs.Berths.{BelongsTo};
-ghost use Rattle.voyage_meaning.specs.Voyage.{HasCount};
+ghost use Rattle.voyage_meaning.specs.Voyage.{HasCost};
 ghost use Rattle.plan_lifts.specs.Lifted.{ArePlans, IsLifted};
 ghost use Rattle.voyage_files.specs.Booked.{IsBooked};
 
@@ -27,7 +27,7 @@ fn lifted_of(
     requires each_call { length plans.now + 1 ≡ length cargo.now.rotation }
     requires formed { ArePlans ship.now cargo.now 1 plans.now }
     ensures lists { IfOk result (λ lifted. IsLifted ship.now cargo.now plans.now lifted.lists) }
-    ensures count { IfOk result (λ lifted. HasCount ship.now cargo.now plans.now lifted.count) }
+    ensures cost { IfOk result (λ lifted. HasCost ship.now cargo.now plans.now lifted.cost) }
 {
     for _ in 1..times {
         drop(lifts(alloc, ship, cargo, plans)?);
@@ -43,7 +43,7 @@ fn say_list(out: &mut Bytes, list: &LiftList) -> Result<(), NoMemory> {
     say(out, "\n")
 }
 
-/// Prints the containers that are lifted at each call, and the rehandles.
+/// Prints the containers that are lifted at each call, and the cost.
 fn say_lifted(out: &mut Bytes, lifted: &Lifted) -> Result<(), NoMemory> {
     let mut call: u32 = 1;
     for list in &lifted.lists {
@@ -51,7 +51,7 @@ fn say_lifted(out: &mut Bytes, lifted: &Lifted) -> Result<(), NoMemory> {
         say_list(out, list)?;
         call = call.saturating_add(1);
     }
-    say_count(out, "rehandles", lifted.count)
+    say_count(out, "cost", lifted.cost)
 }
 
 /// Whether there is a departure of each call but the last, each a well-formed plan of what is aboard.
@@ -98,8 +98,8 @@ pub fn say_lifts(
     }
 }
 
-/// 1 for a lift of a container at a call other than its destination.
-fn rehandles_by(cargo: &Cargo, berth: &Berth, call: CallNo, m: Move) -> u64 {
+/// The price of the call for a lift of a container at a call other than its destination.
+fn cost_by(cargo: &Cargo, berth: &Berth, call: CallNo, m: Move) -> u64 {
     let Move::Lift(p) = m else {
         return 0;
     };
@@ -112,10 +112,10 @@ fn rehandles_by(cargo: &Cargo, berth: &Berth, call: CallNo, m: Move) -> u64 {
     if c.0 >= cargo.len() || cargo.container(c).dest == call {
         return 0;
     }
-    1
+    u64::from(cargo.tariff(call))
 }
 
-/// Does a move and prints it, and a mark where it is refused; Ok has its rehandles.
+/// Does a move and prints it, and a mark where it is refused; Ok has its cost.
 fn sail_move(
     ship: &Ship,
     cargo: &Cargo,
@@ -128,13 +128,13 @@ fn sail_move(
     ensures { BelongsTo ship.now cargo.now berth.new.state }
 {
     say_move(out, *m)?;
-    let rehandles = rehandles_by(cargo, berth, call, *m);
+    let cost = cost_by(cargo, berth, call, *m);
     if !berth.has(*m) {
         say(out, "?")?;
         return Ok(0);
     }
     match berth.step(ship, cargo, *m) {
-        Ok(()) => Ok(rehandles),
+        Ok(()) => Ok(cost),
         Err(_) => {
             say(out, "!")?;
             Ok(0)
@@ -142,7 +142,7 @@ fn sail_move(
     }
 }
 
-/// Does the moves of a call and prints them; Ok has their rehandles.
+/// Does the moves of a call and prints them; Ok has their cost.
 fn sail_moves(
     ship: &Ship,
     cargo: &Cargo,
@@ -154,12 +154,12 @@ fn sail_moves(
     requires { BelongsTo ship.now cargo.now berth.old.state }
     ensures { BelongsTo ship.now cargo.now berth.new.state }
 {
-    let mut rehandles: u64 = 0;
+    let mut cost: u64 = 0;
     for m in moves {
         let here = sail_move(ship, cargo, call, berth, m, out)?;
-        rehandles = rehandles.saturating_add(here);
+        cost = cost.saturating_add(here);
     }
-    Ok(rehandles)
+    Ok(cost)
 }
 
 /// Whether two plans have the same at a place.
@@ -176,7 +176,7 @@ fn is_same(ship: &Ship, a: &Plan, b: &Plan) -> bool {
 }
 
 /// Does the moves of a call at a berth, prints them, what is unfinished and whether the departure is the one that is given;
-/// Ok has the rehandles.
+/// Ok has the cost.
 fn sail_at(
     ship: &Ship,
     cargo: &Cargo,
@@ -188,7 +188,7 @@ fn sail_at(
 ) -> Result<u64, NoMemory>
     requires { BelongsTo ship.now cargo.now berth.old.state }
 {
-    let rehandles = sail_moves(ship, cargo, call, berth, moves, out)?;
+    let cost = sail_moves(ship, cargo, call, berth, moves, out)?;
     say(
         out,
         if is_same(ship, berth.plan(), after) {
@@ -198,7 +198,7 @@ fn sail_at(
         },
     )?;
     say_unfinished(out, berth.unfinished())?;
-    Ok(rehandles)
+    Ok(cost)
 }
 
 /// The same at a berth where the call begins with this plan.
@@ -232,19 +232,19 @@ fn sail(
     plans: &[Plan],
     out: &mut Bytes,
 ) -> Result<(), NoMemory> {
-    let mut rehandles: u64 = 0;
+    let mut cost: u64 = 0;
     let mut standing = before;
     let mut call = CallNo(1);
     for (moves, after) in voyage.iter().zip(plans) {
         let here = sail_call(alloc, v, call, standing, moves, after, out)?;
-        rehandles = rehandles.saturating_add(here);
+        cost = cost.saturating_add(here);
         standing = after;
         call = CallNo(call.0.saturating_add(1));
     }
-    say_count(out, "counted", rehandles)
+    say_count(out, "paid", cost)
 }
 
-/// Prints the moves of the lifts of departures, which are done at the berths, and the rehandles that are counted there.
+/// Prints the moves of the lifts of departures, which are done at the berths, and what they cost there.
 pub fn say_voyage(
     alloc: Global,
     v: &BookedVoyage,
