@@ -1,12 +1,12 @@
 #!/usr/bin/env python3
-"""Compares the loader's departures, the lists of least lifts and the rehandles of random small ships with those of a reference model:
+"""Compares the loader's departures, the lists of least lifts and the cost of random small ships with those of a reference model:
 ships with covers, stacks of each kind, plugs, stack weights and separations, some of which come in loaded.
 
 lists.py PROBE REFERENCE [COUNT]    where PROBE is the built voyage_probe and COUNT the number of ships, 2,000 by default
 
 REFERENCE is a program that is given a folder with the folders 0, 1 and so on, in each of which lie `ship`, `cargo` and perhaps
 `arrival`. For each in turn it prints what the probe prints for `load` and `lifts`: lines `departure CALL: PLACE:CONTAINER ..`, or
-`no plan`; lines `lifted CALL: CONTAINER ..` and `rehandles N`, or `no plan`; or, for both, the line that refuses an input.
+`no plan`; lines `lifted CALL: CONTAINER ..` and `cost N`, or `no plan`; or, for both, the line that refuses an input.
 """
 import pathlib
 import random
@@ -109,8 +109,8 @@ def main():
     for number in differ[:20]:
         print(f"ship {number}: {answers[0][number]!r}\n    in place of {answers[1][number]!r}")
     planned = [text for text in answers[0].values() if "departure" in text]
-    lifted = sum("rehandles 0" not in text for text in planned)
-    print(f"{count} ships, {len(planned)} with plans, {lifted} of these with rehandles, {sum('refused' in text for text in answers[0].values())} refused; {len(differ)} differ")
+    lifted = sum("cost 0" not in text for text in planned)
+    print(f"{count} ships, {len(planned)} with plans, {lifted} of these at a cost, {sum('refused' in text for text in answers[0].values())} refused; {len(differ)} differ")
     sys.exit(1 if differ else 0)
 
 

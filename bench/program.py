@@ -7,9 +7,9 @@ usage: bench/program.py compare PROBE JUDGE CASES
 PROBE is the built program `program_probe`. JUDGE is a command (one word, split at spaces) that is run with `sizes`, `variables`, `rows` or
 `loaded`, a profile, bookings and a bay plan at arrival (`-` where there is none), and prints of a program of its own making what the probe
 prints: the sizes, each variable with its cost and its number of rows, each row with its right side and its terms, and for the loader's plans
-the departures, what is lifted, what a lift of each place by itself meets, the ones of their full box, and its cost. CASES is a folder of
+the departures, what is lifted and costs, what a lift of each place by itself meets, the ones of their full box, and its cost. CASES is a folder of
 folders with `profile.toml`, `cargo.toml` and, where the ship comes in loaded, `arrival.edi`. The terms of a row and the moves of a call may
-stand in any order; the moves have to finish each call, and the plans of the full box to rehandle as often as it costs. It prints how much was
+stand in any order; the moves have to finish each call, and the plans of the full box to cost what it does. It prints how much was
 compared, and what differs.
 
 `measure` makes ships of growing size, and prints for each, and for each pair of files that is named, the variables and rows, and the seconds
@@ -50,12 +50,13 @@ def loaded_of(text):
     calls = sum(line.startswith('call') for line in lines)
     if 'too large' in told or 'no plans' in told:
         return told, []
-    cost = next(k for k, line in enumerate(told) if line.startswith('cost'))
+    # the loader's plans, their full box, and the plans of that
+    cost = [k for k, line in enumerate(told) if line.startswith('cost')][1]
     wrong = []
     if lines.count('finished') != calls:
         wrong.append('a call isn\'t finished')
     if told[-1].split()[1] != told[cost].split()[1]:
-        wrong.append('the plans of the box don\'t rehandle as often as it costs')
+        wrong.append('the plans of the box don\'t cost what it does')
     return told[:cost + 1] + [line for line in lines if line.startswith('alone')], wrong
 
 

@@ -368,7 +368,7 @@ def main():
         print("no voyage")
         return
     numbers = ship.variables()
-    print("rehandles", planner.cost_of(planner.kept))
+    print("cost", planner.cost_of(planner.kept))
     print("stays", *sorted(numbers[s.put, s.kind, s.lifted, (s.stack, s.tier, s.span)] for s in planner.kept))
 
 
