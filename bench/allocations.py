@@ -8,7 +8,7 @@ PROGRAM is the built program `stow`, which takes its memory from `malloc` and it
 over a short and a long stack with 1, 2 and 16 workers, and a check, each over files of an earlier voyage. Of each run all allocations
 fail in turn, or MOST (all) of them evenly spread. The status has to be 8, with `memory` printed, or that of the run where none fails,
 with the same printed; each file is as it was or as the run writes it, and where the status is the run's own, as the run writes it.
-Several workers may find another tree and other plans in each run: of theirs the printed outcome, rehandles and bound have to be the
+Several workers may find another tree and other plans in each run: of theirs the printed outcome, cost and bound have to be the
 same, and where the status is the run's own, `check` has to say yes to the files, with these numbers. No run may take a minute.
 """
 import os

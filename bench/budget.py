@@ -3,7 +3,7 @@
 
     bench/budget.py PROGRAM [--budgets N,..] [--ships N] [--into FILE]
 
-PROGRAM is the built stow. For each size and budget the table has the sums of rehandles and of bounds over the ships, how many plans
+PROGRAM is the built stow. For each size and budget the table has the sums of costs and of bounds over the ships, how many plans
 are proved best, and the mean and the greatest time of a run, in a processor's seconds.
 
 --budgets N,..   the nodes of each search (1,10,100,1000 where it is missing)
@@ -18,7 +18,7 @@ import tempfile
 
 SIZES = [(2, 5, 5), (3, 6, 6), (4, 8, 8), (6, 8, 10), (8, 8, 12), (16, 8, 12)]  # stacks, tiers, calls
 BEGIN, END = "<!-- budget table: begin -->", "<!-- budget table: end -->"
-HEAD = ["stacks", "calls", "containers", "budget", "rehandles", "bounds", "proved best", "mean, s", "slowest, s"]
+HEAD = ["stacks", "calls", "containers", "budget", "cost", "bounds", "proved best", "mean, s", "slowest, s"]
 
 
 def profile(stacks, tiers):
@@ -80,7 +80,7 @@ def measured(args, folder, size):
             str(size[2]),
             str(containers),
             str(budget),
-            str(sum(int(said["rehandles"]) for said, _ in found if said["rehandles"] != "none")),
+            str(sum(int(said["cost"]) for said, _ in found if said["cost"] != "none")),
             str(sum(int(said["bound"]) for said, _ in found)),
             f"{sum(said['outcome'] == 'optimal' for said, _ in found)} of {len(found)}",
             f"{sum(times) / len(times):.2f}",

@@ -1,12 +1,12 @@
 #!/usr/bin/env python3
-"""Plans tiny voyages and compares what `plan` proves with the least rehandles that an exhaustive search finds.
+"""Plans tiny voyages and compares what `plan` proves with the least cost that an exhaustive search finds.
 
 usage: bench/tiny.py PROGRAM JUDGE CASES [BUDGET]
 
 PROGRAM is the built program `stow`. JUDGE is a command (one word, split at spaces) that is run with a profile, bookings and a bay plan at
 arrival (`-` where there is none) and prints `least N`, `none` where there is no legal voyage, or anything else where it gave up. CASES is a
 folder of folders with `profile.toml`, `cargo.toml` and, where the ship comes in loaded, `arrival.edi`. Where the search closed, its bound has
-to be the least (or one above all rehandles where there is no voyage); where it didn't, the least has to stand between bound and rehandles.
+to be the least (or one above all costs where there is no voyage); where it didn't, the least has to stand between bound and cost.
 `check` has to say yes. It prints how many voyages closed, and each that is wrong.
 """
 import pathlib
@@ -30,13 +30,13 @@ def least_of(text):
 
 def fault(status, said, least):
     """What is wrong with an answer, if something is."""
-    rehandles, bound = said.get('rehandles', 'none'), int(said.get('bound', 0))
-    if status == 0 and not (least is not None and int(rehandles) == bound == least):
-        return f'{rehandles} and {bound} where the least is {least}'
+    cost, bound = said.get('cost', 'none'), int(said.get('bound', 0))
+    if status == 0 and not (least is not None and int(cost) == bound == least):
+        return f'{cost} and {bound} where the least is {least}'
     if status == 4 and least is not None:
         return f'no plan where the least is {least}'
-    if status == 3 and not (least is not None and bound <= least <= int(rehandles)):
-        return f'{rehandles} and {bound} where the least is {least}'
+    if status == 3 and not (least is not None and bound <= least <= int(cost)):
+        return f'{cost} and {bound} where the least is {least}'
     if status == 5 and least is not None and bound > least:
         return f'bound {bound} where the least is {least}'
     return None if status in (0, 3, 4, 5) else f'status {status}'
