@@ -687,8 +687,9 @@ impl ShipState {
         let Some(planned) = self.planned(facts, &stay, spot, call) else {
             return Ok(false);
         };
+        let price = planned.cost;
         self.note(planned)?;
-        self.end(kind, &stay, call, planned.cost);
+        self.end(kind, &stay, call, price);
         self.take_off(stack, aft, kind.kg);
         if kind.class != 0 {
             self.forget_classed(spot);
