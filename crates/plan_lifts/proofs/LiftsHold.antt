@@ -175,7 +175,7 @@ pub lift_more : (ship : Ship) (cargo : Cargo) (call next : ℕ) (before after : 
     → here ≡ counted (lift_cost cargo call) set before → here ≤ 3000000
     → LiftsFrom ship cargo next after rest mid new later
     → LiftsFrom ship cargo call before plans old new (here + later)
-lift_more ship cargo call next before after plans rest set list old mid new here later parts is plans_are rules least filled listed pushed counts small from =
+lift_more ship cargo call next before after plans rest set list old mid new here later parts is plans_are rules least filled listed pushed costs small from =
     let x = plan_parts ship cargo call next after plans rest parts is plans_are in
     let y : LiftsFrom ship cargo (suc call) after rest mid new later = subst (λ (n : ℕ). LiftsFrom ship cargo n after rest mid new later) is from in
     subst (λ (ps : List Plan). LiftsFrom ship cargo call before ps old new (here + later)) (sym parts) (record {
