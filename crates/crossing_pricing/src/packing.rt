@@ -131,11 +131,11 @@ fn within(number: i128) -> i64
 fn score(own: i64, weight: i64, price: u64, rate: i64) -> i64
     ensures { unsigned_abs result ≤ 2 ^ 37 }
 {
-    if price == 0 {
-        return -LIMIT;
+    let spent = weight as i128 * rate as i128 / PARTS as i128;
+    match spent.checked_div(price as i128) {
+        Some(cost) => within((own as i128 * UNIT as i128).saturating_sub(cost)),
+        None => -LIMIT,
     }
-    let cost = weight as i128 * rate as i128 / PARTS as i128 / price as i128;
-    within((own as i128 * UNIT as i128).saturating_sub(cost))
 }
 
 // The scores of all pairs.
