@@ -264,7 +264,7 @@ prices_are calls (Some items) prices some h =
     }
 prices_are calls None prices some h =
     subst (IsTariff calls) (same_Ok (replicate (calls - 1) 1) prices h) record {
-      each_priced = omega (arith, length-replicate (calls - 1) 1, some);
+      each_priced = omega (arith, length-replicate {A = ℕ} (calls - 1) 1, some);
       prices_to = All-replicate (λ price. price ≤ 1000) (calls - 1) 1 (omega arith);
     }
 
