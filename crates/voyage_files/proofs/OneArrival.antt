@@ -99,8 +99,8 @@ module _ (ship : Ship) (bookings : Bookings) (groups : List CellGroup) where
       let e = same_ok (told ship bookings groups) h.cargo k.cargo h.is_told k.is_told in
       one_rule ship k.cargo k.cargo.arrival r s h.asked k.asked (subst (λ (c : Cargo). IsFirstFault ship c c.arrival r) e h.first) k.first
 
-  one_cost : (n m : ℕ) → AreTooMany ship bookings groups n → AreTooMany ship bookings groups m → n ≡ m
-  one_cost n m h k =
+  one_count : (n m : ℕ) → AreTooMany ship bookings groups n → AreTooMany ship bookings groups m → n ≡ m
+  one_count n m h k =
       let e = same_ok (told ship bookings groups) h.cargo k.cargo h.is_told k.is_told in
       h.count ∙ ap (λ (c : Cargo). length c.containers) e ∙ sym k.count
 
@@ -113,7 +113,7 @@ module _ (ship : Ship) (bookings : Bookings) (groups : List CellGroup) where
   one_why f g (of_rule r d h) (of_limit m e k) = absurd (rule_or_limit r m h k)
   one_why f g (of_limit n d h) (of_group k) = absurd (ok_or_err (told ship bookings groups) h.cargo g h.is_told k)
   one_why f g (of_limit n d h) (of_rule s e k) = absurd (rule_or_limit s n k h)
-  one_why f g (of_limit n d h) (of_limit m e k) = d ∙ ap (λ (z : ℕ). TooLarge Containers z) (one_cost n m h k) ∙ sym e
+  one_why f g (of_limit n d h) (of_limit m e k) = d ∙ ap (λ (z : ℕ). TooLarge Containers z) (one_count n m h k) ∙ sym e
 
   pub one_fault : (f g : ArrivalFault) → f ≢ NoMemory → g ≢ NoMemory → Settles ship bookings groups (Err f) → Settles ship bookings groups (Err g) → f ≡ g
   one_fault f g nf ng h k = one_why f g (why f nf h) (why g ng k)
