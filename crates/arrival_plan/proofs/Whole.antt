@@ -1,5 +1,5 @@
 -- The answer of the whole, from its parts.
-use Rattle.std.proofs.Common.{◌≡◌, ◌≢◌, ℕ, ◌<◌, ◌≤◌, ◌^◌, List, length, Ok, Err, refl, sym, ap, subst}
+use Rattle.std.proofs.Common.{◌≡◌, ◌≢◌, ℕ, ◌<◌, ◌≤◌, List, length, Ok, Err, refl, sym, ap, subst}
 use Rattle.stow_data.specs.declared.limits.Limit.TheVariants.{Containers}
 use Rattle.stow_data.specs.Profile.{IsShip}
 use Rattle.stow_data.specs.Ship.{Ship}
