@@ -25,6 +25,7 @@ fn root(alloc: Global) -> Node
 }
 
 // A cut that the program allows: this one or the greatest.
+#[tactic(auto, using(crate::proofs::Ends::cost_low))]
 fn cut_at(model: &Model, most: u64) -> u64
     requires { IsCargo model.now.cargo }
     ensures { result ≤ most_cost model.now.cargo + 1 }
