@@ -12,12 +12,15 @@ written, and nothing else may stand there but one file `.stow-PROCESS-NUMBER.par
   then all names hold the new texts and nothing else stands there.
 - The disk is full: a small file system in memory, of each size at which another file fits; and no file may have more than so many bytes.
   (The first needs the right to mount one, in a name space of its own; without it that is said.) The status is 7, with the name of a file.
+- Over a quota: each call of the system that makes, fills, syncs or renames a file is refused once with EDQUOT, which `strace` puts in its
+  place. The status is 7, with the name of a file (or nothing where the line itself was refused), or the run's own, with its own files.
 - PAIRS (200) times two runs write other voyages over one OUT at once, and what stands under the names is read all the while: each text
   that is read is the earlier one or one of the two.
 - Targets that aren't plain files of the folder: see `TARGETS` below.
 
 It prints what was tried and what went wrong, and ends with 1 where anything did.
 """
+import itertools
 import os
 import pathlib
 import random
@@ -35,6 +38,7 @@ ROOT = pathlib.Path(__file__).resolve().parent.parent
 PART = re.compile(r"\.stow-(\d+)-\d+\.part")
 INPUTS = ("ship.toml", "cargo.toml")
 NOBODY = 65534
+QUOTA_CALLS = ("openat", "write", "fdatasync", "fsync", "rename", "renameat", "renameat2")
 
 wrong = []
 
@@ -202,6 +206,37 @@ def full(cases, top):
     print(f"{count} runs on a disk with little room: {faults} faults")
 
 
+def refused(cases, top):
+    """A quota, by refused calls: `strace` answers one call of a kind by EDQUOT, the first of a run, the second, and so on."""
+    if not shutil.which("strace"):
+        return print("no quota: there is no strace here")
+    told = top / "calls"
+    count = faults = 0
+    for case in cases:
+        for call in QUOTA_CALLS:
+            for number in itertools.count(1):
+                case.lay()
+                tracing = ["strace", "-f", "-qq", "-o", str(told), "-e", f"trace={call}", "-e", f"inject={call}:error=EDQUOT:when={number}"]
+                ran = subprocess.run([*tracing, case.program, *case.words], cwd=case.folder, stdout=subprocess.PIPE, text=True)
+                injected = [it for it in told.read_text().splitlines() if "(INJECTED)" in it]
+                if not injected:
+                    break
+                what = f"{case.name}, {call} {number} over the quota"
+                fault = re.fullmatch(r"fault (read|write) (.*)\n", ran.stdout)
+                well = (ran.returncode, ran.stdout) == case.printed or ran.returncode == 7 and (fault or not ran.stdout)
+                look(well, f"{what}: {ran.returncode} {ran.stdout!r}")
+                fresh, _ = case.judge(what)
+                if fault and fault[1] == "read":
+                    look(fresh == 0, f"{what}: {fresh} files are new")
+                elif fault and fault[2] in case.told:
+                    look(case.told.index(fault[2]) == fresh, f"{what}: {fault[2]}, where {fresh} files are new")
+                elif not fault:
+                    look(fresh == len(case.told), f"{what}: {fresh} files are new")
+                count += 1
+                faults += bool(fault)
+    print(f"{count} calls refused as over a quota: {faults} faults")
+
+
 def pairs(one, two, count, chance):
     """Two runs over one OUT at once."""
     reads = mixed = 0
@@ -338,6 +373,7 @@ def main():
         targets(cases[0])
         limited(cases)
         full(cases, top)
+        refused(cases, top)
         pairs(cases[2], other, couples, chance)
         kills(cases, count, chance)
     print(f"{len(wrong)} wrong")
